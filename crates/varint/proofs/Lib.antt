@@ -1,0 +1,5 @@
+pub mod Laws
+pub mod Number
+pub mod Digits
+pub mod Refusals
+pub mod Readers

@@ -1,0 +1,4 @@
+use Rattle.varint.proofs.reading.+read_number.Given as goal
+
+abbrev pub decreases-read_number : goal.decreases-read_number
+decreases-read_number l = l.limit

@@ -1,0 +1,18 @@
+use Rattle.std.proofs.Common.{arith}
+use Rattle.varint.proofs.Laws.{IsBytes}
+use Rattle.varint.proofs.Readers.{is_found64, is_again64, refusals64}
+use Rattle.varint.proofs.reading.read_i64.Goals as goal
+
+pub returns : goal.returns
+returns c =
+    let given = c.number_i64.ensures in
+    let fits : IsBytes c.args.bytes.now = λ i. omega (arith, c.type_inv.bytes i) in
+    let refused = refusals64 c.args.bytes.now c.number_i64.result given in
+    record {
+      read = given;
+      found = is_found64 c.args.bytes.now c.number_i64.result fits given;
+      again = is_again64 c.args.bytes.now c.number_i64.result given;
+      short = refused.0;
+      too_long = refused.1;
+      not_shortest = refused.2;
+    }

@@ -1,0 +1,119 @@
+//! Reading a varint at the front of bytes.
+
+ghost use Rattle.std.specs.Prelude.{◌≡◌, ◌≤◌, ◌*◌, ◌+◌, ◌/◌, ◌<◌, ◌++◌, ◌↔◌, ℤ, ℕ, List, IfOk, IsErrOf, Ok, FitsSigned, drop, length};
+ghost use Rattle.std.specs.Int.{w32, w64};
+ghost use Rattle.varint.specs.Spelling.{spelling, zigzag};
+ghost use Rattle.varint.specs.Reading.{Gives, IsGreatest, IsShort, IsTooLong, IsNotShortest, number_at, signed, i32_at, i64_at};
+
+use crate::error::VarintError;
+use crate::zigzag::number_of;
+
+/// The greatest place in 0, -1, 1, -2 and so on of a number of 32 bits.
+const GREATEST_I32: u64 = 0xffff_ffff;
+
+/// The greatest place in 0, -1, 1, -2 and so on of a number of 64 bits.
+const GREATEST_I64: u64 = 0xffff_ffff_ffff_ffff;
+
+/// The number at the front, of at most `limit`, and the bytes used.
+#[inline(never)]
+#[tactic(auto, using(crate::proofs::Number::number_digit, crate::proofs::Number::limit_rest), unfolding(crate::specs::Reading::number_at))]
+fn read_number(bytes: &[u8], limit: u64) -> Result<(u64, usize), VarintError>
+    requires { IsGreatest limit }
+    ensures read { Gives bytes.now result (number_at limit bytes.now) }
+    ensures below { IfOk result (λ read. read.0 ≤ limit) }
+{
+    let [digit, rest @ ..] = bytes else {
+        return Err(VarintError::Short);
+    };
+    let digit = *digit as u64;
+    if limit < 128 {
+        return if digit <= limit { Ok((digit, 1)) } else { Err(VarintError::TooLong) };
+    }
+    if digit < 128 {
+        return Ok((digit, 1));
+    }
+    let (high, used) = read_number(rest, limit / 128)?;
+    if high == 0 {
+        return Err(VarintError::NotShortest);
+    }
+    Ok((digit - 128 + 128 * high, used + 1))
+}
+
+/// The signed number at the front, whose place in 0, -1, 1, -2 and so on is at most `limit`, and the bytes used.
+#[inline]
+#[tactic(auto, using(crate::proofs::Laws::number_last), unfolding(crate::specs::Reading::number_at))]
+fn read_signed(bytes: &[u8], limit: u64) -> Result<(i64, usize), VarintError>
+    requires large { 128 ≤ limit }
+    requires greatest { IsGreatest limit }
+    ensures read { Gives bytes.now result (signed (number_at limit bytes.now)) }
+    ensures below { IfOk result (λ read. zigzag read.0 ≤ limit) }
+{
+    let (place, used) = match bytes {
+        [digit, ..] if *digit < 128 => (*digit as u64, 1),
+        _ => read_number(bytes, limit)?,
+    };
+    Ok((number_of(place), used))
+}
+
+/// The number of 32 bits at the front, and the bytes used.
+#[inline]
+#[tactic(auto, using(crate::proofs::Laws::narrowed), unfolding(crate::specs::Reading::i32_at))]
+fn number_i32(bytes: &[u8]) -> Result<(i32, usize), VarintError>
+    ensures { Gives bytes.now result (i32_at bytes.now) }
+{
+    let (value, used) = read_signed(bytes, GREATEST_I32)?;
+    Ok((value as i32, used))
+}
+
+/// The number of 64 bits at the front, and the bytes used.
+#[inline]
+#[tactic(auto, unfolding(crate::specs::Reading::i64_at))]
+fn number_i64(bytes: &[u8]) -> Result<(i64, usize), VarintError>
+    ensures { Gives bytes.now result (i64_at bytes.now) }
+{
+    read_signed(bytes, GREATEST_I64)
+}
+
+/// Reads a number of 32 bits at the front, and how many bytes it takes: 1 to 5. Bytes may follow it.
+///
+/// # Errors
+///
+/// - `Short` where every byte has its high bit set, and there are fewer than 5.
+/// - `TooLong` where the fifth byte is reached and is above 0x0f.
+/// - `NotShortest` where there are several bytes, and the last is 0.
+#[inline]
+pub fn read_i32(bytes: &[u8]) -> Result<(i32, usize), VarintError>
+    // What is read, or why nothing is.
+    ensures read { Gives bytes.now result (i32_at bytes.now) }
+    // What is read is spelled so.
+    ensures found { IfOk result (λ read. (bytes.now ≡ spelling read.0 ++ drop read.1 bytes.now) × (read.1 ≡ length (spelling read.0))) }
+    // What is spelled so is read, whatever follows it.
+    ensures again { (v : ℤ) (rest : List ℕ) → FitsSigned w32 v → bytes.now ≡ spelling v ++ rest → result ≡ Ok (v, length (spelling v)) }
+    ensures short { IsErrOf result VarintError.Short ↔ IsShort 5 bytes.now }
+    ensures too_long { IsErrOf result VarintError.TooLong ↔ IsTooLong 5 0x0f bytes.now }
+    ensures not_shortest { IsErrOf result VarintError.NotShortest ↔ IsNotShortest 5 0x0f bytes.now }
+{
+    number_i32(bytes)
+}
+
+/// Reads a number of 64 bits at the front, and how many bytes it takes: 1 to 10. Bytes may follow it.
+///
+/// # Errors
+///
+/// - `Short` where every byte has its high bit set, and there are fewer than 10.
+/// - `TooLong` where the tenth byte is reached and is above 0x01.
+/// - `NotShortest` where there are several bytes, and the last is 0.
+#[inline]
+pub fn read_i64(bytes: &[u8]) -> Result<(i64, usize), VarintError>
+    // What is read, or why nothing is.
+    ensures read { Gives bytes.now result (i64_at bytes.now) }
+    // What is read is spelled so.
+    ensures found { IfOk result (λ read. (bytes.now ≡ spelling read.0 ++ drop read.1 bytes.now) × (read.1 ≡ length (spelling read.0))) }
+    // What is spelled so is read, whatever follows it.
+    ensures again { (v : ℤ) (rest : List ℕ) → FitsSigned w64 v → bytes.now ≡ spelling v ++ rest → result ≡ Ok (v, length (spelling v)) }
+    ensures short { IsErrOf result VarintError.Short ↔ IsShort 10 bytes.now }
+    ensures too_long { IsErrOf result VarintError.TooLong ↔ IsTooLong 10 0x01 bytes.now }
+    ensures not_shortest { IsErrOf result VarintError.NotShortest ↔ IsNotShortest 10 0x01 bytes.now }
+{
+    number_i64(bytes)
+}
