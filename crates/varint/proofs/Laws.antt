@@ -1,11 +1,11 @@
 -- What is read is the spelling of its value, and each spelling is read again, whatever follows it.
-use Rattle.std.proofs.Common.{◌≡◌, ℕ, zero, suc, ◌+◌, ◌-◌, ◌*◌, ◌/◌, ◌%◌, ◌^◌, ◌<◌, ◌≤◌, Bool, true, false, cond, ltb, leb, eqb, List, [], ◌∷◌, ◌++◌, length, get_or, Result, Ok, Err, refl, sym, ap, subst, ◌∙◌, inl, inr, add-one, to_z, of_z, arith}
+use Rattle.std.proofs.Common.{◌≡◌, ℕ, zero, suc, ◌+◌, ◌-◌, ◌*◌, ◌/◌, ◌%◌, ◌^◌, ◌<◌, ◌≤◌, true, false, ltb, leb, eqb, List, [], ◌∷◌, ◌++◌, length, get_or, Result, Ok, Err, refl, sym, ap, ◌∙◌, inl, inr, to_z, of_z, arith}
 use Rattle.std.specs.Prelude.{ℤ, pos, negsuc, FitsSigned}
-use Rattle.std.specs.Int.{Width, w32, w64}
-use Rattle.std.proofs.lemmas.Bool.{cases_lt, cases_eq, cond_both, lt-ltb, le-ltb, le-leb, ltb-true, ltb-false, leb-true, eqb-true, eqb-false, eq-eqb, ne_eqb}
+use Rattle.std.specs.Int.{w32, w64}
+use Rattle.std.proofs.lemmas.Bool.{cases_lt, cond_both, lt-ltb, le-ltb, le-leb, ltb-true, ltb-false, leb-true, eqb-true, eqb-false, eq-eqb, ne_eqb}
 use Rattle.std.proofs.lemmas.Int.{to_z-of_z}
 use Rattle.varint.specs.declared.error.VarintError.{VarintError}
-use Rattle.varint.specs.declared.error.VarintError.TheVariants.{Short, TooLong, NotShortest}
+use Rattle.varint.specs.declared.error.VarintError.TheVariants.{TooLong}
 use Rattle.varint.specs.Spelling.{zigzag, digits, spelling, digits_value, IsShortest}
 use Rattle.varint.specs.Reading.{Read, unzigzag, with_digit, number_at, signed, i32_at, i64_at}
 
@@ -38,8 +38,8 @@ unzigzag-zigzag (negsuc n) =
 pub zigzag-unzigzag : (n : ℕ) → zigzag (unzigzag n) ≡ n
 zigzag-unzigzag n =
     cond_both (eqb (n % 2) 0) (pos (n / 2)) (negsuc (n / 2)) (λ v. zigzag v ≡ n)
-        (λ e. let even = eqb-true _ _ e in omega arith)
-        (λ e. let odd = eqb-false _ _ e in omega arith)
+    (λ e. let even = eqb-true _ _ e in omega arith)
+    (λ e. let odd = eqb-false _ _ e in omega arith)
 
 pub zigzag_fits32 : (v : ℤ) → FitsSigned w32 v → zigzag v ≤ 0xffff_ffff
 zigzag_fits32 (pos n) fits = let small : n < 2 ^ 31 = fits.sfits in omega arith
@@ -136,17 +136,17 @@ unfolding number_at
 number_takes more limit [] wide fits = tt
 number_takes zero limit (b ∷ bytes) wide fits =
     rw (lt-ltb limit 128 wide)
-       (cond_both (leb b limit) (Ok (b, bytes)) (Err TooLong) (Takes zero limit (b ∷ bytes))
-          (λ e. let le = leb-true _ _ e in takes_last zero limit b bytes (omega arith) le)
-          (λ e. tt))
+    (cond_both (leb b limit) (Ok (b, bytes)) (Err TooLong) (Takes zero limit (b ∷ bytes))
+    (λ e. let le = leb-true _ _ e in takes_last zero limit b bytes (omega arith) le)
+    (λ e. tt))
 number_takes (suc more) limit (b ∷ bytes) wide fits =
     cond_both (ltb limit 128) _ _ (Takes (suc more) limit (b ∷ bytes))
-      (λ small. cond_both (leb b limit) (Ok (b, bytes)) (Err TooLong) (Takes (suc more) limit (b ∷ bytes))
-          (λ e. let le = leb-true _ _ e in let lt = ltb-true _ _ small in takes_last (suc more) limit b bytes (omega arith) le)
-          (λ e. tt))
-      (λ large. cond_both (ltb b 128) (Ok (b, bytes)) (with_digit b (number_at (limit / 128) bytes)) (Takes (suc more) limit (b ∷ bytes))
-          (λ e. let lt = ltb-true _ _ e in let le = ltb-false _ _ large in takes_last (suc more) limit b bytes lt (omega arith))
-          (λ e. takes_more more limit b bytes (number_at (limit / 128) bytes) wide.0 (ltb-false _ _ large) (ltb-false _ _ e) (fits 0) (number_takes more (limit / 128) bytes wide.1 (IsBytes-rest b bytes fits))))
+    (λ small. cond_both (leb b limit) (Ok (b, bytes)) (Err TooLong) (Takes (suc more) limit (b ∷ bytes))
+    (λ e. let le = leb-true _ _ e in let lt = ltb-true _ _ small in takes_last (suc more) limit b bytes (omega arith) le)
+    (λ e. tt))
+    (λ large. cond_both (ltb b 128) (Ok (b, bytes)) (with_digit b (number_at (limit / 128) bytes)) (Takes (suc more) limit (b ∷ bytes))
+    (λ e. let lt = ltb-true _ _ e in let le = ltb-false _ _ large in takes_last (suc more) limit b bytes lt (omega arith))
+    (λ e. takes_more more limit b bytes (number_at (limit / 128) bytes) wide.0 (ltb-false _ _ large) (ltb-false _ _ e) (fits 0) (number_takes more (limit / 128) bytes wide.1 (IsBytes-rest b bytes fits))))
 
 -- ---- signed numbers
 
@@ -196,8 +196,8 @@ digits_len zero n = (omega arith, omega arith)
 digits_len (suc more) n =
     let others = digits_len more (n / 128) in
     cond_both (ltb n 128) (n ∷ []) ((128 + n % 128) ∷ digits more (n / 128)) (λ bytes. (1 ≤ length bytes) × (length bytes ≤ suc (suc more)))
-      (λ e. (omega arith, omega arith))
-      (λ e. (omega arith, omega arith))
+    (λ e. (omega arith, omega arith))
+    (λ e. (omega arith, omega arith))
 
 pub spelling_len : (v : ℤ) → (1 ≤ length (spelling v)) × (length (spelling v) ≤ 10)
 unfolding spelling

@@ -1,11 +1,11 @@
 -- The clauses of the readers, from what they give.
-use Rattle.std.proofs.Common.{◌≡◌, ℕ, zero, suc, ◌+◌, ◌<◌, ◌≤◌, List, [], ◌∷◌, ◌++◌, length, drop, Result, Ok, Err, refl, sym, ap, subst, ◌∙◌, arith, length-append, length-drop}
+use Rattle.std.proofs.Common.{◌≡◌, ℕ, ◌≤◌, List, ◌++◌, length, drop, Result, Ok, Err, refl, ap, subst, ◌∙◌, arith, length-append, length-drop}
 use Rattle.std.specs.Prelude.{ℤ, FitsSigned, IfOk, IsErrOf, ◌↔◌}
 use Rattle.std.specs.Int.{w32, w64}
 use Rattle.varint.specs.declared.error.VarintError.{VarintError}
 use Rattle.varint.specs.declared.error.VarintError.TheVariants.{Short, TooLong, NotShortest}
 use Rattle.varint.specs.Spelling.{spelling}
-use Rattle.varint.specs.Reading.{Read, Gives, number_at, signed, i32_at, i64_at, IsShort, IsTooLong, IsNotShortest}
+use Rattle.varint.specs.Reading.{Read, Gives, signed, i32_at, i64_at, IsShort, IsTooLong, IsNotShortest}
 use Rattle.varint.proofs.Laws.{IsBytes, done, ok_is, i32_again, i64_again, i32_takes, i64_takes}
 use Rattle.varint.proofs.Refusals.{fault, refused}
 
@@ -25,6 +25,10 @@ is_found32 bytes (Err e) fits given = tt
 pub is_found64 : (bytes : List ℕ) (result : Result (ℤ × ℕ) VarintError) → IsBytes bytes → Gives bytes result (i64_at bytes) → Found bytes result
 is_found64 bytes (Ok (v, used)) fits (le, e) = let takes = i64_takes bytes v (drop used bytes) fits e in (takes.0, found_len bytes v used le takes.0)
 is_found64 bytes (Err e) fits given = tt
+
+pub is_within : (bytes : List ℕ) (result : Result (ℤ × ℕ) VarintError) (read : Read ℤ) → Gives bytes result read → IfOk result (λ r. r.1 ≤ length bytes)
+is_within bytes (Ok (v, used)) read given = given.0
+is_within bytes (Err e) read given = tt
 
 -- a reader that gives the number and the bytes after its spelling
 given_again : (bytes : List ℕ) (result : Result (ℤ × ℕ) VarintError) (v : ℤ) (rest : List ℕ) → bytes ≡ spelling v ++ rest → Gives bytes result (done (v, rest)) → result ≡ done (v, length (spelling v))

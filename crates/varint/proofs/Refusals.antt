@@ -1,10 +1,10 @@
 -- Which refusal comes.
-use Rattle.std.proofs.Common.{◌≡◌, ℕ, zero, suc, ◌+◌, ◌-◌, ◌*◌, ◌/◌, ◌%◌, ◌<◌, ◌≤◌, Bool, true, false, cond, ltb, leb, List, [], ◌∷◌, length, get_or, Result, Ok, Err, refl, sym, ap, subst, ◌∙◌, inl, inr, add-one, one-add, arith}
+use Rattle.std.proofs.Common.{◌≡◌, ℕ, zero, suc, ◌+◌, ◌/◌, ◌<◌, ◌≤◌, ltb, leb, List, [], ◌∷◌, length, get_or, Ok, Err, refl, sym, subst, one-add, arith}
 use Rattle.std.specs.Prelude.{◌↔◌}
 use Rattle.std.proofs.lemmas.Bool.{cond_both, lt-ltb, le-ltb, ltb-true, ltb-false, leb-true, leb-false}
 use Rattle.varint.specs.declared.error.VarintError.{VarintError}
 use Rattle.varint.specs.declared.error.VarintError.TheVariants.{Short, TooLong, NotShortest}
-use Rattle.varint.specs.Reading.{Read, with_digit, number_at, marks, IsShort, IsTooLong, IsNotShortest}
+use Rattle.varint.specs.Reading.{Read, with_digit, number_at, marks}
 
 -- the numbers up to limit take at most `more` digits and a last one, of at most top
 abbrev pub HasTop : ℕ → ℕ → ℕ → Type 0
@@ -47,21 +47,21 @@ outcome_last more top b bytes lt fits =
 outcome_more : (more top b : ℕ) (bytes : List ℕ) (read : Read ℕ) → 128 ≤ b → Outcome more top bytes read → Outcome (suc more) top (b ∷ bytes) (with_digit b read)
 outcome_more more top b bytes read le h =
     subst (λ (m : ℕ). Says (suc more) top m (length (b ∷ bytes)) (get_or (b ∷ bytes) m 0) (get_or (b ∷ bytes) (suc more) 0) (with_digit b read)) (sym (marks_more b bytes le))
-      (says_more more top (marks bytes) (length bytes) (get_or bytes (marks bytes) 0) (get_or bytes more 0) b read h)
+    (says_more more top (marks bytes) (length bytes) (get_or bytes (marks bytes) 0) (get_or bytes more 0) b read h)
 
 outcome : (more top limit : ℕ) (bytes : List ℕ) → HasTop more top limit → Outcome more top bytes (number_at limit bytes)
 unfolding number_at
 outcome more top limit [] has = (refl, omega arith)
 outcome zero top limit (b ∷ bytes) has =
     rw (lt-ltb limit 128 (omega arith))
-      (cond_both (leb b limit) (Ok (b, bytes)) (Err TooLong) (Outcome zero top (b ∷ bytes))
-        (λ e. let le = leb-true _ _ e in outcome_last zero top b bytes (omega arith) (λ _. omega arith))
-        (λ e. let gt = leb-false _ _ e in (omega arith, omega arith, omega arith)))
+    (cond_both (leb b limit) (Ok (b, bytes)) (Err TooLong) (Outcome zero top (b ∷ bytes))
+    (λ e. let le = leb-true _ _ e in outcome_last zero top b bytes (omega arith) (λ _. omega arith))
+    (λ e. let gt = leb-false _ _ e in (omega arith, omega arith, omega arith)))
 outcome (suc more) top limit (b ∷ bytes) has =
     rw (le-ltb limit 128 has.0)
-      (cond_both (ltb b 128) (Ok (b, bytes)) (with_digit b (number_at (limit / 128) bytes)) (Outcome (suc more) top (b ∷ bytes))
-        (λ e. outcome_last (suc more) top b bytes (ltb-true _ _ e) (λ h. absurd (omega arith)))
-        (λ e. outcome_more more top b bytes (number_at (limit / 128) bytes) (ltb-false _ _ e) (outcome more top (limit / 128) bytes has.1)))
+    (cond_both (ltb b 128) (Ok (b, bytes)) (with_digit b (number_at (limit / 128) bytes)) (Outcome (suc more) top (b ∷ bytes))
+    (λ e. outcome_last (suc more) top b bytes (ltb-true _ _ e) (λ h. absurd (omega arith)))
+    (λ e. outcome_more more top b bytes (number_at (limit / 128) bytes) (ltb-false _ _ e) (outcome more top (limit / 128) bytes has.1)))
 
 -- ---- each refusal, exactly when
 

@@ -1,4 +1,5 @@
--- Reading a spelling at the front of bytes, and why there is none.
+-- Reading a spelling at the front of bytes, and why there is none. A byte has the mark where it is 128 or
+-- more: more digits follow. Kafka's protocol guide, "Protocol Primitive Types", VARINT and VARLONG.
 use Rattle.std.specs.Prelude.{◌≡◌, ℕ, zero, suc, ◌+◌, ◌-◌, ◌*◌, ◌/◌, ◌%◌, ◌^◌, ◌<◌, ◌≤◌, ℤ, pos, negsuc, List, [], ◌∷◌, length, drop, nat_lt, nat_le, ◌==◌, if◌then◌else◌, Result, Ok, Err, slice_index}
 use Rattle.varint.specs.declared.error.VarintError.{VarintError}
 use Rattle.varint.specs.declared.error.VarintError.TheVariants.{Short, TooLong, NotShortest}
@@ -34,7 +35,8 @@ with_digit b (Ok (zero, rest)) = Err NotShortest
 with_digit b (Ok (suc high, rest)) = Ok ((b - 128) + 128 * suc high, rest)
 with_digit b (Err e) = Err e
 
--- a number of at most `limit`, one less than a power of two
+-- A number of at most limit, one less than a power of two. The last digit that it may have is the one at
+-- which what is left of limit is below 128.
 unfoldable pub number_at : ℕ → List ℕ → Read ℕ
 number_at limit [] = Err Short
 number_at limit (b ∷ bs) =
@@ -42,13 +44,16 @@ number_at limit (b ∷ bs) =
     else if nat_lt b 128 then Ok (b, bs)
     else with_digit b (number_at (limit / 128) bs)
 
+-- the signed number that was read
 abbrev pub signed : Read ℕ → Read ℤ
 signed (Ok (n, rest)) = Ok (unzigzag n, rest)
 signed (Err e) = Err e
 
+-- a varint
 unfoldable pub i32_at : List ℕ → Read ℤ
 i32_at bytes = signed (number_at 0xffff_ffff bytes)
 
+-- a varlong
 unfoldable pub i64_at : List ℕ → Read ℤ
 i64_at bytes = signed (number_at 0xffff_ffff_ffff_ffff bytes)
 

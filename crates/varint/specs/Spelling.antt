@@ -1,6 +1,6 @@
 -- A number as a varint (32 bits) or a varlong (64 bits): the zigzag number in digits of seven bits, the
 -- lowest first, each but the last with the mark 128. Kafka's protocol guide, "Protocol Primitive Types".
-use Rattle.std.specs.Prelude.{◌≡◌, ℕ, zero, suc, ◌+◌, ◌*◌, ◌/◌, ◌%◌, ◌<◌, ℤ, pos, negsuc, List, [], ◌∷◌, nat_lt, if◌then◌else◌}
+use Rattle.std.specs.Prelude.{ℕ, zero, suc, ◌+◌, ◌*◌, ◌/◌, ◌%◌, ◌<◌, ℤ, pos, negsuc, List, [], ◌∷◌, nat_lt, if◌then◌else◌}
 
 -- 0, -1, 1, -2 and so on are 0, 1, 2, 3 and so on
 abbrev pub zigzag : ℤ → ℕ

@@ -14,3 +14,6 @@ pub use error::VarintError;
 pub use reading::{read_i32, read_i64};
 pub use spelling::one_spelling;
 pub use writing::{len_i32, len_i64, put_i32, put_i64};
+
+#[cfg(test)]
+mod tests;

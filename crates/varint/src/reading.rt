@@ -27,7 +27,11 @@ fn read_number(bytes: &[u8], limit: u64) -> Result<(u64, usize), VarintError>
     };
     let digit = *digit as u64;
     if limit < 128 {
-        return if digit <= limit { Ok((digit, 1)) } else { Err(VarintError::TooLong) };
+        return if digit <= limit {
+            Ok((digit, 1))
+        } else {
+            Err(VarintError::TooLong)
+        };
     }
     if digit < 128 {
         return Ok((digit, 1));
@@ -41,15 +45,16 @@ fn read_number(bytes: &[u8], limit: u64) -> Result<(u64, usize), VarintError>
 
 /// The signed number at the front, whose place in 0, -1, 1, -2 and so on is at most `limit`, and the bytes used.
 #[inline]
-#[tactic(auto, using(crate::proofs::Laws::number_last), unfolding(crate::specs::Reading::number_at))]
+#[tactic(auto, using(crate::proofs::Laws::number_last, crate::proofs::Number::number_two), unfolding(crate::specs::Reading::number_at))]
 fn read_signed(bytes: &[u8], limit: u64) -> Result<(i64, usize), VarintError>
-    requires large { 128 ≤ limit }
+    requires large { 16384 ≤ limit }
     requires greatest { IsGreatest limit }
     ensures read { Gives bytes.now result (signed (number_at limit bytes.now)) }
     ensures below { IfOk result (λ read. zigzag read.0 ≤ limit) }
 {
     let (place, used) = match bytes {
         [digit, ..] if *digit < 128 => (*digit as u64, 1),
+        [low, high, ..] if 0 < *high && *high < 128 => (*low as u64 - 128 + 128 * *high as u64, 2),
         _ => read_number(bytes, limit)?,
     };
     Ok((number_of(place), used))
@@ -87,6 +92,7 @@ pub fn read_i32(bytes: &[u8]) -> Result<(i32, usize), VarintError>
     ensures read { Gives bytes.now result (i32_at bytes.now) }
     // What is read is spelled so.
     ensures found { IfOk result (λ read. (bytes.now ≡ spelling read.0 ++ drop read.1 bytes.now) × (read.1 ≡ length (spelling read.0))) }
+    ensures within { IfOk result (λ read. read.1 ≤ length bytes.now) }
     // What is spelled so is read, whatever follows it.
     ensures again { (v : ℤ) (rest : List ℕ) → FitsSigned w32 v → bytes.now ≡ spelling v ++ rest → result ≡ Ok (v, length (spelling v)) }
     ensures short { IsErrOf result VarintError.Short ↔ IsShort 5 bytes.now }
@@ -109,6 +115,7 @@ pub fn read_i64(bytes: &[u8]) -> Result<(i64, usize), VarintError>
     ensures read { Gives bytes.now result (i64_at bytes.now) }
     // What is read is spelled so.
     ensures found { IfOk result (λ read. (bytes.now ≡ spelling read.0 ++ drop read.1 bytes.now) × (read.1 ≡ length (spelling read.0))) }
+    ensures within { IfOk result (λ read. read.1 ≤ length bytes.now) }
     // What is spelled so is read, whatever follows it.
     ensures again { (v : ℤ) (rest : List ℕ) → FitsSigned w64 v → bytes.now ≡ spelling v ++ rest → result ≡ Ok (v, length (spelling v)) }
     ensures short { IsErrOf result VarintError.Short ↔ IsShort 10 bytes.now }

@@ -14,5 +14,4 @@ pub fn one_spelling()
     ensures only { (v : ℤ) (bytes : List ℕ) → FitsSigned w64 v → IsShortest bytes → digits_value bytes ≡ zigzag v → bytes ≡ spelling v }
     // No spelling begins another.
     ensures apart { (v w : ℤ) (x y : List ℕ) → FitsSigned w64 v → FitsSigned w64 w → spelling v ++ x ≡ spelling w ++ y → (v ≡ w) × (x ≡ y) }
-{
-}
+{}

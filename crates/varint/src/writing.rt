@@ -37,12 +37,17 @@ fn digit_count(number: u64) -> usize
 }
 
 /// Writes a number of 64 bits at the end, in 1 to 10 bytes. Where memory runs out nothing is written.
-#[tactic(auto, unfolding(crate::specs::Spelling::spelling))]
+#[tactic(auto, using(crate::proofs::Laws::digits_last), unfolding(crate::specs::Spelling::spelling))]
 pub fn put_i64<A: Allocator + Copy>(out: &mut Vec<u8, A>, value: i64) -> Result<(), AllocError>
     ensures ok { OnOk result (out.new.items ≡ out.old.items ++ spelling value) }
     ensures err { OnErr result (out.new.items ≡ out.old.items) }
 {
-    let (bytes, used) = digits_of(zigzag_of(value));
+    let place = zigzag_of(value);
+    if place < 128 {
+        out.push(place as u8)?;
+        return Ok(());
+    }
+    let (bytes, used) = digits_of(place);
     out.extend_from_slice(&bytes[..used])
 }
 

@@ -1,5 +1,5 @@
-use Rattle.std.proofs.Common.{refl}
+use Rattle.varint.proofs.Number.{greatest32, greatest64}
 use Rattle.varint.proofs.reading.number_i64.Goals as goal
 
 pub read_signed-requires-clause-greatest : goal.read_signed-requires-clause-greatest
-read_signed-requires-clause-greatest c = (64, refl)
+read_signed-requires-clause-greatest c = search (greatest32, greatest64)

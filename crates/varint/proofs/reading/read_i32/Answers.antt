@@ -1,6 +1,6 @@
 use Rattle.std.proofs.Common.{arith}
 use Rattle.varint.proofs.Laws.{IsBytes}
-use Rattle.varint.proofs.Readers.{is_found32, is_again32, refusals32}
+use Rattle.varint.proofs.Readers.{is_within, is_found32, is_again32, refusals32}
 use Rattle.varint.proofs.reading.read_i32.Goals as goal
 
 pub returns : goal.returns
@@ -11,6 +11,7 @@ returns c =
     record {
       read = given;
       found = is_found32 c.args.bytes.now c.number_i32.result fits given;
+      within = is_within c.args.bytes.now c.number_i32.result _ given;
       again = is_again32 c.args.bytes.now c.number_i32.result given;
       short = refused.0;
       too_long = refused.1;

@@ -1,6 +1,6 @@
 use Rattle.std.proofs.Common.{arith}
 use Rattle.varint.proofs.Laws.{IsBytes}
-use Rattle.varint.proofs.Readers.{is_found64, is_again64, refusals64}
+use Rattle.varint.proofs.Readers.{is_within, is_found64, is_again64, refusals64}
 use Rattle.varint.proofs.reading.read_i64.Goals as goal
 
 pub returns : goal.returns
@@ -11,6 +11,7 @@ returns c =
     record {
       read = given;
       found = is_found64 c.args.bytes.now c.number_i64.result fits given;
+      within = is_within c.args.bytes.now c.number_i64.result _ given;
       again = is_again64 c.args.bytes.now c.number_i64.result given;
       short = refused.0;
       too_long = refused.1;
