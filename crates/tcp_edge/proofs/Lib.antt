@@ -1,2 +1,3 @@
 mod Filled
 mod Printed
+pub mod Streams

@@ -1,0 +1,31 @@
+use batch_codec::BatchError;
+use partition_log::DeliverError;
+use thiserror::Error;
+
+/// Why a batch is refused, as bytes or by the copy.
+#[derive(Clone, Copy, Debug, PartialEq, Eq, Error)]
+pub enum Refusal {
+    /// The bytes are not a batch.
+    #[error(transparent)]
+    View(BatchError),
+    /// The copy doesn't take the batch.
+    #[error(transparent)]
+    Deliver(DeliverError),
+}
+
+/// Why no table was printed.
+#[derive(Clone, Copy, Debug, PartialEq, Eq, Error)]
+pub enum TableError {
+    /// The batch with this number, from 0, is refused.
+    #[error("batch {index}: {why}")]
+    Batch { index: u64, why: Refusal },
+    /// The input couldn't be read, or it didn't end within 2^32 reads.
+    #[error("read failed")]
+    Read,
+    /// The lines couldn't be written.
+    #[error("write failed")]
+    Write,
+    /// There is no memory for a batch, for the table or for the bytes between.
+    #[error("out of memory")]
+    OutOfMemory,
+}
