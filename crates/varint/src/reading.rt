@@ -85,7 +85,7 @@ fn number_i64(bytes: &[u8]) -> Result<(i64, usize), VarintError>
 ///
 /// - `Short` where every byte has its high bit set, and there are fewer than 5.
 /// - `TooLong` where the fifth byte is reached and is above 0x0f.
-/// - `NotShortest` where there are several bytes, and the last is 0.
+/// - `NotShortest` where the number takes several bytes, and the last of these is 0.
 #[inline]
 pub fn read_i32(bytes: &[u8]) -> Result<(i32, usize), VarintError>
     // What is read, or why nothing is.
@@ -108,7 +108,7 @@ pub fn read_i32(bytes: &[u8]) -> Result<(i32, usize), VarintError>
 ///
 /// - `Short` where every byte has its high bit set, and there are fewer than 10.
 /// - `TooLong` where the tenth byte is reached and is above 0x01.
-/// - `NotShortest` where there are several bytes, and the last is 0.
+/// - `NotShortest` where the number takes several bytes, and the last of these is 0.
 #[inline]
 pub fn read_i64(bytes: &[u8]) -> Result<(i64, usize), VarintError>
     // What is read, or why nothing is.
