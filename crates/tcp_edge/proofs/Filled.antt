@@ -1,22 +1,11 @@
 -- Lemmas on what one read does to the bytes that wait.
-use Rattle.std.proofs.Common.{◌≡◌, ℕ, ◌+◌, ◌<◌, ◌≤◌, Bool, true, false, nat_lt, Option, None, Some, List, [], ◌++◌, length, take, drop, refl, sym, ◌∙◌, arith, length-take, append-nil}
+use Rattle.std.proofs.Common.{◌≡◌, ℕ, ◌+◌, ◌<◌, ◌≤◌, Bool, true, false, nat_lt, Option, None, Some, List, [], ◌++◌, length, take, drop, refl, sym, ◌∙◌, arith, length-take, length-drop, append-nil}
 use Rattle.std.specs.Prelude.{MatchBool}
 use Rattle.std.specs.Io.KnownBytes.{Consumes, IsAtEnd, Keeps}
-use Rattle.std.proofs.Math.Seq.{take-append-add}
+use Rattle.std.proofs.Math.Seq.{take-add}
+use Rattle.std.proofs.lemmas.List.{drop-append-le}
 use Rattle.std.proofs.lemmas.Bool.Decides.{nat_tests}
-use Rattle.std.proofs.lemmas.List.{take-append-le, drop-append-le}
-use borrow.Rule.Slice.PartMut.{put_mid, post_of}
 use Rattle.tcp_edge.specs.Input.{TakesPiece, FindsEnd}
-
--- the part of a buffer that waits, once a read has put bytes behind it
-pub view_filled : (moved items got waiting : List ℕ) (start stop end room count : ℕ) → items ≡ moved → drop start (take stop moved) ≡ waiting → stop ≡ end → start ≤ end → end ≤ length items → count ≤ length got → drop start (take (end + count) (put_mid end room items got)) ≡ waiting ++ take count got
-view_filled moved items got waiting start stop end room count lent was same ordered within bound =
-    let full : length (take end items) ≡ end = omega (arith, length-take end items) in
-    let taken : take (end + count) (put_mid end room items got) ≡ take end items ++ take count (got ++ post_of end room items) = rw full at (take-append-add (take end items) (got ++ post_of end room items) count) in
-    let front : start ≤ length (take end items) = omega arith in
-    let short : take count (got ++ post_of end room items) ≡ take count got = take-append-le count got _ bound in
-    let waited : drop start (take end items) ≡ waiting = cc in
-    rw (taken, short, drop-append-le start (take end items) (take count got) front, waited) refl
 
 -- a reader that gave nothing at its end had nothing
 ends : (left left' : Option (List ℕ)) (piece : List ℕ) → piece ≡ [] → Consumes left left' piece → IsAtEnd left' → IsAtEnd left × Keeps left left'
@@ -36,7 +25,19 @@ told false left left' waiting waiting' got count e added bound consumed end =
     let ended = ends left left' _ nothing consumed (end none) in
     record { at_end = ended.0; stays = ended.1; unchanged = added ∙ rw nothing (append-nil waiting) }
 
--- what `Ok` of a read says, in the words of the crate
-pub filled : (left left' : Option (List ℕ)) (waiting waiting' got : List ℕ) (count : ℕ) → waiting' ≡ waiting ++ take count got → count ≤ length got → 0 < length got → Consumes left left' (take count got) × (count ≡ 0 → 0 < length got → IsAtEnd left') → MatchBool (nat_lt 0 count) (TakesPiece left left' waiting waiting') (FindsEnd left left' waiting waiting')
-filled left left' waiting waiting' got count added bound room read =
-    told (nat_lt 0 count) left left' waiting waiting' got count refl added bound read.0 (λ none. read.1 none room)
+-- what waited, before a read put bytes behind it
+added : (waiting moved items : List ℕ) (start stop end count : ℕ) → drop start (take stop moved) ≡ waiting → stop ≡ end → start ≤ end → end < length items → take end items ≡ take end moved → drop start (take (end + count) items) ≡ waiting ++ take count (drop end items)
+added waiting moved items start stop end count was same ordered within front =
+    let full : start ≤ length (take end items) = omega (arith, length-take end items) in
+    let waited : drop start (take end items) ≡ waiting = cc in
+    rw (take-add end count items, drop-append-le start (take end items) (take count (drop end items)) full, waited) refl
+
+-- a read into the room of a buffer, behind the bytes that waited
+pub filled_behind : (left left' : Option (List ℕ)) (waiting moved items : List ℕ) (start stop end count : ℕ) → drop start (take stop moved) ≡ waiting → stop ≡ end → start ≤ end → end < length items → end + count ≤ length items → take end items ≡ take end moved → Consumes left left' (take count (drop end items)) × (count ≡ 0 → 0 < length (drop end items) → IsAtEnd left') → MatchBool (nat_lt 0 count) (TakesPiece left left' waiting (drop start (take (end + count) items))) (FindsEnd left left' waiting (drop start (take (end + count) items)))
+filled_behind left left' waiting moved items start stop end count was same ordered within bound front read =
+    let room : 0 < length (drop end items) = omega (arith, length-drop end items) in
+    told (nat_lt 0 count) left left' waiting _ (drop end items) count refl
+    (added waiting moved items start stop end count was same ordered within front)
+    (omega (arith, length-drop end items))
+    read.0
+    (λ none. read.1 none room)

@@ -1,3 +1,4 @@
 mod Filled
+mod LineFeeds
 mod Printed
 pub mod Streams

@@ -1,9 +1,9 @@
 -- Lemmas on the printed form of bytes.
-use Rattle.std.proofs.Common.{◌≡◌, ℕ, ◌+◌, ◌≤◌, Bool, true, false, not, cond, None, Some, List, [], ◌∷◌, ◌++◌, length, take, drop, get_or, refl, ap, ◌∙◌, arith, append-nil, append_assoc, add-one, suc, ◌-◌, length-drop, drop-cons}
+use Rattle.std.proofs.Common.{◌≡◌, ℕ, ◌+◌, ◌≤◌, Bool, true, false, not, cond, None, Some, List, [], ◌∷◌, ◌++◌, length, take, drop, get_or, refl, ap, ◌∙◌, arith, append-nil, append_assoc, add-one, suc, ◌-◌, drop-cons}
 use Rattle.std.specs.List.{position, position_or_len}
 use Rattle.std.proofs.lemmas.Bool.{not-true}
 use Rattle.std.proofs.lemmas.Bool.Decides.{nat_tests}
-use Rattle.std.proofs.lemmas.List.{take_all, drop_all}
+use Rattle.std.proofs.lemmas.List.{take_all, take_rest, drop_all}
 use Rattle.std.proofs.lemmas.List.Quantifiers.{position-Some}
 use Rattle.tcp_edge.specs.Lines.{is_plain, printed, printed_byte}
 
@@ -50,17 +50,13 @@ printed_split bytes k some =
     let next : k + 1 ≡ suc k = add-one k in
     printed_run bytes ∙ rw (place, next, drop-cons bytes k 0 there) refl
 
--- the whole of what is left
-rest_whole : (bytes : List ℕ) (k : ℕ) → take (length bytes - k) (drop k bytes) ≡ drop k bytes
-rest_whole bytes k = take_all _ _ (omega (arith, length-drop k bytes))
-
 -- bytes that are all plain, once they are pushed
 pub pushed_all : (old new bytes : List ℕ) → position is_special bytes ≡ None → new ≡ old ++ bytes → new ++ printed (take (length bytes - length bytes) (drop (length bytes) bytes)) ≡ old ++ printed bytes
 pushed_all old new bytes none pushed =
     let long : length bytes ≤ length bytes = omega arith in
-    rw (rest_whole bytes (length bytes), drop_all _ bytes long, printed_all bytes none) (append-nil new ∙ pushed)
+    rw (take_rest bytes (length bytes), drop_all _ bytes long, printed_all bytes none) (append-nil new ∙ pushed)
 
 -- the bytes up to the first that isn't plain, once they are pushed with its escape
 pub pushed_run : (old run new bytes : List ℕ) (k : ℕ) → position is_special bytes ≡ Some k → run ≡ old ++ take k bytes → new ≡ run ++ printed_byte (get_or bytes k 0) → new ++ printed (take (length bytes - (k + 1)) (drop (k + 1) bytes)) ≡ old ++ printed bytes
 pushed_run old run new bytes k some before escaped =
-    rw (rest_whole bytes (k + 1), printed_split bytes k some, escaped, before) (simp append_assoc)
+    rw (take_rest bytes (k + 1), printed_split bytes k some, escaped, before) (simp append_assoc)

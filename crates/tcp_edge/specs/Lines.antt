@@ -1,5 +1,5 @@
 -- The printed form of a table: a line for each row, in plain ASCII.
-use Rattle.std.specs.Prelude.{ℕ, ◌+◌, ◌/◌, ◌%◌, Bool, ◌&&◌, not, nat_le, nat_lt, ◌==◌, List, [], ◌∷◌, ◌++◌, if◌then◌else◌}
+use Rattle.std.specs.Prelude.{◌≡◌, ◌≢◌, ℕ, ◌+◌, ◌/◌, ◌%◌, Bool, ◌&&◌, not, nat_le, nat_lt, ◌==◌, All, List, [], ◌∷◌, ◌++◌, if◌then◌else◌}
 use Rattle.std.specs.List.{flat_map}
 
 -- a byte that stands for itself: 0x21 to 0x7e, but for `%` and `=`
@@ -26,3 +26,7 @@ line row = printed row.0 ++ 0x3d ∷ printed row.1 ++ 10 ∷ []
 -- a line for each row
 abbrev pub lines : List (List ℕ × List ℕ) → List ℕ
 lines rows = flat_map line rows
+
+-- a line feed ends these bytes, and stands nowhere else in them
+abbrev pub EndsOnce : List ℕ → Type 0
+EndsOnce bytes = (front : List ℕ) × (bytes ≡ front ++ 10 ∷ []) × All (λ byte. byte ≢ 10) front

@@ -1,7 +1,7 @@
 //! The lines that a table is printed as.
 ghost use Rattle.std.specs.Prelude.{◌≡◌, ◌<◌, ◌++◌, false, [], not, length, map, position, IfOk, OnOk};
 ghost use Rattle.std.specs.Io.KnownBytes.{Appends, append_known};
-ghost use Rattle.tcp_edge.specs.Lines.{is_plain, hex_digit, printed_byte, printed, line, lines};
+ghost use Rattle.tcp_edge.specs.Lines.{is_plain, hex_digit, printed_byte, printed, line, lines, EndsOnce};
 
 use std::alloc::{AllocError, Allocator};
 use std::io::Write;
@@ -93,6 +93,11 @@ pub(crate) fn push_line<A: Allocator>(
     out.push(b'\n')?;
     Ok(())
 }
+
+/// A law: whatever the key and the value, a line has no line feed but its last byte.
+pub(crate) fn lines_end_once(key: &[u8], value: &[u8])
+    ensures { EndsOnce (line (key.now, value.now)) }
+{}
 
 /// Hands what was collected to the writer, and empties the buffer.
 fn pass_on<A: Allocator, W: Write>(

@@ -1,6 +1,6 @@
 //! The bytes of a connection that were read and not yet taken.
 ghost use Rattle.std.specs.Prelude.{◌≡◌, ◌+◌, ◌-◌, ◌<◌, ◌≤◌, [], length, take, drop, vec_len, IfOk, OnErr, MatchBool};
-ghost use Rattle.std.specs.Io.KnownBytes.{Keeps};
+ghost use Rattle.std.specs.Io.KnownBytes.{Keeps, ReadConsumes};
 ghost use Rattle.tcp_edge.specs.Input.{TakesPiece, FindsEnd};
 
 use std::alloc::{AllocError, Allocator};
@@ -91,13 +91,29 @@ impl<A: Allocator + Copy> Pending<A> {
         };
         self.end -= self.start - start;
         self.start = start;
-        match reader.read(&mut self.buffer[self.end..]) {
-            Ok(count) => {
-                self.end += count;
-                Ok(count > 0)
-            }
-            Err(_) => Err(FillFailed::Read),
-        }
+        let count = read_behind(&mut self.buffer, self.end, reader)?;
+        self.end += count;
+        Ok(count > 0)
+    }
+}
+
+/// Makes one read into the room behind the first `end` bytes of the buffer, which stay.
+/// Gives how many bytes came.
+fn read_behind<A: Allocator, R: Read>(
+    buffer: &mut Vec<u8, A>,
+    end: usize,
+    reader: &mut R,
+) -> Result<usize, FillFailed>
+    requires { end < vec_len buffer.old }
+    ensures front { take end buffer.new.items ≡ take end buffer.old.items }
+    ensures len { vec_len buffer.new ≡ vec_len buffer.old }
+    ensures bound { IfOk result (λ count. end + count ≤ vec_len buffer.new) }
+    ensures behind { ReadConsumes (R.remaining reader.old) (R.remaining reader.new) result
+        (drop end buffer.new.items) }
+{
+    match reader.read(&mut buffer[end..]) {
+        Ok(count) => Ok(count),
+        Err(_) => Err(FillFailed::Read),
     }
 }
 
