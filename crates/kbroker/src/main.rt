@@ -1,9 +1,8 @@
 //! The broker's program: its words and its standard streams, given to the library.
 #![tactic(auto)]
 
-use std::env;
-use std::io;
 use std::process::ExitCode;
+use std::{env, io};
 use tcp_edge::{FAILED, FAULTY, NO_MEMORY, run_line};
 
 /// The words of the command line, the program's name first.

@@ -16,8 +16,8 @@ pub takes_then : (a b c : List ℕ) (k l m : List BatchValue) → TakesBatches a
 takes_then a b c k l m x y = record {
   taken = x.taken ++ y.taken;
   spelled =
-    x.spelled ∙ ap (λ (t : List ℕ). stream x.taken ++ t) y.spelled ∙ sym (append_assoc (stream x.taken) (stream y.taken) c)
-    ∙ ap (λ (t : List ℕ). t ++ c) (sym (flat_map-append batch_spelling x.taken y.taken));
+      x.spelled ∙ ap (λ (t : List ℕ). stream x.taken ++ t) y.spelled ∙ sym (append_assoc (stream x.taken) (stream y.taken) c)
+      ∙ ap (λ (t : List ℕ). t ++ c) (sym (flat_map-append batch_spelling x.taken y.taken));
   added = y.added ∙ ap (λ (t : List BatchValue). t ++ y.taken) x.added ∙ append_assoc k x.taken y.taken;
 }
 
@@ -52,8 +52,8 @@ consumes_all (Some as') (Some bs) (Some cs) x p e q = (p ∙ ap (λ (t : List �
 pub batches_taken : (a b : Option (List ℕ)) (waiting waiting' : List ℕ) (kept kept' : List BatchValue) → Consumes a b (stream kept ++ waiting) → TakesBatches waiting waiting' kept kept' → Consumes a b (stream kept' ++ waiting')
 batches_taken a b waiting waiting' kept kept' read t =
     let parts : stream kept ++ waiting ≡ stream kept' ++ waiting' =
-      ap (λ (x : List ℕ). stream kept ++ x) t.spelled ∙ sym (append_assoc (stream kept) (stream t.taken) waiting')
-      ∙ ap (λ (x : List ℕ). x ++ waiting') (sym (flat_map-append batch_spelling kept t.taken) ∙ ap (λ (bs : List BatchValue). stream bs) (sym t.added)) in
+    ap (λ (x : List ℕ). stream kept ++ x) t.spelled ∙ sym (append_assoc (stream kept) (stream t.taken) waiting')
+    ∙ ap (λ (x : List ℕ). x ++ waiting') (sym (flat_map-append batch_spelling kept t.taken) ∙ ap (λ (bs : List BatchValue). stream bs) (sym t.added)) in
     subst (Consumes a b) parts read
 
 pub piece_taken : (a b c : Option (List ℕ)) (waiting waiting' : List ℕ) (kept : List BatchValue) → Consumes a b (stream kept ++ waiting) → TakesPiece b c waiting waiting' → Consumes a c (stream kept ++ waiting')
