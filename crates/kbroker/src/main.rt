@@ -1,6 +1,8 @@
 //! The broker's program: its words and its standard streams, given to the library.
 #![tactic(auto)]
 
+ghost use Rattle.std.specs.Prelude.{◌≤◌};
+
 use std::process::ExitCode;
 use std::{env, io};
 use tcp_edge::{FAILED, FAULTY, NO_MEMORY, run_line};
@@ -15,7 +17,9 @@ fn words(rt: &HostRuntime) -> io::Result<Vec<String>> {
 }
 
 /// Says why there are no words, and answers the status.
-fn no_words(rt: &HostRuntime, why: &io::Error) -> u8 {
+fn no_words(rt: &HostRuntime, why: &io::Error) -> u8
+    ensures { result ≤ FAILED }
+{
     match why.kind() {
         io::ErrorKind::OutOfMemory => {
             let _ = eprintln!(rt; "kbroker: out of memory");
