@@ -9,8 +9,12 @@ ghost use Rattle.std.specs.Prelude.{◌≡◌, MatchOption};
 use std::alloc::{AllocError, Allocator};
 use std::cell::Cell;
 
+#[cfg(test)]
+mod tests;
+
 /// An allocator over another one that refuses its growth number `refused`, counted from 1, and passes all other calls on.
 /// A `&` to it is an allocator that may be copied.
+#[derive(Drop)]
 pub struct Refusing<B> {
     inner: B,
     calls: Cell<u64>,
@@ -38,17 +42,11 @@ impl<B> Refusing<B> {
     {
         let call = self.calls.get().wrapping_add(1);
         self.calls.set(call);
-        if call == self.refused { None } else { Some(&self.inner) }
-    }
-}
-
-impl<B: Drop> Drop for Refusing<B> {
-    fn drop(self) {
-        let Self {
-            inner: _,
-            calls: _,
-            refused: _,
-        } = self;
+        if call == self.refused {
+            None
+        } else {
+            Some(&self.inner)
+        }
     }
 }
 
