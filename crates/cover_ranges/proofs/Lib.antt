@@ -1,0 +1,3 @@
+pub mod Runs
+pub mod Splice
+pub mod Law

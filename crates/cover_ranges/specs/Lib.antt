@@ -1,0 +1,4 @@
+pub mod Runs
+pub mod Held
+pub mod Place
+pub mod Refusal

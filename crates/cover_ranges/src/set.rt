@@ -1,0 +1,153 @@
+//! The set of offsets.
+ghost use Rattle.std.specs.Prelude.{◌≡◌, ◌<◌, ◌^◌, ◌||◌, ◌↔◌, ℤ, pos, ◌<ℤ◌, ◌≤ℤ◌, [], IsTrue, IfOk, OnOk, OnErr, IsOk, MatchResult};
+ghost use Rattle.cover_ranges.specs.Runs.{Runs, is_within, covers, IsCanonical};
+ghost use Rattle.cover_ranges.specs.Held.{HasRoom};
+ghost use Rattle.cover_ranges.specs.Refusal.{IsRefusal};
+
+use crate::edit::{plan_insertion, replace};
+use crate::error::CoverError;
+use crate::judge::judge;
+use crate::search::{self, comes_next};
+use std::alloc::{AllocError, Allocator};
+use std::marker::Model;
+
+/// A set of offsets from 0 to 2^62 - 1, kept as its maximal ranges.
+#[derive(Drop)]
+pub struct Cover<A: Allocator + Copy> {
+    ranges: Vec<(i64, i64), A>,
+}
+
+impl<A: Allocator + Copy> Model for Cover<A> {
+    ghost use Rattle.std.specs.Prelude.{◌-◌};
+    ghost use Rattle.std.specs.Vec.{vec_len, vec_capacity};
+    ghost use Rattle.cover_ranges.specs.Runs.{IsCanonical};
+    ghost use Rattle.cover_ranges.specs.Held.{Held};
+
+    ghost Value = { Held };
+
+    ghost view = { λ cover. record { runs = cover.ranges.items; room = vec_capacity cover.ranges - vec_len cover.ranges } };
+
+    ghost invariant = { λ cover. IsCanonical cover.ranges.items };
+}
+
+impl<A: Allocator + Copy> Cover<A> {
+    /// The empty set. It takes no memory.
+    pub fn new(alloc: A) -> Cover<A>
+        ensures { result.runs ≡ [] }
+    {
+        Cover {
+            ranges: Vec::new(alloc),
+        }
+    }
+
+    /// Takes a list of ranges, from first to last offset, as a set. The ranges rise, and there is a gap between any two.
+    ///
+    /// The first range at fault decides the error, and within it the first of `EmptyRange`, `NotRising` and
+    /// `OutOfBounds`. `OutOfMemory` comes only where no range is at fault.
+    pub fn from_ranges(alloc: A, ranges: &[(i64, i64)]) -> Result<Cover<A>, CoverError>
+        ensures { MatchResult result (λ cover. IsCanonical ranges.now × (cover.runs ≡ ranges.now)) (λ error. IsRefusal ranges.now error) }
+    {
+        judge(ranges)?;
+        match Vec::from_slice(alloc, ranges) {
+            Ok(ranges) => Ok(Cover { ranges }),
+            Err(_) => Err(CoverError::OutOfMemory),
+        }
+    }
+
+    /// The maximal ranges, from first to last offset, rising.
+    pub fn ranges(&self) -> &[(i64, i64)]
+        ensures value { result.now ≡ self.now.runs }
+        ensures canonical { IsCanonical self.now.runs }
+    {
+        self.ranges.as_slice()
+    }
+
+    /// Whether the offset is in the set.
+    pub fn contains(&self, offset: i64) -> bool
+        ensures { result ≡ covers self.now.runs offset }
+    {
+        search::contains(&self.ranges, offset)
+    }
+
+    /// Whether all offsets from `first` to `last` are in the set; so it is where `last` is below `first`.
+    pub fn has_all(&self, first: i64, last: i64) -> bool
+        ensures { IsTrue result ↔ ((o : ℤ) → first ≤ℤ o → o ≤ℤ last → IsTrue (covers self.now.runs o)) }
+    {
+        search::has_all(&self.ranges, first, last)
+    }
+
+    /// Whether some offset from `first` to `last` is in the set.
+    pub fn has_any(&self, first: i64, last: i64) -> bool
+        ensures { IsTrue result ↔ ((o : ℤ) × (first ≤ℤ o) × (o ≤ℤ last) × IsTrue (covers self.now.runs o)) }
+    {
+        search::has_any(&self.ranges, first, last)
+    }
+
+    /// The least i64 from `from` on that is not in the set.
+    pub fn first_gap(&self, from: i64) -> i64
+        ensures missing { ¬ IsTrue (covers self.now.runs result) }
+        ensures from_on { from ≤ℤ result }
+        ensures least { (o : ℤ) → from ≤ℤ o → o <ℤ result → IsTrue (covers self.now.runs o) }
+    {
+        search::first_gap(&self.ranges, from)
+    }
+
+    /// Whether all offsets of this set are in the other one, in one pass over both.
+    pub fn is_subset(&self, other: &Cover<A>) -> bool
+        ensures { IsTrue result ↔ ((o : ℤ) → IsTrue (covers self.now.runs o) → IsTrue (covers other.now.runs o)) }
+    {
+        search::is_subset(&self.ranges, &other.ranges)
+    }
+
+    /// Makes room, so that the next insertion needs no memory.
+    pub fn reserve_one(&mut self) -> Result<(), AllocError>
+        ensures kept { self.new.runs ≡ self.old.runs }
+        ensures room { OnOk result (HasRoom self.new) }
+        ensures had_room { HasRoom self.old → IsOk result }
+    {
+        self.ranges.reserve(1)
+    }
+
+    /// Adds the offsets from `first` to `last`. At the end of the set in constant time, amortized; else by a binary
+    /// search and one move. On an error the set is as it was.
+    pub fn insert(&mut self, first: i64, last: i64) -> Result<(), AllocError>
+        requires not_negative { pos 0 ≤ℤ first }
+        requires not_empty { first ≤ℤ last }
+        requires in_bounds { last <ℤ pos (2 ^ 62) }
+        ensures added { OnOk result ((o : ℤ) → covers self.new.runs o ≡ (covers self.old.runs o || is_within o (first, last))) }
+        ensures err { OnErr result (self.new.runs ≡ self.old.runs) }
+        ensures room { HasRoom self.old → IsOk result }
+        ensures canonical { IsCanonical self.new.runs }
+    {
+        let plan = plan_insertion(&self.ranges, first, last);
+        replace(&mut self.ranges, plan.start, plan.end, plan.range)
+    }
+
+    /// The offsets of either set, in one pass over both.
+    pub fn union(&self, other: &Cover<A>) -> Result<Cover<A>, AllocError>
+        ensures both { IfOk result (λ both. (o : ℤ) → covers both.runs o ≡ (covers self.now.runs o || covers other.now.runs o)) }
+        ensures canonical { IfOk result (λ both. IsCanonical both.runs) }
+    {
+        let mut both = Cover::new(*self.ranges.allocator());
+        let (mine, theirs) = (self.ranges(), other.ranges());
+        let (mut i, mut j) = (0, 0);
+        while i < mine.len() || j < theirs.len() {
+            if comes_next(mine, i, theirs, j) {
+                both.insert(mine[i].0, mine[i].1)?;
+                i += 1;
+            } else {
+                both.insert(theirs[j].0, theirs[j].1)?;
+                j += 1;
+            }
+        }
+        Ok(both)
+    }
+
+    /// A copy of the set in memory of its own.
+    pub fn try_clone(&self) -> Result<Cover<A>, AllocError>
+        ensures { IfOk result (λ copy. copy.runs ≡ self.now.runs) }
+    {
+        let ranges = Vec::from_slice(*self.ranges.allocator(), &self.ranges)?;
+        Ok(Cover { ranges })
+    }
+}
