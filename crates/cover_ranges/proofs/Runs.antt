@@ -1,16 +1,15 @@
 -- Where an offset stands among maximal runs, and whether they cover it.
-use Rattle.std.proofs.Common.{◌≡◌, ℕ, zero, suc, ◌+◌, ◌-◌, ◌<◌, ◌≤◌, ◌^◌, Bool, true, false, ◌&&◌, ◌||◌, List, [], ◌∷◌, ◌++◌, length, get_or, take, drop, refl, sym, ap, ◌∙◌, subst, ◌⊎◌, inl, inr, ⊎_elim, arith}
+use Rattle.std.proofs.Common.{◌≡◌, ℕ, ◌+◌, ◌-◌, ◌<◌, ◌≤◌, ◌^◌, Bool, true, false, ◌||◌, length, get_or, take, refl, sym, ap, ◌∙◌, subst, ◌⊎◌, inl, inr, arith}
 use Rattle.std.specs.Prelude.{ℤ, pos, ◌+ℤ◌, ◌-ℤ◌, ◌<ℤ◌, ◌≤ℤ◌, int_le, int_lt, IsTrue, MatchBool, ◌↔◌}
-use Rattle.std.specs.List.{All, AllPairs, AllWithin, HoldsAt, list_any, Any}
+use Rattle.std.specs.List.{All, AllWithin, Any}
 use Rattle.std.specs.List.Sorted.{IsPartitionedBy, IsPartitionPoint}
 use Rattle.std.proofs.lemmas.Int.{ints, by_lt_z}
 use Rattle.std.proofs.lemmas.Bool.{cases_lt}
 use Rattle.std.proofs.lemmas.List.{get_or_default, get_or-take, take_more, length-take, length-take-le}
 use Rattle.std.proofs.Math.Seq.{take-length}
-use Rattle.std.proofs.lemmas.List.Elements.{All-push, All-append, All-cons, All-take, All-drop}
+use Rattle.std.proofs.lemmas.List.Elements.{All-push}
 use Rattle.std.proofs.lemmas.List.Quantifiers.{all_pairs_push}
-use Rattle.std.proofs.lemmas.List.Kept.{AllPairs-cons}
-use Rattle.std.proofs.lemmas.List.Folds.{list_any_none, list_any_at, Any-from_list_any, list_any_more}
+use Rattle.std.proofs.lemmas.List.Folds.{list_any_none, list_any_at, list_any_more}
 use Rattle.cover_ranges.specs.Runs.{Runs, is_within, covers, IsRun, IsApart, IsCanonical}
 use Rattle.cover_ranges.specs.Place.{IsPlaceOf, StartsBy, StartsPast}
 use Rattle.cover_ranges.specs.Refusal.{HasFault, IsFirstFault, IsRefusal}

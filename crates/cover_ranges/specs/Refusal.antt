@@ -1,5 +1,5 @@
 -- Why a list of ranges is refused.
-use Rattle.std.specs.Prelude.{ℕ, ◌+◌, ◌^◌, ◌<◌, ◌≡◌, ◌⊎◌, ℤ, pos, ◌+ℤ◌, ◌<ℤ◌, ◌≤ℤ◌, List, length, take}
+use Rattle.std.specs.Prelude.{ℕ, ◌^◌, ◌<◌, ◌⊎◌, ℤ, pos, ◌+ℤ◌, ◌<ℤ◌, ◌≤ℤ◌, length, take}
 use Rattle.std.specs.List.{Any, HoldsAt}
 use Rattle.cover_ranges.specs.Runs.{Runs, IsCanonical}
 use Rattle.cover_ranges.specs.declared.error.CoverError.{CoverError}

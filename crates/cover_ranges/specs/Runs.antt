@@ -1,6 +1,6 @@
 -- A set of offsets as its maximal runs. An offset names a place in a partition's log: it is not negative, it rises
 -- with each record, and a log that was compacted has gaps (Kafka's documentation, "Log Compaction").
-use Rattle.std.specs.Prelude.{ℕ, ◌+◌, ◌^◌, ℤ, pos, ◌+ℤ◌, ◌<ℤ◌, ◌≤ℤ◌, int_le, Bool, ◌&&◌, List}
+use Rattle.std.specs.Prelude.{◌^◌, ℤ, pos, ◌+ℤ◌, ◌<ℤ◌, ◌≤ℤ◌, int_le, Bool, ◌&&◌, List}
 use Rattle.std.specs.List.{All, AllPairs, list_any}
 
 -- runs of offsets, each from its first to its last, both of them in it

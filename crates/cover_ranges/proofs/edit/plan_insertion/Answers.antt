@@ -1,7 +1,7 @@
-use Rattle.std.proofs.Common.{w64, arith, rules, ◌≡◌, ◌<◌, ◌≤◌, ◌-◌, get_or}
-use Rattle.std.specs.Prelude.{ℤ, pos, ◌+ℤ◌, ◌-ℤ◌}
+use Rattle.std.proofs.Common.{w64, rules, ◌≡◌, ◌<◌, ◌≤◌, ◌-◌, get_or}
+use Rattle.std.specs.Prelude.{pos, ◌+ℤ◌, ◌-ℤ◌}
 use Rattle.std.specs.Int.{int_min, int_max}
-use Rattle.std.proofs.lemmas.Int.{ints, to_z-of_z}
+use Rattle.std.proofs.lemmas.Int.{to_z-of_z}
 use mir.Val.{SFits}
 use Rattle.cover_ranges.specs.Place.{IsPlaceOf}
 use Rattle.cover_ranges.proofs.Splice.{reaches}

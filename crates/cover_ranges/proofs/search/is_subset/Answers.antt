@@ -1,6 +1,6 @@
-use Rattle.std.proofs.Common.{w64, arith, rules, refl, ◌+◌, get_or}
+use Rattle.std.proofs.Common.{w64, arith, rules, refl, get_or}
 use Rattle.std.specs.Prelude.{ℤ, pos, ◌≤ℤ◌, IsTrue, ◌↔◌, true}
-use Rattle.std.proofs.lemmas.Int.{ints, to_z-of_z}
+use Rattle.std.proofs.lemmas.Int.{to_z-of_z}
 use mir.Val.{SFits}
 use Rattle.cover_ranges.specs.Runs.{IsRun, covers}
 use Rattle.cover_ranges.specs.Place.{IsPlaceOf}

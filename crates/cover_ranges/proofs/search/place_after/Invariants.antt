@@ -1,4 +1,4 @@
-use Rattle.std.proofs.Common.{ℕ, ◌-◌, ◌≤◌, length}
+use Rattle.std.proofs.Common.{◌-◌, ◌≤◌, length}
 use Rattle.std.specs.List.{AllWithin}
 use Rattle.std.specs.Prelude.{◌<ℤ◌}
 use Rattle.cover_ranges.proofs.search.place_after.Given as goal

@@ -1,4 +1,4 @@
-use Rattle.std.proofs.Common.{arith, rules, w64, sym, subst, get_or, ◌<◌, ◌+◌, ◌||◌, ◌∙◌, take, length}
+use Rattle.std.proofs.Common.{arith, rules, w64, sym, subst, get_or, ◌<◌, ◌+◌, ◌∙◌, take, length}
 use Rattle.std.specs.Prelude.{pos}
 use Rattle.std.proofs.lemmas.Int.{ints}
 use mir.Val.{to_z, of_z}
