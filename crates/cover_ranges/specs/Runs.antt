@@ -15,10 +15,6 @@ is_within o run = int_le run.0 o && int_le o run.1
 abbrev pub covers : Runs → ℤ → Bool
 covers runs o = list_any (is_within o) runs
 
--- an offset: 0 to 2^62 - 1
-abbrev pub IsOffset : ℤ → Type 0
-IsOffset o = (pos 0 ≤ℤ o) × (o <ℤ pos (2 ^ 62))
-
 -- a run that holds an offset, and nothing else but offsets
 abbrev pub IsRun : ℤ × ℤ → Type 0
 IsRun run = (pos 0 ≤ℤ run.0) × (run.0 ≤ℤ run.1) × (run.1 <ℤ pos (2 ^ 62))
