@@ -1,10 +1,12 @@
 -- The digits of a number, one after the other.
-use Rattle.std.proofs.Common.{◌≡◌, ℕ, suc, ◌+◌, ◌-◌, ◌*◌, ◌/◌, ◌%◌, ◌^◌, ◌<◌, ◌≤◌, List, [], ◌∷◌, ◌++◌, length, take, set, sym, ap, ◌∙◌, inl, inr, add-one, append_assoc, arith}
+use Rattle.std.proofs.Common.{◌≡◌, ℕ, zero, suc, ◌+◌, ◌-◌, ◌*◌, ◌/◌, ◌%◌, ◌^◌, ◌<◌, ◌≤◌, List, [], ◌∷◌, ◌++◌, length, take, set, sym, ap, ◌∙◌, inl, inr, add-one, append_assoc, arith}
 use Rattle.std.proofs.Math.Seq.{take-suc-set}
-use Rattle.std.proofs.lemmas.Bool.{cases_lt}
+use Rattle.std.proofs.lemmas.Bool.{cases_lt, lt-ltb}
 use Rattle.std.proofs.lemmas.Nat.{pow-add}
-use Rattle.varint.specs.Spelling.{digits}
-use Rattle.varint.proofs.Laws.{digits_last, digits_more}
+use Rattle.std.specs.Prelude.{ℤ, FitsSigned}
+use Rattle.std.specs.Int.{w32}
+use Rattle.varint.specs.Spelling.{digits, spelling, zigzag}
+use Rattle.varint.proofs.Laws.{digits_last, digits_more, zigzag_fits32}
 
 -- what is left of a number of 64 bits while its digits are taken
 pub room : (used rest : ℕ) → used ≤ 9 → 128 ≤ rest → rest < 2 ^ (64 - 7 * used) → (used + 1 ≤ 9) × (rest / 128 < 2 ^ (64 - 7 * (used + 1)))
@@ -41,3 +43,30 @@ len_step used rest all le large e = let more = ap length (one_more used rest le 
 
 pub len_ends : (used rest all : ℕ) → rest < 128 → used + length (digits (9 - used) rest) ≡ all → used + 1 ≡ all
 len_ends used rest all lt e = let last = ap length (digits_last (9 - used) rest lt) in omega arith
+
+-- ---- how many digits there are at most
+
+-- a number of one digit and at most `others` more
+abbrev HasFew : ℕ → ℕ → Type 0
+HasFew zero n = n < 128
+HasFew (suc others) n = HasFew others (n / 128)
+
+few : (others more n : ℕ) → HasFew others n → length (digits more n) ≤ others + 1
+unfolding digits
+few others zero n h = omega arith
+few zero (suc more) n lt = rw (lt-ltb n 128 lt) (omega arith)
+few (suc others) (suc more) n h =
+    elim (cases_lt n 128) [
+      | inl small ↦ let one = ap length (digits_last (suc more) n small) in omega arith
+      | inr large ↦
+          let rest = few others more (n / 128) h in
+          let all = ap length (digits_more more n large) in
+          omega arith
+    ]
+
+pub most : (n : ℕ) → n < 2 ^ 64 → length (digits 9 n) ≤ 10
+most n lt = few 9 9 n (omega arith)
+
+pub most_of_32_bits : (v : ℤ) → FitsSigned w32 v → length (spelling v) ≤ 5
+unfolding spelling
+most_of_32_bits v fits = let small = zigzag_fits32 v fits in few 4 9 (zigzag v) (omega arith)

@@ -60,16 +60,19 @@ pub fn put_i32<A: Allocator + Copy>(out: &mut Vec<u8, A>, value: i32) -> Result<
 }
 
 /// How many bytes a number of 64 bits takes: 1 to 10.
-#[tactic(auto, unfolding(crate::specs::Spelling::spelling))]
+#[tactic(auto, using(crate::proofs::Digits::most), unfolding(crate::specs::Spelling::spelling))]
 pub fn len_i64(value: i64) -> usize
-    ensures { result ≡ length (spelling value) }
+    ensures len { result ≡ length (spelling value) }
+    ensures bound { result ≤ 10 }
 {
     digit_count(zigzag_of(value))
 }
 
 /// How many bytes a number of 32 bits takes: 1 to 5.
+#[tactic(auto, using(crate::proofs::Digits::most_of_32_bits))]
 pub fn len_i32(value: i32) -> usize
-    ensures { result ≡ length (spelling value) }
+    ensures len { result ≡ length (spelling value) }
+    ensures bound { result ≤ 5 }
 {
     len_i64(i64::from(value))
 }
