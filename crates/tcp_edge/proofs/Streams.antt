@@ -41,7 +41,7 @@ consumes_then (Some as') None c x y p q = absurd p
 consumes_then (Some as') (Some bs) None x y p q = absurd q
 consumes_then (Some as') (Some bs) (Some cs) x y p q = p ∙ ap (λ (t : List ℕ). x ++ t) q ∙ sym (append_assoc x y cs)
 
-consumes_all : (a b c : Option (List ℕ)) (x : List ℕ) → Consumes a b x → IsAtEnd b → Keeps b c → ReadsAll a c x
+pub consumes_all : (a b c : Option (List ℕ)) (x : List ℕ) → Consumes a b x → IsAtEnd b → Keeps b c → ReadsAll a c x
 consumes_all None b c x p e q = tt
 consumes_all (Some as') None c x p e q = absurd p
 consumes_all (Some as') (Some bs) None x p e q = absurd q
