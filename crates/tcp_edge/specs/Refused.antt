@@ -1,5 +1,5 @@
 -- What a refusal says of a stream: how many of its batches a copy took, and why it takes nothing more.
-use Rattle.std.specs.Prelude.{◌≡◌, ◌≢◌, ℕ, ◌≤ℤ◌, List, ◌++◌, length, Option, ⊤}
+use Rattle.std.specs.Prelude.{◌≡◌, ◌≢◌, ℕ, ◌<◌, ◌≤ℤ◌, List, ◌++◌, length, Option, ⊤}
 use Rattle.std.specs.Io.KnownBytes.{Consumes}
 use Rattle.batch_codec.specs.declared.error.BatchError.TheVariants.{Short}
 use Rattle.batch_codec.specs.Values.{BatchValue}
@@ -38,12 +38,13 @@ pub record RefusesNext (bs : List BatchValue) (next : List ℕ) (index : ℕ) (w
 
 -- ---- a stream
 
--- What left a reader is as many batches as the index says, all taken, and then bytes that are refused; that they are too few is said only of all that the reader had.
+-- What left a reader is as many batches as the index says, all taken, and then some bytes that are refused; that they are too few is said only of all that the reader had.
 pub record RefusesStream (left left' : Option (List ℕ)) (index : ℕ) (why : Refusal) : Type 0 where
   pub taken : List BatchValue
   pub next : List ℕ
   pub log : IsLog taken
   pub number : index ≡ length taken
+  pub some : 0 < length next
   pub read : Consumes left left' (stream taken ++ next)
   pub refused : IsRefusedAs taken next why
   pub whole : why ≡ View Short → ReadsAll left left' (stream taken ++ next)

@@ -20,7 +20,7 @@ pub returns-in-Ok-false-2-clause-refused : goal.returns-in-Ok-false-2-clause-ref
 returns-in-Ok-false-2-clause-refused g c =
     let end = MatchBool-at_false _ _ c.in-Ok-false.field-0-test c.in-Ok-false.ensures.filled in
     let read = batches_taken _ _ c.loop.pending c.take_batches.new.pending c.loop.log.kept c.take_batches.new.log.kept c.loop.invariant.1 c.take_batches.ensures.taken in
-    rw c.refused.ensures (end_refused _ _ _ c.take_batches.new.pending c.fill.new.self c.take_batches.new.log.kept c.take_batches.ensures.log read c.in_ok-take_batches.ensures.short end)
+    rw c.refused.ensures (end_refused _ _ _ c.take_batches.new.pending c.fill.new.self c.take_batches.new.log.kept c.take_batches.ensures.log read c.in_ok-take_batches.ensures.short end (λ none. c.if-len-eq0.false (c.len.ensures ∙ none)))
 
 pub loop-preserved : goal.loop-preserved
 loop-preserved g c =
