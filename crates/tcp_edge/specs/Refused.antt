@@ -17,7 +17,7 @@ use Rattle.tcp_edge.specs.Tables.{stream, ReadsAll}
 
 -- ---- one batch
 
--- why a copy that took the batches bs doesn't take b: the first that holds, in the order of the checks
+-- why a copy that took the batches bs doesn't take b: the first that holds, in the order of the checks; want of memory says nothing of b
 abbrev pub Refuses : List BatchValue → BatchValue → DeliverError → Type 0
 Refuses bs b NotWhole = ¬ IsWhole b
 Refuses bs b NoKey = IsWhole b × ¬ HasKeys b

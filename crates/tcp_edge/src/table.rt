@@ -85,7 +85,8 @@ fn read_log<A: Allocator + Copy, R: Read>(
 ) -> Result<PartitionLog<A>, TableError>
     ensures log { IfOk result (λ log. IsLog log.kept) }
     ensures read { IfOk result (λ log. ReadsAll (R.remaining reader.old) (R.remaining reader.new) (stream log.kept)) }
-    ensures refused { IfErr result (λ e. IfBatch e (RefusesStream (R.remaining reader.old) (R.remaining reader.new))) }
+    ensures refused { IfErr result (λ e. IfBatch e
+        (RefusesStream (R.remaining reader.old) (R.remaining reader.new))) }
 {
     let mut log = PartitionLog::new(alloc);
     let mut pending = Pending::new(alloc);
@@ -140,9 +141,11 @@ pub fn run_table<A: Allocator + Copy, R: Read, W: Write>(
     ensures ok { OnOk result ((bs : List BatchValue) × IsLog bs
         × ReadsAll (R.remaining reader.old) (R.remaining reader.new) (stream bs)
         × Appends (W.contents writer.old) (W.contents writer.new) (table_lines bs)) }
-    // The batches before the one that is refused were taken, and why the next isn't.
-    ensures refused { IfErr result (λ e. IfBatch e (RefusesStream (R.remaining reader.old) (R.remaining reader.new))) }
-    // No line is written of an input that is refused, or that can't be read to its end.
+    // What was read is as many batches as the index says, all taken, and then some bytes that are
+    // refused for the reason given; bytes are too few for a batch only at the reader's end.
+    ensures refused { IfErr result (λ e. IfBatch e
+        (RefusesStream (R.remaining reader.old) (R.remaining reader.new))) }
+    // Nothing is written where the input is refused, or can't be read to its end.
     ensures unwritten { IfErr result (λ e. IfBatch e (λ index why. writer.new ≡ writer.old)) }
     ensures unread { IsErrOf result TableError.Read → writer.new ≡ writer.old }
 {

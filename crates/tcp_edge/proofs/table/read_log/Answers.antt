@@ -1,4 +1,4 @@
-use Rattle.std.proofs.Common.{◌≡◌, rules, sym, ◌∙◌}
+use Rattle.std.proofs.Common.{◌≢◌, length, rules, arith, sym, ◌∙◌}
 use Rattle.std.proofs.lemmas.Bool.{MatchBool-at_true, MatchBool-at_false}
 use Rattle.tcp_edge.proofs.Streams.{batches_taken, piece_taken, all_taken}
 use Rattle.tcp_edge.proofs.Refusals.{IfBatch-map, next_refused, end_refused}
@@ -20,7 +20,8 @@ pub returns-in-Ok-false-2-clause-refused : goal.returns-in-Ok-false-2-clause-ref
 returns-in-Ok-false-2-clause-refused g c =
     let end = MatchBool-at_false _ _ c.in-Ok-false.field-0-test c.in-Ok-false.ensures.filled in
     let read = batches_taken _ _ c.loop.pending c.take_batches.new.pending c.loop.log.kept c.take_batches.new.log.kept c.loop.invariant.1 c.take_batches.ensures.taken in
-    rw c.refused.ensures (end_refused _ _ _ c.take_batches.new.pending c.fill.new.self c.take_batches.new.log.kept c.take_batches.ensures.log read c.in_ok-take_batches.ensures.short end (λ none. c.if-len-eq0.false (c.len.ensures ∙ none)))
+    let some : length c.fill.new.self ≢ 0 = omega (arith, c.len.ensures) in
+    rw c.refused.ensures (end_refused _ _ _ c.take_batches.new.pending c.fill.new.self c.take_batches.new.log.kept c.take_batches.ensures.log read c.in_ok-take_batches.ensures.short end some)
 
 pub loop-preserved : goal.loop-preserved
 loop-preserved g c =
