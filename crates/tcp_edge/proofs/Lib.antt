@@ -2,3 +2,4 @@ mod Filled
 mod LineFeeds
 mod Printed
 pub mod Streams
+pub mod Refusals

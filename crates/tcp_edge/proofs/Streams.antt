@@ -1,6 +1,5 @@
 -- Batches that come one after the other, and the bytes that they came in.
-use Rattle.std.proofs.Common.{◌≡◌, ℕ, ◌+◌, ◌-◌, ◌<◌, ◌≤◌, List, [], ◌∷◌, ◌++◌, length, drop, Option, Some, None, refl, sym, ap, subst, ◌∙◌, append_assoc, arith}
-use Rattle.std.specs.List.{flat_map}
+use Rattle.std.proofs.Common.{◌≡◌, ℕ, ◌<◌, ◌≤◌, List, [], ◌++◌, length, drop, Option, Some, None, refl, sym, ap, subst, ◌∙◌, append_assoc, arith}
 use Rattle.std.specs.Io.KnownBytes.{Consumes, Keeps, IsAtEnd}
 use Rattle.std.proofs.lemmas.List.{append-nil, nil_from_length, length-drop, length-append}
 use Rattle.std.proofs.lemmas.List.Concat.{flat_map-append}
@@ -41,7 +40,7 @@ consumes_then (Some as') None c x y p q = absurd p
 consumes_then (Some as') (Some bs) None x y p q = absurd q
 consumes_then (Some as') (Some bs) (Some cs) x y p q = p ∙ ap (λ (t : List ℕ). x ++ t) q ∙ sym (append_assoc x y cs)
 
-consumes_all : (a b c : Option (List ℕ)) (x : List ℕ) → Consumes a b x → IsAtEnd b → Keeps b c → ReadsAll a c x
+pub consumes_all : (a b c : Option (List ℕ)) (x : List ℕ) → Consumes a b x → IsAtEnd b → Keeps b c → ReadsAll a c x
 consumes_all None b c x p e q = tt
 consumes_all (Some as') None c x p e q = absurd p
 consumes_all (Some as') (Some bs) None x p e q = absurd q

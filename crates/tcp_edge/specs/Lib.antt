@@ -1,3 +1,4 @@
 pub mod Lines
 pub mod Input
 pub mod Tables
+pub mod Refused

@@ -1,10 +1,15 @@
 //! The table of a stream of batches.
 
-ghost use Rattle.std.specs.Prelude.{◌≡◌, ℕ, ◌+◌, ◌<◌, ◌≤◌, List, [], ◌∷◌, ◌++◌, length, drop, IfOk, OnOk, MatchBool};
+ghost use Rattle.std.specs.Prelude.{◌≡◌, ◌<◌, List, length, IfOk, OnOk, IfErr, OnErr, IsErrOf, MatchBool};
+ghost use Rattle.std.specs.Bool.{OnFalse};
 ghost use Rattle.std.specs.Io.KnownBytes.{Appends};
+ghost use Rattle.batch_codec.specs.declared.error.BatchError.TheVariants.{Short};
+ghost use Rattle.batch_codec.specs.Refusals.{FirstFault};
 ghost use Rattle.batch_codec.specs.Values.{BatchValue};
 ghost use Rattle.partition_log.specs.Content.{IsLog};
+ghost use Rattle.tcp_edge.specs.declared.error.TableError.TheVariants.{Batch};
 ghost use Rattle.tcp_edge.specs.Tables.{stream, table_lines, TakesBatches, ReadsAll};
+ghost use Rattle.tcp_edge.specs.Refused.{RefusesNext, RefusesStream, IfBatch};
 
 use crate::error::{Refusal, TableError};
 use crate::lines::{WriteFailed, write_lines};
@@ -17,56 +22,60 @@ use std::io::{Read, Write};
 /// How many reads an input may take.
 const MOST_READS: u64 = 1 << 32;
 
+/// The answer where what comes after the batches of a copy is refused.
+fn refused<A: Allocator + Copy>(log: &PartitionLog<A>, why: Refusal) -> TableError
+    ensures { result ≡ Batch (length log.now.kept) why }
+{
+    TableError::Batch {
+        index: log.len() as u64,
+        why,
+    }
+}
+
 /// Takes the batch at the front, and tells whether a whole one was there.
 fn take_batch<A: Allocator + Copy>(
     log: &mut PartitionLog<A>,
     pending: &mut Pending<A>,
-    index: u64,
 ) -> Result<bool, TableError>
     requires { IsLog log.old.kept }
     ensures more { IfOk result (λ more. MatchBool more
         (TakesBatches pending.old pending.new log.old.kept log.new.kept)
         ((pending.new ≡ pending.old) × (log.new ≡ log.old))) }
     ensures fewer { IfOk result (λ more. MatchBool more (length pending.new < length pending.old) (pending.new ≡ pending.old)) }
+    ensures short { IfOk result (λ more. OnFalse more (FirstFault Short pending.old)) }
     ensures log { OnOk result (IsLog log.new.kept) }
+
+    ensures refused { IfErr result (λ e. IfBatch e (RefusesNext log.old.kept pending.old)) }
+    ensures no_read { ¬ IsErrOf result TableError.Read }
+    ensures no_write { ¬ IsErrOf result TableError.Write }
+    ensures unchanged { OnErr result ((pending.new ≡ pending.old) × (log.new ≡ log.old)) }
 {
     let size = match view(pending.bytes()) {
         Ok(batch) => match log.deliver(&batch) {
             Ok(_) => batch.bytes().len(),
             Err(DeliverError::OutOfMemory) => return Err(TableError::OutOfMemory),
-            Err(why) => {
-                return Err(TableError::Batch {
-                    index,
-                    why: Refusal::Deliver(why),
-                });
-            }
+            Err(why) => return Err(refused(log, Refusal::Deliver(why))),
         },
         Err(BatchError::Short) => return Ok(false),
-        Err(why) => {
-            return Err(TableError::Batch {
-                index,
-                why: Refusal::View(why),
-            });
-        }
+        Err(why) => return Err(refused(log, Refusal::View(why))),
     };
     pending.advance(size);
     Ok(true)
 }
 
-/// Takes each whole batch that waits, and answers the number of the next.
+/// Takes each whole batch that waits.
 fn take_batches<A: Allocator + Copy>(
     log: &mut PartitionLog<A>,
     pending: &mut Pending<A>,
-    mut index: u64,
-) -> Result<u64, TableError>
+) -> Result<(), TableError>
     requires { IsLog log.old.kept }
-    ensures taken { OnOk result (TakesBatches pending.old pending.new log.old.kept log.new.kept) }
-    ensures log { OnOk result (IsLog log.new.kept) }
+    ensures taken { TakesBatches pending.old pending.new log.old.kept log.new.kept }
+    ensures log { IsLog log.new.kept }
+    ensures short { OnOk result (FirstFault Short pending.new) }
+    ensures refused { IfErr result (λ e. IfBatch e (RefusesNext log.new.kept pending.new)) }
 {
-    while take_batch(log, pending, index)? {
-        index = index.saturating_add(1);
-    }
-    Ok(index)
+    while take_batch(log, pending)? {}
+    Ok(())
 }
 
 /// Reads batches to the end of the input.
@@ -76,21 +85,17 @@ fn read_log<A: Allocator + Copy, R: Read>(
 ) -> Result<PartitionLog<A>, TableError>
     ensures log { IfOk result (λ log. IsLog log.kept) }
     ensures read { IfOk result (λ log. ReadsAll (R.remaining reader.old) (R.remaining reader.new) (stream log.kept)) }
+    ensures refused { IfErr result (λ e. IfBatch e
+        (RefusesStream (R.remaining reader.old) (R.remaining reader.new))) }
 {
     let mut log = PartitionLog::new(alloc);
     let mut pending = Pending::new(alloc);
-    let mut index = 0;
     for _ in 0..MOST_READS {
-        index = take_batches(&mut log, &mut pending, index)?;
+        take_batches(&mut log, &mut pending)?;
         match pending.fill(reader) {
             Ok(true) => {}
             Ok(false) if pending.len() == 0 => return Ok(log),
-            Ok(false) => {
-                return Err(TableError::Batch {
-                    index,
-                    why: Refusal::View(BatchError::Short),
-                });
-            }
+            Ok(false) => return Err(refused(&log, Refusal::View(BatchError::Short))),
             Err(FillFailed::Read) => return Err(TableError::Read),
             Err(FillFailed::OutOfMemory) => return Err(TableError::OutOfMemory),
         }
@@ -104,7 +109,9 @@ fn print_log<A: Allocator + Copy, W: Write>(
     log: &PartitionLog<A>,
     writer: &mut W,
 ) -> Result<(), TableError>
-    ensures { OnOk result (Appends (W.contents writer.old) (W.contents writer.new) (table_lines log.now.kept)) }
+    ensures ok { OnOk result (Appends (W.contents writer.old) (W.contents writer.new) (table_lines log.now.kept)) }
+    ensures no_batch { IfErr result (λ e. IfBatch e (λ index why. ⊥)) }
+    ensures no_read { ¬ IsErrOf result TableError.Read }
 {
     let rows = match log.table() {
         Ok(rows) => rows,
@@ -131,9 +138,16 @@ pub fn run_table<A: Allocator + Copy, R: Read, W: Write>(
 ) -> Result<(), TableError>
     // What was read, to the reader's end, is whole batches with keys, end to end, whose spans rise
     // and don't meet; what was written is the lines of the table of their records.
-    ensures { OnOk result ((bs : List BatchValue) × IsLog bs
+    ensures ok { OnOk result ((bs : List BatchValue) × IsLog bs
         × ReadsAll (R.remaining reader.old) (R.remaining reader.new) (stream bs)
         × Appends (W.contents writer.old) (W.contents writer.new) (table_lines bs)) }
+    // What was read is as many batches as the index says, all taken, and then some bytes that are
+    // refused for the reason given; bytes are too few for a batch only at the reader's end.
+    ensures refused { IfErr result (λ e. IfBatch e
+        (RefusesStream (R.remaining reader.old) (R.remaining reader.new))) }
+    // Nothing is written where the input is refused, or can't be read to its end.
+    ensures unwritten { IfErr result (λ e. IfBatch e (λ index why. writer.new ≡ writer.old)) }
+    ensures unread { IsErrOf result TableError.Read → writer.new ≡ writer.old }
 {
     let log = read_log(alloc, reader)?;
     print_log(alloc, &log, writer)

@@ -1,8 +1,30 @@
-//! The printed form by example, and readers and writers that give little, or fail.
+//! The printed form by example, readers and writers that give little, or fail, and the tables of
+//! batches that another program made.
 use crate::lines::{WriteFailed, push_line, write_lines};
 use crate::pending::{FillFailed, Pending};
+use crate::{DONE, REFUSED, Refusal, TableError, run_line, run_table};
+use batch_codec::BatchError;
+use partition_log::DeliverError;
+use std::alloc::{AllocError, Global};
 use std::io::{Error, ErrorKind, Read, Result, Write};
 use std::test::Fail;
+
+/// A batch of last offset delta 3 and no record.
+const EMPTIED: [u8; 61] = [
+    0x00, 0x00, 0x00, 0x00, 0x00, 0x00, 0x00, 0x00, 0x00, 0x00, 0x00, 0x31, 0x00, 0x00, 0x00, 0x00,
+    0x02, 0x89, 0xab, 0xb8, 0x66, 0x00, 0x00, 0x00, 0x00, 0x00, 0x03, 0x00, 0x00, 0x00, 0x00, 0x00,
+    0x00, 0x00, 0x00, 0x00, 0x00, 0x00, 0x00, 0x00, 0x00, 0x00, 0x00, 0xff, 0xff, 0xff, 0xff, 0xff,
+    0xff, 0xff, 0xff, 0xff, 0xff, 0xff, 0xff, 0xff, 0xff, 0x00, 0x00, 0x00, 0x00,
+];
+/// A batch of three records, `a` = 1, `b` = 2 and `a` null, at offsets 0 to 2, made by another program.
+const THREE: [u8; 87] = [
+    0x00, 0x00, 0x00, 0x00, 0x00, 0x00, 0x00, 0x00, 0x00, 0x00, 0x00, 0x4b, 0x00, 0x00, 0x00, 0x00,
+    0x02, 0xa6, 0x90, 0x77, 0xbf, 0x00, 0x00, 0x00, 0x00, 0x00, 0x02, 0x00, 0x00, 0x00, 0x00, 0x00,
+    0x00, 0x00, 0x00, 0x00, 0x00, 0x00, 0x00, 0x00, 0x00, 0x00, 0x00, 0xff, 0xff, 0xff, 0xff, 0xff,
+    0xff, 0xff, 0xff, 0xff, 0xff, 0xff, 0xff, 0xff, 0xff, 0x00, 0x00, 0x00, 0x03, 0x10, 0x00, 0x00,
+    0x00, 0x02, 0x61, 0x02, 0x31, 0x00, 0x10, 0x00, 0x00, 0x02, 0x02, 0x62, 0x02, 0x32, 0x00, 0x0e,
+    0x00, 0x00, 0x04, 0x02, 0x61, 0x01, 0x00,
+];
 
 /// Gives one byte a call.
 #[derive(Drop)]
@@ -140,5 +162,70 @@ fn keeps_what_waits_where_a_read_fails(rt: HostRuntime) -> std::result::Result<(
     assert_eq!(rt; pending.fill(&mut reader)?, true);
     let expected: &[u8] = b"ababab";
     assert_eq!(rt; pending.bytes(), expected);
+    Ok(())
+}
+
+/// A stream that goes on behind the batch of three records.
+fn three_then(alloc: Global, next: &[u8]) -> std::result::Result<Vec<u8>, AllocError> {
+    let mut bytes = Vec::from_slice(alloc, &THREE)?;
+    bytes.extend_from_slice(next)?;
+    Ok(bytes)
+}
+
+/// The answer where the batch with this number is refused.
+fn refused(index: u64, why: Refusal) -> std::result::Result<(), TableError> {
+    Err(TableError::Batch { index, why })
+}
+
+#[test]
+fn tables(rt: HostRuntime) -> std::result::Result<(), Fail> {
+    let twice = three_then(rt.alloc(), &THREE)?;
+    let then_zeros = three_then(rt.alloc(), &[0; 17])?;
+    let short = Refusal::View(BatchError::Short);
+    let bad_magic = Refusal::View(BatchError::BadMagic);
+    let not_whole = Refusal::Deliver(DeliverError::NotWhole);
+    let overlap = Refusal::Deliver(DeliverError::Overlap);
+    let cases: [(&[u8], std::result::Result<(), TableError>, &[u8]); 8] = [
+        (b"", Ok(()), b""),
+        (&THREE, Ok(()), b"b=2\n"),
+        (&EMPTIED, refused(0, not_whole), b""),
+        (&[0; 16], refused(0, short), b""),
+        (&[0; 17], refused(0, bad_magic), b""),
+        (&THREE[..86], refused(0, short), b""),
+        (&twice, refused(1, overlap), b""),
+        (&then_zeros, refused(1, bad_magic), b""),
+    ];
+    for (bytes, answer, lines) in cases {
+        let mut out = Vec::new(rt.alloc());
+        let mut whole = bytes;
+        assert_eq!(rt; run_table(rt.alloc(), &mut whole, &mut out), answer);
+        assert_eq!(rt; out.as_slice(), lines);
+
+        let mut out = Vec::new(rt.alloc());
+        let mut by_bytes = OneByOne { rest: bytes };
+        assert_eq!(rt; run_table(rt.alloc(), &mut by_bytes, &mut out), answer);
+        assert_eq!(rt; out.as_slice(), lines);
+    }
+    Ok(())
+}
+
+#[test]
+fn refusals_are_told_in_a_line(rt: HostRuntime) -> std::result::Result<(), Fail> {
+    let cases: [(&[u8], u8, &[u8], &[u8]); 4] = [
+        (&THREE, DONE, b"b=2\n", b""),
+        (&EMPTIED, REFUSED, b"", b"kbroker: batch 0: NotWhole\n"),
+        (&THREE[..86], REFUSED, b"", b"kbroker: batch 0: Short\n"),
+        (&[0; 17], REFUSED, b"", b"kbroker: batch 0: BadMagic\n"),
+    ];
+    for (bytes, status, lines, told) in cases {
+        let mut input = bytes;
+        let mut out = Vec::new(rt.alloc());
+        let mut err = Vec::new(rt.alloc());
+        let words = ["kbroker", "table"];
+        let answer = run_line(rt.alloc(), &words, &mut input, &mut out, &mut err);
+        assert_eq!(rt; answer, status);
+        assert_eq!(rt; out.as_slice(), lines);
+        assert_eq!(rt; err.as_slice(), told);
+    }
     Ok(())
 }

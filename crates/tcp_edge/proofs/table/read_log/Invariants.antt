@@ -1,4 +1,4 @@
-use Rattle.std.proofs.Common.{◌≡◌, ◌++◌}
+use Rattle.std.proofs.Common.{◌++◌}
 use Rattle.std.specs.Io.KnownBytes.{Consumes}
 use Rattle.partition_log.specs.Content.{IsLog}
 use Rattle.tcp_edge.specs.Tables.{stream}

@@ -3,8 +3,8 @@ use Rattle.partition_log.specs.Content.{IsLog}
 use Rattle.tcp_edge.specs.Tables.{TakesBatches}
 use Rattle.tcp_edge.proofs.table.take_batches.Given as goal
 
-abbrev pub invariant-loop-index : goal.invariant-loop-index
-invariant-loop-index g l = TakesBatches l.initial.pending l.pending l.initial.log.kept l.log.kept × IsLog l.log.kept
+abbrev pub invariant-loop : goal.invariant-loop
+invariant-loop g l = TakesBatches l.initial.pending l.pending l.initial.log.kept l.log.kept × IsLog l.log.kept
 
-abbrev pub decreases-loop-index : goal.decreases-loop-index
-decreases-loop-index g l = length l.pending
+abbrev pub decreases-loop : goal.decreases-loop
+decreases-loop g l = length l.pending

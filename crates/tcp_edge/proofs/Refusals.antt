@@ -1,0 +1,66 @@
+-- Lemmas on the answer that a stream is refused.
+use Rattle.std.proofs.Common.{◌≢◌, ℕ, ◌<◌, List, ◌++◌, length, Option, refl, sym, ap, subst, arith}
+use Rattle.std.proofs.KnownBytes.{Consumes-kept}
+use Rattle.std.specs.Io.KnownBytes.{Consumes}
+use Rattle.batch_codec.specs.declared.error.BatchError.{BatchError}
+use Rattle.batch_codec.specs.declared.error.BatchError.TheVariants.{Short}
+use Rattle.batch_codec.specs.Values.{BatchValue}
+use Rattle.batch_codec.specs.Grammar.{batch_spelling}
+use Rattle.batch_codec.specs.Refusals.{FirstFault}
+use Rattle.partition_log.specs.Content.{IsLog}
+use Rattle.tcp_edge.specs.declared.error.Refusal.{Refusal}
+use Rattle.tcp_edge.specs.declared.error.Refusal.TheVariants.{View, Deliver}
+use Rattle.tcp_edge.specs.declared.error.TableError.{TableError}
+use Rattle.tcp_edge.specs.declared.error.TableError.TheVariants.{Batch, Read, Write, OutOfMemory}
+use Rattle.tcp_edge.specs.Input.{FindsEnd}
+use Rattle.tcp_edge.specs.Tables.{stream}
+use Rattle.tcp_edge.specs.Refused.{IsRefusedAs, RefusesNext, RefusesStream, IfBatch}
+use Rattle.tcp_edge.proofs.Streams.{consumes_all}
+
+pub IfBatch-map : (e : TableError) (P Q : ℕ → Refusal → Type 0) → ((index : ℕ) (why : Refusal) → P index why → Q index why) → IfBatch e P → IfBatch e Q
+IfBatch-map (Batch index why) P Q f p = f index why p
+IfBatch-map Read P Q f p = tt
+IfBatch-map Write P Q f p = tt
+IfBatch-map OutOfMemory P Q f p = tt
+
+-- ---- bytes that are refused are some
+
+fault_some : (e : BatchError) (bytes : List ℕ) → FirstFault e bytes → e ≢ Short → 0 < length bytes
+fault_some Short bytes fault other = absurd (other refl)
+fault_some _ bytes fault other = omega arith
+
+spelled_some : (b : BatchValue) (rest : List ℕ) → 0 < length (batch_spelling b ++ rest)
+unfolding batch_spelling
+spelled_some b rest = omega arith
+
+refused_some : (kept : List BatchValue) (next : List ℕ) (why : Refusal) → IsRefusedAs kept next why → why ≢ View Short → 0 < length next
+refused_some kept next (View fault) refused settled = fault_some fault next refused (λ short. settled (ap View short))
+refused_some kept next (Deliver why) refused settled = subst (λ (t : List ℕ). 0 < length t) (sym refused.3) (spelled_some refused.0 refused.1)
+
+-- ---- a stream
+
+-- behind the batches that were taken waits one that is refused
+pub next_refused : (a b : Option (List ℕ)) (waiting : List ℕ) (kept : List BatchValue) → IsLog kept → Consumes a b (stream kept ++ waiting) → (index : ℕ) (why : Refusal) → RefusesNext kept waiting index why → RefusesStream a b index why
+next_refused a b waiting kept log read index why r = record {
+  taken = kept;
+  next = waiting;
+  log = log;
+  number = r.number;
+  some = refused_some kept waiting why r.refused r.settled;
+  read = read;
+  refused = r.refused;
+  whole = λ short. absurd (r.settled short);
+}
+
+-- the reader's end comes within a batch
+pub end_refused : (a b c : Option (List ℕ)) (waiting waiting' : List ℕ) (kept : List BatchValue) → IsLog kept → Consumes a b (stream kept ++ waiting) → FirstFault Short waiting → FindsEnd b c waiting waiting' → length waiting' ≢ 0 → RefusesStream a c (length kept) (View Short)
+end_refused a b c waiting waiting' kept log read short end more = record {
+  taken = kept;
+  next = waiting;
+  log = log;
+  number = refl;
+  some = omega (arith, ap (λ (t : List ℕ). length t) end.unchanged);
+  read = Consumes-kept a b c (stream kept ++ waiting) read end.stays;
+  refused = short;
+  whole = λ _. consumes_all a b c (stream kept ++ waiting) read end.at_end end.stays;
+}
