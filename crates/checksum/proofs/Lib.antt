@@ -1,0 +1,3 @@
+pub mod CrcShifts
+pub mod CrcTables
+pub mod CrcWords

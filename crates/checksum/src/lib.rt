@@ -1,0 +1,10 @@
+//! CRC-32C, the checksum of a record batch.
+#![tactic(auto)]
+
+mod crc;
+mod tables;
+
+pub use crc::crc32c;
+
+#[cfg(test)]
+mod tests;
