@@ -5,3 +5,5 @@
 mod batch_codec_memory;
 #[cfg(test)]
 mod cover_ranges_memory;
+#[cfg(test)]
+mod table_memory;

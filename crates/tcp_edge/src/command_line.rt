@@ -55,7 +55,11 @@ fn explain<W: Write, E: Write>(error: &Error, out: &mut W, err: &mut E) -> u8
     } else {
         (write!(out, "{error}"), DONE)
     };
-    if printed.is_ok() { status } else { FAILED }
+    if printed.is_ok() {
+        return status;
+    }
+    let _ = writeln!(err, "kbroker: write failed");
+    FAILED
 }
 
 /// Says why there is no table, and answers the status.

@@ -12,4 +12,6 @@ pub use error::{Refusal, TableError};
 pub use table::run_table;
 
 #[cfg(test)]
+mod failure_tests;
+#[cfg(test)]
 mod tests;

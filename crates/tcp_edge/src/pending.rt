@@ -1,4 +1,4 @@
-//! The bytes of a connection that were read and not yet taken.
+//! The bytes of an input that were read and not yet taken.
 ghost use Rattle.std.specs.Prelude.{◌≡◌, ◌+◌, ◌-◌, ◌<◌, ◌≤◌, [], length, take, drop, vec_len, IfOk, OnErr, MatchBool};
 ghost use Rattle.std.specs.Io.KnownBytes.{Keeps, ReadConsumes};
 ghost use Rattle.tcp_edge.specs.Input.{TakesPiece, FindsEnd};

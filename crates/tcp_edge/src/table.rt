@@ -73,6 +73,7 @@ fn take_batches<A: Allocator + Copy>(
     ensures log { IsLog log.new.kept }
     ensures short { OnOk result (FirstFault Short pending.new) }
     ensures refused { IfErr result (λ e. IfBatch e (RefusesNext log.new.kept pending.new)) }
+    ensures no_write { ¬ IsErrOf result TableError.Write }
 {
     while take_batch(log, pending)? {}
     Ok(())
@@ -87,6 +88,7 @@ fn read_log<A: Allocator + Copy, R: Read>(
     ensures read { IfOk result (λ log. ReadsAll (R.remaining reader.old) (R.remaining reader.new) (stream log.kept)) }
     ensures refused { IfErr result (λ e. IfBatch e
         (RefusesStream (R.remaining reader.old) (R.remaining reader.new))) }
+    ensures no_write { ¬ IsErrOf result TableError.Write }
 {
     let mut log = PartitionLog::new(alloc);
     let mut pending = Pending::new(alloc);
@@ -148,6 +150,9 @@ pub fn run_table<A: Allocator + Copy, R: Read, W: Write>(
     // Nothing is written where the input is refused, or can't be read to its end.
     ensures unwritten { IfErr result (λ e. IfBatch e (λ index why. writer.new ≡ writer.old)) }
     ensures unread { IsErrOf result TableError.Read → writer.new ≡ writer.old }
+    // A write fails only once the input was accepted whole.
+    ensures accepted { IsErrOf result TableError.Write → (bs : List BatchValue) × IsLog bs
+        × ReadsAll (R.remaining reader.old) (R.remaining reader.new) (stream bs) }
 {
     let log = read_log(alloc, reader)?;
     print_log(alloc, &log, writer)
