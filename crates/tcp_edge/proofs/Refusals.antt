@@ -5,7 +5,7 @@ use Rattle.std.specs.Io.KnownBytes.{Consumes}
 use Rattle.batch_codec.specs.declared.error.BatchError.{BatchError}
 use Rattle.batch_codec.specs.declared.error.BatchError.TheVariants.{Short}
 use Rattle.batch_codec.specs.Values.{BatchValue}
-use Rattle.batch_codec.specs.Grammar.{batch_spelling}
+use Rattle.batch_codec.specs.Grammar.{batch_encoding}
 use Rattle.batch_codec.specs.Refusals.{FirstFault}
 use Rattle.partition_log.specs.Content.{IsLog}
 use Rattle.tcp_edge.specs.declared.error.Refusal.{Refusal}
@@ -29,13 +29,13 @@ fault_some : (e : BatchError) (bytes : List ℕ) → FirstFault e bytes → e �
 fault_some Short bytes fault other = absurd (other refl)
 fault_some _ bytes fault other = omega arith
 
-spelled_some : (b : BatchValue) (rest : List ℕ) → 0 < length (batch_spelling b ++ rest)
-unfolding batch_spelling
-spelled_some b rest = omega arith
+encoded_some : (b : BatchValue) (rest : List ℕ) → 0 < length (batch_encoding b ++ rest)
+unfolding batch_encoding
+encoded_some b rest = omega arith
 
 refused_some : (kept : List BatchValue) (next : List ℕ) (why : Refusal) → IsRefusedAs kept next why → why ≢ View Short → 0 < length next
 refused_some kept next (View fault) refused settled = fault_some fault next refused (λ short. settled (ap View short))
-refused_some kept next (Deliver why) refused settled = subst (λ (t : List ℕ). 0 < length t) (sym refused.3) (spelled_some refused.0 refused.1)
+refused_some kept next (Deliver why) refused settled = subst (λ (t : List ℕ). 0 < length t) (sym refused.3) (encoded_some refused.0 refused.1)
 
 -- ---- a stream
 

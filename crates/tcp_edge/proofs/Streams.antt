@@ -4,19 +4,19 @@ use Rattle.std.specs.Io.KnownBytes.{Consumes, Keeps, IsAtEnd}
 use Rattle.std.proofs.lemmas.List.{append-nil, nil_from_length, length-drop, length-append}
 use Rattle.std.proofs.lemmas.List.Concat.{flat_map-append}
 use Rattle.batch_codec.specs.Values.{BatchValue}
-use Rattle.batch_codec.specs.Grammar.{batch_spelling}
+use Rattle.batch_codec.specs.Grammar.{batch_encoding}
 use Rattle.tcp_edge.specs.Input.{TakesPiece, FindsEnd}
 use Rattle.tcp_edge.specs.Tables.{stream, TakesBatches, ReadsAll}
 
 pub takes_none : (waiting : List ℕ) (kept : List BatchValue) → TakesBatches waiting waiting kept kept
-takes_none waiting kept = record { taken = []; spelled = refl; added = sym (append-nil kept) }
+takes_none waiting kept = record { taken = []; encoded = refl; added = sym (append-nil kept) }
 
 pub takes_then : (a b c : List ℕ) (k l m : List BatchValue) → TakesBatches a b k l → TakesBatches b c l m → TakesBatches a c k m
 takes_then a b c k l m x y = record {
   taken = x.taken ++ y.taken;
-  spelled =
-      x.spelled ∙ ap (λ (t : List ℕ). stream x.taken ++ t) y.spelled ∙ sym (append_assoc (stream x.taken) (stream y.taken) c)
-      ∙ ap (λ (t : List ℕ). t ++ c) (sym (flat_map-append batch_spelling x.taken y.taken));
+  encoded =
+      x.encoded ∙ ap (λ (t : List ℕ). stream x.taken ++ t) y.encoded ∙ sym (append_assoc (stream x.taken) (stream y.taken) c)
+      ∙ ap (λ (t : List ℕ). t ++ c) (sym (flat_map-append batch_encoding x.taken y.taken));
   added = y.added ∙ ap (λ (t : List BatchValue). t ++ y.taken) x.added ∙ append_assoc k x.taken y.taken;
 }
 
@@ -24,9 +24,9 @@ pub advanced : (waiting waiting' : List ℕ) (size : ℕ) → waiting' ≡ drop 
 advanced waiting waiting' size same least within = omega (arith, ap (λ (t : List ℕ). length t) same, length-drop size waiting)
 
 -- a front of what waits is no longer than it
-pub front_within : (waiting seen front spelled rest : List ℕ) → seen ≡ waiting → seen ≡ spelled ++ rest → front ≡ spelled → length front ≤ length waiting
-front_within waiting seen front spelled rest same parts is =
-    omega (arith, ap (λ (t : List ℕ). length t) same, ap (λ (t : List ℕ). length t) parts, length-append spelled rest, ap (λ (t : List ℕ). length t) is)
+pub front_within : (waiting seen front encoded rest : List ℕ) → seen ≡ waiting → seen ≡ encoded ++ rest → front ≡ encoded → length front ≤ length waiting
+front_within waiting seen front encoded rest same parts is =
+    omega (arith, ap (λ (t : List ℕ). length t) same, ap (λ (t : List ℕ). length t) parts, length-append encoded rest, ap (λ (t : List ℕ). length t) is)
 
 -- ---- the reader's bytes
 
@@ -51,8 +51,8 @@ consumes_all (Some as') (Some bs) (Some cs) x p e q = (p ∙ ap (λ (t : List �
 pub batches_taken : (a b : Option (List ℕ)) (waiting waiting' : List ℕ) (kept kept' : List BatchValue) → Consumes a b (stream kept ++ waiting) → TakesBatches waiting waiting' kept kept' → Consumes a b (stream kept' ++ waiting')
 batches_taken a b waiting waiting' kept kept' read t =
     let parts : stream kept ++ waiting ≡ stream kept' ++ waiting' =
-    ap (λ (x : List ℕ). stream kept ++ x) t.spelled ∙ sym (append_assoc (stream kept) (stream t.taken) waiting')
-    ∙ ap (λ (x : List ℕ). x ++ waiting') (sym (flat_map-append batch_spelling kept t.taken) ∙ ap (λ (bs : List BatchValue). stream bs) (sym t.added)) in
+    ap (λ (x : List ℕ). stream kept ++ x) t.encoded ∙ sym (append_assoc (stream kept) (stream t.taken) waiting')
+    ∙ ap (λ (x : List ℕ). x ++ waiting') (sym (flat_map-append batch_encoding kept t.taken) ∙ ap (λ (bs : List BatchValue). stream bs) (sym t.added)) in
     subst (Consumes a b) parts read
 
 pub piece_taken : (a b c : Option (List ℕ)) (waiting waiting' : List ℕ) (kept : List BatchValue) → Consumes a b (stream kept ++ waiting) → TakesPiece b c waiting waiting' → Consumes a c (stream kept ++ waiting')

@@ -3,8 +3,8 @@ use Rattle.std.specs.Prelude.{◌≡◌, ◌≢◌, ℕ, ◌<◌, ◌≤ℤ◌, 
 use Rattle.std.specs.Io.KnownBytes.{Consumes}
 use Rattle.batch_codec.specs.declared.error.BatchError.TheVariants.{Short}
 use Rattle.batch_codec.specs.Values.{BatchValue}
-use Rattle.batch_codec.specs.Grammar.{Writable, batch_spelling}
-use Rattle.batch_codec.specs.Places.{IsWhole, HasKeys, first_offset}
+use Rattle.batch_codec.specs.Grammar.{Writable, batch_encoding}
+use Rattle.batch_codec.specs.Offsets.{IsWhole, HasKeys, first_offset}
 use Rattle.batch_codec.specs.Refusals.{FirstFault}
 use Rattle.partition_log.specs.declared.error.DeliverError.{DeliverError}
 use Rattle.partition_log.specs.declared.error.DeliverError.TheVariants.{NotWhole, NoKey, BadOffset, Overlap, OutOfMemory}
@@ -28,7 +28,7 @@ Refuses bs b OutOfMemory = ⊥
 -- the bytes behind the batches bs begin with no batch, or with one that the copy doesn't take
 abbrev pub IsRefusedAs : List BatchValue → List ℕ → Refusal → Type 0
 IsRefusedAs bs next (View fault) = FirstFault fault next
-IsRefusedAs bs next (Deliver why) = (b : BatchValue) × (rest : List ℕ) × Writable b × (next ≡ batch_spelling b ++ rest) × Refuses bs b why
+IsRefusedAs bs next (Deliver why) = (b : BatchValue) × (rest : List ℕ) × Writable b × (next ≡ batch_encoding b ++ rest) × Refuses bs b why
 
 -- Bytes behind the batches bs are refused, and would be whatever followed them.
 pub record RefusesNext (bs : List BatchValue) (next : List ℕ) (index : ℕ) (why : Refusal) : Type 0 where

@@ -2,13 +2,13 @@
 use Rattle.std.specs.Prelude.{◌≡◌, ℕ, List, [], ◌++◌, Option, None, Some, ⊤}
 use Rattle.std.specs.List.{flat_map}
 use Rattle.batch_codec.specs.Values.{BatchValue}
-use Rattle.batch_codec.specs.Grammar.{batch_spelling}
+use Rattle.batch_codec.specs.Grammar.{batch_encoding}
 use Rattle.partition_log.specs.Table.{placed, table_of, rows}
 use Rattle.tcp_edge.specs.Lines.{lines}
 
 -- batches end to end
 abbrev pub stream : List BatchValue → List ℕ
-stream bs = flat_map batch_spelling bs
+stream bs = flat_map batch_encoding bs
 
 -- a line for each key that has a value after the last of the batches, by rising key bytes
 abbrev pub table_lines : List BatchValue → List ℕ
@@ -23,5 +23,5 @@ ReadsAll (Some left) (Some left') bytes = (left ≡ bytes) × (left' ≡ [])
 -- More batches stood at the front of the bytes that waited, and are kept behind those that were.
 pub record TakesBatches (waiting waiting' : List ℕ) (kept kept' : List BatchValue) : Type 0 where
   pub taken : List BatchValue
-  pub spelled : waiting ≡ stream taken ++ waiting'
+  pub encoded : waiting ≡ stream taken ++ waiting'
   pub added : kept' ≡ kept ++ taken

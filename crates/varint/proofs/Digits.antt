@@ -5,8 +5,8 @@ use Rattle.std.proofs.lemmas.Bool.{cases_lt, lt-ltb}
 use Rattle.std.proofs.lemmas.Nat.{pow-add}
 use Rattle.std.specs.Prelude.{ℤ, FitsSigned}
 use Rattle.std.specs.Int.{w32}
-use Rattle.varint.specs.Spelling.{digits, spelling, zigzag}
-use Rattle.varint.proofs.Laws.{digits_last, digits_more, zigzag_fits32}
+use Rattle.varint.specs.Encoding.{digits, encoding, zigzag}
+use Rattle.varint.proofs.Encodings.{digits_last, digits_more, zigzag_fits32}
 
 -- what is left of a number of 64 bits while its digits are taken
 pub room : (used rest : ℕ) → used ≤ 9 → 128 ≤ rest → rest < 2 ^ (64 - 7 * used) → (used + 1 ≤ 9) × (rest / 128 < 2 ^ (64 - 7 * (used + 1)))
@@ -67,6 +67,6 @@ few (suc others) (suc more) n h =
 pub most : (n : ℕ) → n < 2 ^ 64 → length (digits 9 n) ≤ 10
 most n lt = few 9 9 n (omega arith)
 
-pub most_of_32_bits : (v : ℤ) → FitsSigned w32 v → length (spelling v) ≤ 5
-unfolding spelling
+pub most_of_32_bits : (v : ℤ) → FitsSigned w32 v → length (encoding v) ≤ 5
+unfolding encoding
 most_of_32_bits v fits = let small = zigzag_fits32 v fits in few 4 9 (zigzag v) (omega arith)

@@ -1,4 +1,4 @@
-pub mod Laws
+pub mod Encodings
 pub mod Number
 pub mod Digits
 pub mod Refusals

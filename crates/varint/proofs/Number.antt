@@ -3,7 +3,7 @@ use Rattle.std.proofs.Common.{◌≡◌, ℕ, ◌+◌, ◌-◌, ◌*◌, ◌/◌
 use Rattle.std.proofs.lemmas.Bool.{cases_lt}
 use Rattle.std.proofs.lemmas.Nat.{pow-add, pow_below}
 use Rattle.varint.specs.Reading.{number_at, IsGreatest}
-use Rattle.varint.proofs.Laws.{number_last, number_more}
+use Rattle.varint.proofs.Encodings.{number_last, number_more}
 
 pub number_digit : (limit b high used : ℕ) (bytes : List ℕ) → 128 ≤ limit → 128 ≤ b → 0 < high → number_at (limit / 128) bytes ≡ Ok (high, drop used bytes) → number_at limit (b ∷ bytes) ≡ Ok ((b - 128) + 128 * high, drop (used + 1) (b ∷ bytes))
 number_digit limit b high used bytes large mark some e =

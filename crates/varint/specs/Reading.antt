@@ -1,4 +1,4 @@
--- Reading a spelling at the front of bytes, and why there is none. A byte has the mark where it is 128 or
+-- Reading a encoding at the front of bytes, and why there is none. A byte has the mark where it is 128 or
 -- more: more digits follow. Kafka's protocol guide, "Protocol Primitive Types", VARINT and VARLONG.
 use Rattle.std.specs.Prelude.{◌≡◌, ℕ, zero, suc, ◌+◌, ◌-◌, ◌*◌, ◌/◌, ◌%◌, ◌^◌, ◌<◌, ◌≤◌, ℤ, pos, negsuc, List, [], ◌∷◌, length, drop, nat_lt, nat_le, ◌==◌, if◌then◌else◌, Result, Ok, Err, slice_index}
 use Rattle.varint.specs.declared.error.VarintError.{VarintError}
@@ -50,12 +50,12 @@ signed (Ok (n, rest)) = Ok (unzigzag n, rest)
 signed (Err e) = Err e
 
 -- a varint
-unfoldable pub i32_at : List ℕ → Read ℤ
-i32_at bytes = signed (number_at 0xffff_ffff bytes)
+unfoldable pub varint_at : List ℕ → Read ℤ
+varint_at bytes = signed (number_at 0xffff_ffff bytes)
 
 -- a varlong
-unfoldable pub i64_at : List ℕ → Read ℤ
-i64_at bytes = signed (number_at 0xffff_ffff_ffff_ffff bytes)
+unfoldable pub varlong_at : List ℕ → Read ℤ
+varlong_at bytes = signed (number_at 0xffff_ffff_ffff_ffff bytes)
 
 -- What a reader that answers a value and the bytes used gives, as the value and the bytes after it.
 abbrev pub Gives : {T : Type 0} → List ℕ → Result (T × ℕ) VarintError → Read T → Type 0

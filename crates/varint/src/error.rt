@@ -9,7 +9,7 @@ pub enum VarintError {
     /// The digits go on past the number's width.
     #[error("TooLong")]
     TooLong,
-    /// The last of several digits is 0, so that a shorter spelling stands for the same number.
+    /// The last of several digits is 0, so that a shorter encoding stands for the same number.
     #[error("NotShortest")]
     NotShortest,
 }

@@ -2,8 +2,8 @@
 
 ghost use Rattle.std.specs.Prelude.{◌≡◌, ◌≤◌, ◌*◌, ◌+◌, ◌/◌, ◌<◌, ◌++◌, ◌↔◌, ℤ, ℕ, List, IfOk, IsErrOf, Ok, FitsSigned, drop, length};
 ghost use Rattle.std.specs.Int.{w32, w64};
-ghost use Rattle.varint.specs.Spelling.{spelling, zigzag};
-ghost use Rattle.varint.specs.Reading.{Gives, IsGreatest, IsShort, IsTooLong, IsNotShortest, number_at, signed, i32_at, i64_at};
+ghost use Rattle.varint.specs.Encoding.{encoding, zigzag};
+ghost use Rattle.varint.specs.Reading.{Gives, IsGreatest, IsShort, IsTooLong, IsNotShortest, number_at, signed, varint_at, varlong_at};
 
 use crate::error::VarintError;
 use crate::zigzag::number_of;
@@ -45,7 +45,7 @@ fn read_number(bytes: &[u8], limit: u64) -> Result<(u64, usize), VarintError>
 
 /// The signed number at the front, whose place in 0, -1, 1, -2 and so on is at most `limit`, and the bytes used.
 #[inline]
-#[tactic(auto, using(crate::proofs::Laws::number_last, crate::proofs::Number::number_two), unfolding(crate::specs::Reading::number_at))]
+#[tactic(auto, using(crate::proofs::Encodings::number_last, crate::proofs::Number::number_two), unfolding(crate::specs::Reading::number_at))]
 fn read_signed(bytes: &[u8], limit: u64) -> Result<(i64, usize), VarintError>
     requires large { 16384 ≤ limit }
     requires greatest { IsGreatest limit }
@@ -62,9 +62,9 @@ fn read_signed(bytes: &[u8], limit: u64) -> Result<(i64, usize), VarintError>
 
 /// The number of 32 bits at the front, and the bytes used.
 #[inline]
-#[tactic(auto, using(crate::proofs::Laws::narrowed), unfolding(crate::specs::Reading::i32_at))]
+#[tactic(auto, using(crate::proofs::Encodings::narrowed), unfolding(crate::specs::Reading::varint_at))]
 fn number_i32(bytes: &[u8]) -> Result<(i32, usize), VarintError>
-    ensures { Gives bytes.now result (i32_at bytes.now) }
+    ensures { Gives bytes.now result (varint_at bytes.now) }
 {
     let (value, used) = read_signed(bytes, GREATEST_I32)?;
     Ok((value as i32, used))
@@ -72,9 +72,9 @@ fn number_i32(bytes: &[u8]) -> Result<(i32, usize), VarintError>
 
 /// The number of 64 bits at the front, and the bytes used.
 #[inline]
-#[tactic(auto, unfolding(crate::specs::Reading::i64_at))]
+#[tactic(auto, unfolding(crate::specs::Reading::varlong_at))]
 fn number_i64(bytes: &[u8]) -> Result<(i64, usize), VarintError>
-    ensures { Gives bytes.now result (i64_at bytes.now) }
+    ensures { Gives bytes.now result (varlong_at bytes.now) }
 {
     read_signed(bytes, GREATEST_I64)
 }
@@ -89,12 +89,12 @@ fn number_i64(bytes: &[u8]) -> Result<(i64, usize), VarintError>
 #[inline]
 pub fn read_i32(bytes: &[u8]) -> Result<(i32, usize), VarintError>
     // What is read, or why nothing is.
-    ensures read { Gives bytes.now result (i32_at bytes.now) }
-    // What is read is spelled so.
-    ensures found { IfOk result (λ read. (bytes.now ≡ spelling read.0 ++ drop read.1 bytes.now) × (read.1 ≡ length (spelling read.0))) }
+    ensures read { Gives bytes.now result (varint_at bytes.now) }
+    // What is read is encoded so.
+    ensures found { IfOk result (λ read. (bytes.now ≡ encoding read.0 ++ drop read.1 bytes.now) × (read.1 ≡ length (encoding read.0))) }
     ensures within { IfOk result (λ read. read.1 ≤ length bytes.now) }
-    // What is spelled so is read, whatever follows it.
-    ensures again { (v : ℤ) (rest : List ℕ) → FitsSigned w32 v → bytes.now ≡ spelling v ++ rest → result ≡ Ok (v, length (spelling v)) }
+    // What is encoded so is read, whatever follows it.
+    ensures again { (v : ℤ) (rest : List ℕ) → FitsSigned w32 v → bytes.now ≡ encoding v ++ rest → result ≡ Ok (v, length (encoding v)) }
     ensures short { IsErrOf result VarintError.Short ↔ IsShort 5 bytes.now }
     ensures too_long { IsErrOf result VarintError.TooLong ↔ IsTooLong 5 0x0f bytes.now }
     ensures not_shortest { IsErrOf result VarintError.NotShortest ↔ IsNotShortest 5 0x0f bytes.now }
@@ -112,12 +112,12 @@ pub fn read_i32(bytes: &[u8]) -> Result<(i32, usize), VarintError>
 #[inline]
 pub fn read_i64(bytes: &[u8]) -> Result<(i64, usize), VarintError>
     // What is read, or why nothing is.
-    ensures read { Gives bytes.now result (i64_at bytes.now) }
-    // What is read is spelled so.
-    ensures found { IfOk result (λ read. (bytes.now ≡ spelling read.0 ++ drop read.1 bytes.now) × (read.1 ≡ length (spelling read.0))) }
+    ensures read { Gives bytes.now result (varlong_at bytes.now) }
+    // What is read is encoded so.
+    ensures found { IfOk result (λ read. (bytes.now ≡ encoding read.0 ++ drop read.1 bytes.now) × (read.1 ≡ length (encoding read.0))) }
     ensures within { IfOk result (λ read. read.1 ≤ length bytes.now) }
-    // What is spelled so is read, whatever follows it.
-    ensures again { (v : ℤ) (rest : List ℕ) → FitsSigned w64 v → bytes.now ≡ spelling v ++ rest → result ≡ Ok (v, length (spelling v)) }
+    // What is encoded so is read, whatever follows it.
+    ensures again { (v : ℤ) (rest : List ℕ) → FitsSigned w64 v → bytes.now ≡ encoding v ++ rest → result ≡ Ok (v, length (encoding v)) }
     ensures short { IsErrOf result VarintError.Short ↔ IsShort 10 bytes.now }
     ensures too_long { IsErrOf result VarintError.TooLong ↔ IsTooLong 10 0x01 bytes.now }
     ensures not_shortest { IsErrOf result VarintError.NotShortest ↔ IsNotShortest 10 0x01 bytes.now }

@@ -48,7 +48,7 @@ fn numbers_of_64_bits(rt: HostRuntime) -> Result<(), Fail> {
 
 #[test]
 fn refusals(rt: HostRuntime) {
-    one_spelling();
+    one_encoding();
     let rows: [(&[u8], VarintError); 4] = [
         (&[], VarintError::Short),
         (&[0x80], VarintError::Short),

@@ -1,7 +1,7 @@
 //! Signed numbers as numbers from 0 on, those near 0 first.
 
 ghost use Rattle.std.specs.Prelude.{◌≡◌};
-ghost use Rattle.varint.specs.Spelling.{zigzag};
+ghost use Rattle.varint.specs.Encoding.{zigzag};
 ghost use Rattle.varint.specs.Reading.{unzigzag};
 
 /// The place of a number in 0, -1, 1, -2 and so on.

@@ -1,5 +1,5 @@
 use Rattle.std.proofs.Common.{arith}
-use Rattle.varint.proofs.Laws.{IsBytes}
+use Rattle.varint.proofs.Encodings.{IsBytes}
 use Rattle.varint.proofs.Readers.{is_within, is_found32, is_again32, refusals32}
 use Rattle.varint.proofs.reading.read_i32.Goals as goal
 

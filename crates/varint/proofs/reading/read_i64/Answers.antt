@@ -1,5 +1,5 @@
 use Rattle.std.proofs.Common.{arith}
-use Rattle.varint.proofs.Laws.{IsBytes}
+use Rattle.varint.proofs.Encodings.{IsBytes}
 use Rattle.varint.proofs.Readers.{is_within, is_found64, is_again64, refusals64}
 use Rattle.varint.proofs.reading.read_i64.Goals as goal
 

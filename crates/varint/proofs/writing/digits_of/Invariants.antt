@@ -1,5 +1,5 @@
 use Rattle.std.proofs.Common.{◌≡◌, ◌-◌, ◌*◌, ◌^◌, ◌<◌, ◌≤◌, ◌++◌, length, take}
-use Rattle.varint.specs.Spelling.{digits}
+use Rattle.varint.specs.Encoding.{digits}
 use Rattle.varint.proofs.writing.digits_of.Given as goal
 
 abbrev pub invariant-loop-rest : goal.invariant-loop-rest

@@ -12,9 +12,9 @@ unfoldable pub digits : ℕ → ℕ → List ℕ
 digits zero n = n ∷ []
 digits (suc more) n = if nat_lt n 128 then n ∷ [] else (128 + n % 128) ∷ digits more (n / 128)
 
--- The one spelling of a number. Ten digits are enough for 64 bits.
-unfoldable pub spelling : ℤ → List ℕ
-spelling v = digits 9 (zigzag v)
+-- The one encoding of a number. Ten digits are enough for 64 bits.
+unfoldable pub encoding : ℤ → List ℕ
+encoding v = digits 9 (zigzag v)
 
 -- what bytes stand for, the lowest first, a mark counting for nothing
 abbrev pub digits_value : List ℕ → ℕ

@@ -1,4 +1,4 @@
--- What is read is the spelling of its value, and each spelling is read again, whatever follows it.
+-- What is read is the encoding of its value, and each encoding is read again, whatever follows it.
 use Rattle.std.proofs.Common.{◌≡◌, ℕ, zero, suc, ◌+◌, ◌-◌, ◌*◌, ◌/◌, ◌%◌, ◌^◌, ◌<◌, ◌≤◌, true, false, ltb, leb, eqb, List, [], ◌∷◌, ◌++◌, length, get_or, Result, Ok, Err, refl, sym, ap, ◌∙◌, inl, inr, to_z, of_z, arith}
 use Rattle.std.specs.Prelude.{ℤ, pos, negsuc, FitsSigned}
 use Rattle.std.specs.Int.{w32, w64}
@@ -6,8 +6,8 @@ use Rattle.std.proofs.lemmas.Bool.{cases_lt, cond_both, lt-ltb, le-ltb, le-leb, 
 use Rattle.std.proofs.lemmas.Int.{to_z-of_z}
 use Rattle.varint.specs.declared.error.VarintError.{VarintError}
 use Rattle.varint.specs.declared.error.VarintError.TheVariants.{TooLong}
-use Rattle.varint.specs.Spelling.{zigzag, digits, spelling, digits_value, IsShortest}
-use Rattle.varint.specs.Reading.{Read, unzigzag, with_digit, number_at, signed, i32_at, i64_at}
+use Rattle.varint.specs.Encoding.{zigzag, digits, encoding, digits_value, IsShortest}
+use Rattle.varint.specs.Reading.{Read, unzigzag, with_digit, number_at, signed, varint_at, varlong_at}
 
 abbrev pub IsBytes : List ℕ → Type 0
 IsBytes bytes = (i : ℕ) → get_or bytes i 0 < 256
@@ -78,7 +78,7 @@ digits_more more n le = rw (le-ltb n 128 le) refl
 IsBytes-rest : (b : ℕ) (bytes : List ℕ) → IsBytes (b ∷ bytes) → IsBytes bytes
 IsBytes-rest b bytes fits i = fits (suc i)
 
--- ---- what was spelled is read again
+-- ---- what was encoded is read again
 
 with_digit-more : (b high : ℕ) (rest : List ℕ) → 0 < high → with_digit b (Ok (high, rest)) ≡ Ok ((b - 128) + 128 * high, rest)
 with_digit-more b zero rest lt = absurd (omega arith)
@@ -110,7 +110,7 @@ number_again (suc more) limit n rest wide le =
           rw (digits_more more n large) (one ∙ ap (λ (k : ℕ). Ok (k, rest)) value)
     ]
 
--- ---- what is read is spelled so
+-- ---- what is read is encoded so
 
 abbrev Takes : ℕ → ℕ → List ℕ → Read ℕ → Type 0
 Takes more limit bytes (Ok (n, rest)) = (bytes ≡ digits more n ++ rest) × (n ≤ limit)
@@ -156,8 +156,8 @@ done x = Ok x
 pub ok_is : {A : Type 0} (x y : A) → done x ≡ done y → x ≡ y
 ok_is x y e = cc
 
-signed_takes : (bytes : List ℕ) (read : Read ℕ) (limit : ℕ) (v : ℤ) (rest : List ℕ) → Takes 9 limit bytes read → signed read ≡ Ok (v, rest) → (bytes ≡ spelling v ++ rest) × (zigzag v ≤ limit)
-unfolding spelling
+signed_takes : (bytes : List ℕ) (read : Read ℕ) (limit : ℕ) (v : ℤ) (rest : List ℕ) → Takes 9 limit bytes read → signed read ≡ Ok (v, rest) → (bytes ≡ encoding v ++ rest) × (zigzag v ≤ limit)
+unfolding encoding
 signed_takes bytes (Ok (n, after)) limit v rest h e =
     let both = ok_is (unzigzag n, after) (v, rest) e in
     let value : unzigzag n ≡ v = ap (λ (x : ℤ × List ℕ). x.0) both in
@@ -166,26 +166,26 @@ signed_takes bytes (Ok (n, after)) limit v rest h e =
     (rw (← number, ← left) h.0, rw (← number) h.1)
 signed_takes bytes (Err d) limit v rest h e = absurd cc
 
-signed_again : (limit : ℕ) (v : ℤ) (rest : List ℕ) → IsLimit 9 limit → zigzag v ≤ limit → signed (number_at limit (spelling v ++ rest)) ≡ Ok (v, rest)
-unfolding spelling
+signed_again : (limit : ℕ) (v : ℤ) (rest : List ℕ) → IsLimit 9 limit → zigzag v ≤ limit → signed (number_at limit (encoding v ++ rest)) ≡ Ok (v, rest)
+unfolding encoding
 signed_again limit v rest wide le = rw (number_again 9 limit (zigzag v) rest wide le, unzigzag-zigzag v) refl
 
-pub i32_again : (v : ℤ) (rest : List ℕ) → FitsSigned w32 v → i32_at (spelling v ++ rest) ≡ Ok (v, rest)
-unfolding i32_at
+pub i32_again : (v : ℤ) (rest : List ℕ) → FitsSigned w32 v → varint_at (encoding v ++ rest) ≡ Ok (v, rest)
+unfolding varint_at
 i32_again v rest fits = signed_again 0xffff_ffff v rest limit32 (zigzag_fits32 v fits)
 
-pub i64_again : (v : ℤ) (rest : List ℕ) → FitsSigned w64 v → i64_at (spelling v ++ rest) ≡ Ok (v, rest)
-unfolding i64_at
+pub i64_again : (v : ℤ) (rest : List ℕ) → FitsSigned w64 v → varlong_at (encoding v ++ rest) ≡ Ok (v, rest)
+unfolding varlong_at
 i64_again v rest fits = signed_again 0xffff_ffff_ffff_ffff v rest limit64 (zigzag_fits64 v fits)
 
-pub i32_takes : (bytes : List ℕ) (v : ℤ) (rest : List ℕ) → IsBytes bytes → i32_at bytes ≡ Ok (v, rest) → (bytes ≡ spelling v ++ rest) × FitsSigned w32 v
-unfolding i32_at
+pub i32_takes : (bytes : List ℕ) (v : ℤ) (rest : List ℕ) → IsBytes bytes → varint_at bytes ≡ Ok (v, rest) → (bytes ≡ encoding v ++ rest) × FitsSigned w32 v
+unfolding varint_at
 i32_takes bytes v rest fits e =
     let found = signed_takes bytes (number_at 0xffff_ffff bytes) 0xffff_ffff v rest (number_takes 9 0xffff_ffff bytes limit32 fits) e in
     (found.0, fits32 v found.1)
 
-pub i64_takes : (bytes : List ℕ) (v : ℤ) (rest : List ℕ) → IsBytes bytes → i64_at bytes ≡ Ok (v, rest) → (bytes ≡ spelling v ++ rest) × FitsSigned w64 v
-unfolding i64_at
+pub i64_takes : (bytes : List ℕ) (v : ℤ) (rest : List ℕ) → IsBytes bytes → varlong_at bytes ≡ Ok (v, rest) → (bytes ≡ encoding v ++ rest) × FitsSigned w64 v
+unfolding varlong_at
 i64_takes bytes v rest fits e =
     let found = signed_takes bytes (number_at 0xffff_ffff_ffff_ffff bytes) 0xffff_ffff_ffff_ffff v rest (number_takes 9 0xffff_ffff_ffff_ffff bytes limit64 fits) e in
     (found.0, fits64 v found.1)
@@ -199,11 +199,11 @@ digits_len (suc more) n =
     (λ e. (omega arith, omega arith))
     (λ e. (omega arith, omega arith))
 
-pub spelling_len : (v : ℤ) → (1 ≤ length (spelling v)) × (length (spelling v) ≤ 10)
-unfolding spelling
-spelling_len v = digits_len 9 (zigzag v)
+pub encoding_len : (v : ℤ) → (1 ≤ length (encoding v)) × (length (encoding v) ≤ 10)
+unfolding encoding
+encoding_len v = digits_len 9 (zigzag v)
 
--- ---- each number of 64 bits has one spelling
+-- ---- each number of 64 bits has one encoding
 
 shortest_more : (b : ℕ) (bytes : List ℕ) → 127 < b → b < 256 → 0 < digits_value bytes → IsShortest bytes → IsShortest (b ∷ bytes)
 shortest_more b [] mark byte some shortest = absurd shortest
@@ -223,9 +223,9 @@ digits_shortest (suc more) limit n wide le =
           rw (digits_more more n large) (shortest, omega arith)
     ]
 
-pub spelling_shortest : (v : ℤ) → FitsSigned w64 v → IsShortest (spelling v) × (digits_value (spelling v) ≡ zigzag v)
-unfolding spelling
-spelling_shortest v fits = digits_shortest 9 0xffff_ffff_ffff_ffff (zigzag v) limit64 (zigzag_fits64 v fits)
+pub encoding_shortest : (v : ℤ) → FitsSigned w64 v → IsShortest (encoding v) × (digits_value (encoding v) ≡ zigzag v)
+unfolding encoding
+encoding_shortest v fits = digits_shortest 9 0xffff_ffff_ffff_ffff (zigzag v) limit64 (zigzag_fits64 v fits)
 
 -- bytes that are shortest are the digits of their value
 shortest_digits : (more limit : ℕ) (bytes : List ℕ) → IsLimit more limit → IsShortest bytes → digits_value bytes ≤ limit → bytes ≡ digits more (digits_value bytes)
@@ -246,14 +246,14 @@ shortest_digits (suc more) limit (b ∷ c ∷ bytes) wide shortest le =
     let high : digits_value (b ∷ c ∷ bytes) / 128 ≡ digits_value (c ∷ bytes) = omega arith in
     sym (digits_more more (digits_value (b ∷ c ∷ bytes)) above ∙ ap (λ (d : ℕ). d ∷ digits more (digits_value (b ∷ c ∷ bytes) / 128)) digit ∙ ap (λ (k : ℕ). b ∷ digits more k) high ∙ ap (λ (x : List ℕ). b ∷ x) (sym others))
 
-pub spelling_only : (v : ℤ) (bytes : List ℕ) → FitsSigned w64 v → IsShortest bytes → digits_value bytes ≡ zigzag v → bytes ≡ spelling v
-unfolding spelling
-spelling_only v bytes fits shortest value =
+pub encoding_only : (v : ℤ) (bytes : List ℕ) → FitsSigned w64 v → IsShortest bytes → digits_value bytes ≡ zigzag v → bytes ≡ encoding v
+unfolding encoding
+encoding_only v bytes fits shortest value =
     let le : digits_value bytes ≤ 0xffff_ffff_ffff_ffff = omega (arith, zigzag_fits64 v fits) in
     shortest_digits 9 0xffff_ffff_ffff_ffff bytes limit64 shortest le ∙ ap (digits 9) value
 
--- no spelling begins another
-pub spelling_apart : (v w : ℤ) (x y : List ℕ) → FitsSigned w64 v → FitsSigned w64 w → spelling v ++ x ≡ spelling w ++ y → (v ≡ w) × (x ≡ y)
-spelling_apart v w x y first second e =
-    let both = ok_is (v, x) (w, y) (sym (i64_again v x first) ∙ ap i64_at e ∙ i64_again w y second) in
+-- no encoding begins another
+pub encoding_apart : (v w : ℤ) (x y : List ℕ) → FitsSigned w64 v → FitsSigned w64 w → encoding v ++ x ≡ encoding w ++ y → (v ≡ w) × (x ≡ y)
+encoding_apart v w x y first second e =
+    let both = ok_is (v, x) (w, y) (sym (i64_again v x first) ∙ ap varlong_at e ∙ i64_again w y second) in
     (ap (λ (p : ℤ × List ℕ). p.0) both, ap (λ (p : ℤ × List ℕ). p.1) both)
