@@ -1,0 +1,13 @@
+pub mod Keyed
+pub mod Records
+pub mod Table
+pub mod Windows
+pub mod Verdicts
+pub mod Content
+pub mod Deliveries
+pub mod Joins
+pub mod Cleaning
+pub mod PlainLog
+pub mod Copies
+pub mod LegalLog
+pub mod Examples
