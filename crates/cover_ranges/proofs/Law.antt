@@ -8,12 +8,12 @@ use Rattle.cover_ranges.specs.Runs.{Runs, is_within, covers, IsRun, IsApart, IsC
 use Rattle.cover_ranges.proofs.Runs.{in_run, before_run, past_run}
 
 -- the first run, the others past it, and the others alone
-record Opened (x : ℤ × ℤ) (xs : Runs) : Type 0 where
-  run : IsRun x
-  past : All (IsApart x) xs
-  rest : IsCanonical xs
+pub record Opened (x : ℤ × ℤ) (xs : Runs) : Type 0 where
+  pub run : IsRun x
+  pub past : All (IsApart x) xs
+  pub rest : IsCanonical xs
 
-opened : (x : ℤ × ℤ) (xs : Runs) → IsCanonical (x ∷ xs) → Opened x xs
+pub opened : (x : ℤ × ℤ) (xs : Runs) → IsCanonical (x ∷ xs) → Opened x xs
 opened x xs c = record {
   run = c.are_runs 0 x (omega arith);
   past = λ k d h. c.apart 0 (suc k) d (omega arith) (omega arith);

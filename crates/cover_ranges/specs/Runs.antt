@@ -1,5 +1,6 @@
--- A set of offsets as its maximal runs. An offset names a place in a partition's log: it is not negative, it rises
--- with each record, and a log that was compacted has gaps (Kafka's documentation, "Log Compaction").
+-- A set of offsets as its maximal runs. An offset is the position of a record in a partition's log:
+-- it is not negative, it rises with each record, and a log that was compacted has gaps (Kafka's
+-- documentation, "Log Compaction").
 use Rattle.std.specs.Prelude.{◌^◌, ℤ, pos, ◌+ℤ◌, ◌<ℤ◌, ◌≤ℤ◌, int_lt, int_le, Bool, ◌&&◌, ◌||◌, IsTrue, Option, None, Some, List, [], ◌∷◌, if◌then◌else◌}
 use Rattle.std.specs.List.{All, AllPairs, list_any, filter_map, fold}
 use Rattle.std.specs.Int.{int_min, int_max}
@@ -31,7 +32,7 @@ pub record IsCanonical (runs : Runs) : Type 0 where
 
 -- ---- sets made of others
 
--- the runs with those offsets besides that lie from `first` to `last`, joined with every run that they touch
+-- the offsets of the runs and those from `first` to `last`, joined with every run that these touch
 unfoldable pub with_range : ℤ → ℤ → Runs → Runs
 with_range first last [] = (first, last) ∷ []
 with_range first last (run ∷ runs) =
@@ -39,7 +40,7 @@ with_range first last (run ∷ runs) =
     else if int_lt (last +ℤ pos 1) run.0 then (first, last) ∷ run ∷ runs
     else with_range (int_min first run.0) (int_max last run.1) runs
 
--- the runs of a with each range of b besides
+-- the offsets of both: the runs of a, and one after another those of b
 abbrev pub union_of : Runs → Runs → Runs
 union_of a b = fold (λ runs range. with_range range.0 range.1 runs) a b
 
@@ -57,9 +58,10 @@ end_of start runs = fold (λ _ run. run.1 +ℤ pos 1) start runs
 
 -- ---- questions
 
--- whether one run holds all offsets from `first` to `last`; of no offsets it says that they are there
+-- whether one run holds all offsets from `first` to `last`; true where there are none
 abbrev pub has_all : Runs → ℤ → ℤ → Bool
-has_all runs first last = int_lt last first || list_any (λ run. int_le run.0 first && int_le last run.1) runs
+has_all runs first last =
+    int_lt last first || list_any (λ run. int_le run.0 first && int_le last run.1) runs
 
 -- each offset from `first` to `last` is covered
 abbrev pub CoversAll : Runs → ℤ → ℤ → Type 0
