@@ -5,17 +5,18 @@ use Rattle.batch_codec.specs.Offsets.{IsWhole, HasKeys, first_offset}
 use Rattle.content.specs.declared.delivery.DeliverError.{DeliverError}
 use Rattle.content.specs.declared.delivery.DeliverError.TheVariants.{NotWhole, NoKey, BadOffset, Overlap, OutOfMemory}
 use Rattle.content.specs.Content.{IsInRange, IsLogBatch}
-use Rattle.content.specs.PlainLog.{next_offset}
+use Rattle.content.specs.Logs.{next_offset}
 
--- the batch begins after all that were taken
+-- The batch begins after all that were accepted before: so far `PartitionLog::deliver` takes batches
+-- in the order of their offsets only, though `add` means any order.
 abbrev pub IsAfter : List BatchValue → BatchValue → Type 0
-IsAfter taken b = next_offset taken ≤ℤ first_offset b
+IsAfter accepted b = next_offset accepted ≤ℤ first_offset b
 
--- the first that holds, in the order of the checks; a batch with none of these faults is refused only
--- where there is no memory for it
+-- The first fault in the order of the checks. A batch without a fault is refused only for lack of
+-- memory.
 abbrev pub Refuses : List BatchValue → BatchValue → DeliverError → Type 0
-Refuses taken b NotWhole = ¬ IsWhole b
-Refuses taken b NoKey = IsWhole b × ¬ HasKeys b
-Refuses taken b BadOffset = IsWhole b × HasKeys b × ¬ IsInRange b
-Refuses taken b Overlap = IsLogBatch b × ¬ IsAfter taken b
-Refuses taken b OutOfMemory = IsLogBatch b × IsAfter taken b
+Refuses accepted b NotWhole = ¬ IsWhole b
+Refuses accepted b NoKey = IsWhole b × ¬ HasKeys b
+Refuses accepted b BadOffset = IsWhole b × HasKeys b × ¬ IsInRange b
+Refuses accepted b Overlap = IsLogBatch b × ¬ IsAfter accepted b
+Refuses accepted b OutOfMemory = IsLogBatch b × IsAfter accepted b

@@ -1,13 +1,14 @@
-pub mod Keyed
+-- Read in this order; each module uses only those above it.
+pub mod ByOffset
 pub mod Records
 pub mod Table
+pub mod Content
 pub mod Windows
 pub mod Verdicts
-pub mod Content
-pub mod Deliveries
-pub mod Joins
 pub mod Cleaning
-pub mod PlainLog
+pub mod Joins
+pub mod Logs
 pub mod Copies
-pub mod LegalLog
+pub mod LegalLogs
+pub mod Deliveries
 pub mod Examples

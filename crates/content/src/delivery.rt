@@ -1,4 +1,4 @@
-//! What comes of a delivery.
+//! The outcomes of a delivery.
 
 use thiserror::Error;
 
@@ -11,7 +11,7 @@ pub enum Delivered {
     Repeat,
 }
 
-/// Why a copy takes no batch: the first of these that holds, in the order of the variants.
+/// Why a copy refuses a batch: the first of these that applies, in the order of the variants.
 #[derive(Clone, Copy, Debug, PartialEq, Eq, Error)]
 pub enum DeliverError {
     /// A record of the batch's span is missing.
@@ -23,7 +23,7 @@ pub enum DeliverError {
     /// An offset of the span is below 0 or above 2^62 - 1.
     #[error("BadOffset")]
     BadOffset,
-    /// The base is at most the last offset that was taken.
+    /// The base offset is not above the last offset accepted so far.
     #[error("Overlap")]
     Overlap,
     /// There is no memory to keep the batch.

@@ -1,98 +1,97 @@
 //! The definitions worked out on small contents. The functions do nothing: each clause is an example
 //! whose outcome was found by hand.
+#![tactic(auto, unfolding(crate::specs::ByOffset::put, cover_ranges::specs::Runs::with_range, crate::specs::Table::table_of, crate::specs::Joins::join, crate::specs::Verdicts::verdict))]
 
-ghost use Rattle.std.specs.Prelude.{◌≡◌, ℤ, pos, List, [], ◌∷◌, true, Some, None};
-ghost use Rattle.batch_codec.specs.Offsets.{first_offset, IsWhole};
-ghost use Rattle.content.specs.declared.verdict.Verdict.TheVariants.{New, Repeat, OldEpoch, OutOfOrder};
-ghost use Rattle.content.specs.Content.{nothing, add, knows_all, shown, cut};
+ghost use Rattle.std.specs.Prelude.{◌≡◌, pos, [], ◌∷◌, true, Some, None};
 ghost use Rattle.std.specs.FinMap.{get};
+ghost use Rattle.batch_codec.specs.Offsets.{IsWhole};
+ghost use Rattle.content.specs.declared.verdict.Verdict.TheVariants.{New, Repeat, OldEpoch, OutOfOrder};
+ghost use Rattle.content.specs.Content.{empty, add, end, has_seen_all, shown_table};
 ghost use Rattle.content.specs.Windows.{heads, window};
 ghost use Rattle.content.specs.Verdicts.{verdict};
 ghost use Rattle.content.specs.Joins.{join, AgreeAt};
 ghost use Rattle.content.specs.Cleaning.{clean, clean_report};
-ghost use Rattle.content.specs.Copies.{end};
-ghost use Rattle.content.specs.Examples.{text, a, b, numbered, batch_0, batch_1, batch_2, batch_3, other_0, first_three, four_batches, twice_a, thin_a, a_b_a_b, latest_a_b, five_and_one, sixth};
+ghost use Rattle.content.specs.Examples.{key_a, key_b, two, three, numbered, batch_0, batch_1, batch_2, batch_3, other_0, three_then_one, copy_of_three, cleaned_three, cut_at_2, twice_a, thin_a, cleaned_twice_a, a_b_a_b, latest_a_b, five_and_one, sixth};
 
-/// Deliveries in any order, the last of them a repeat.
-#[tactic(auto, unfolding(crate::specs::Keyed::put, cover_ranges::specs::Runs::with_range, crate::specs::Table::table_of))]
+/// Deliveries in any order, and one that comes again.
 pub fn deliveries()
-    ensures cover { (add (add nothing batch_3) batch_1).cover ≡ (pos 1, pos 1) ∷ (pos 3, pos 3) ∷ [] }
-    ensures kept { (add (add nothing batch_3) batch_1).kept ≡ batch_1 ∷ batch_3 ∷ [] }
-    ensures repeat { knows_all (add (add nothing batch_3) batch_1) batch_3 ≡ true }
-    ensures table { get (shown (add (add nothing batch_3) batch_1)) b ≡ Some (text 0x33) }
-    ensures end { end (add (add nothing batch_3) batch_1) ≡ pos 4 }
+    ensures sees_1_and_3 { three_then_one.cover ≡ (pos 1, pos 1) ∷ (pos 3, pos 3) ∷ [] }
+    ensures keeps_both { three_then_one.kept ≡ batch_1 ∷ batch_3 ∷ [] }
+    ensures knows_a_repeat { has_seen_all three_then_one batch_3 ≡ true }
+    ensures b_is_3 { get (shown_table three_then_one) key_b ≡ three }
+    ensures ends_at_4 { end three_then_one ≡ pos 4 }
 {}
 
-/// A delete marker goes only where all before it was seen.
-#[tactic(auto, unfolding(crate::specs::Keyed::put, cover_ranges::specs::Runs::with_range, crate::specs::Table::table_of, crate::specs::Joins::join, crate::specs::Verdicts::verdict))]
+/// A tombstone stays where some offset before it was not seen.
 pub fn cleaning_with_a_gap()
-    ensures nothing_goes { clean (pos 4) (pos 4) (add nothing batch_2) ≡ add nothing batch_2 }
-    ensures report { clean_report (pos 4) (pos 4) (add nothing batch_2)
+    ensures tombstone_stays { clean (pos 4) (pos 4) (add empty batch_2) ≡ add empty batch_2 }
+    ensures report { clean_report (pos 4) (pos 4) (add empty batch_2)
         ≡ record { records = 0; tombstones = 0; batches = 0 } }
-    ensures table { get (shown (add (clean (pos 4) (pos 4) (add nothing batch_2)) batch_0)) a ≡ None }
+    ensures late_a_stays_deleted { get (shown_table (add (clean (pos 4) (pos 4) (add empty batch_2)) batch_0)) key_a ≡ None }
 {}
 
 /// A cleaned copy merged with one that holds what the cleaning took away.
-#[tactic(auto, unfolding(crate::specs::Keyed::put, cover_ranges::specs::Runs::with_range, crate::specs::Table::table_of, crate::specs::Joins::join, crate::specs::Verdicts::verdict))]
 pub fn a_deleted_key_stays_deleted()
-    ensures held { (clean (pos 3) (pos 3) first_three).kept ≡ batch_1 ∷ [] }
-    ensures report { clean_report (pos 3) (pos 3) first_three
+    ensures only_b_stays { cleaned_three.kept ≡ batch_1 ∷ [] }
+    ensures report { clean_report (pos 3) (pos 3) copy_of_three
         ≡ record { records = 1; tombstones = 1; batches = 2 } }
-    ensures merged { join (clean (pos 3) (pos 3) first_three) (add nothing batch_0)
-        ≡ clean (pos 3) (pos 3) first_three }
-    ensures other_order { join (add nothing batch_0) (clean (pos 3) (pos 3) first_three)
-        ≡ clean (pos 3) (pos 3) first_three }
-    ensures with_itself { join first_three first_three ≡ first_three }
-    ensures cover { first_three.cover ≡ (pos 0, pos 2) ∷ [] }
-    ensures table { get (shown (clean (pos 3) (pos 3) first_three)) b ≡ Some (text 0x32) }
+    ensures old_copy_brings_nothing_back { join cleaned_three (add empty batch_0) ≡ cleaned_three }
+    ensures nor_in_other_order { join (add empty batch_0) cleaned_three ≡ cleaned_three }
+    ensures a_is_deleted { get (shown_table cleaned_three) key_a ≡ None }
+    ensures b_is_2 { get (shown_table cleaned_three) key_b ≡ two }
 {}
 
-/// A batch of which a part is cleaned away keeps its head, and travels by a merge alone.
-#[tactic(auto, unfolding(crate::specs::Keyed::put, cover_ranges::specs::Runs::with_range, crate::specs::Table::table_of, crate::specs::Joins::join, crate::specs::Verdicts::verdict))]
+/// A copy merged with itself stays as it is.
+pub fn a_merge_with_itself()
+    ensures same { join copy_of_three copy_of_three ≡ copy_of_three }
+    ensures sees_all { copy_of_three.cover ≡ (pos 0, pos 2) ∷ [] }
+{}
+
+/// A batch of which a part is cleaned away keeps its head, and reaches another copy only by a merge.
 pub fn a_thinned_batch()
-    ensures report { clean_report (pos 2) (pos 0) (add nothing twice_a)
+    ensures report { clean_report (pos 2) (pos 0) (add empty twice_a)
         ≡ record { records = 1; tombstones = 0; batches = 0 } }
-    ensures kept { (clean (pos 2) (pos 0) (add nothing twice_a)).kept ≡ thin_a ∷ [] }
-    ensures not_whole { ¬ IsWhole thin_a }
-    ensures merged { join nothing (clean (pos 2) (pos 0) (add nothing twice_a))
-        ≡ clean (pos 2) (pos 0) (add nothing twice_a) }
-    ensures table { get (shown (clean (pos 2) (pos 0) (add nothing twice_a))) a
-        ≡ Some (text 0x32) }
+    ensures latest_record_stays { cleaned_twice_a.kept ≡ thin_a ∷ [] }
+    ensures cannot_be_delivered { ¬ IsWhole thin_a }
+    ensures merge_carries_it { join empty cleaned_twice_a ≡ cleaned_twice_a }
+    ensures a_is_2 { get (shown_table cleaned_twice_a) key_a ≡ two }
 {}
 
-/// A batch is in reach as a whole, or not at all.
-#[tactic(auto, unfolding(crate::specs::Keyed::put, cover_ranges::specs::Runs::with_range, crate::specs::Table::table_of, crate::specs::Joins::join, crate::specs::Verdicts::verdict))]
+/// A batch is cleaned as a whole, or not at all.
 pub fn reach()
-    ensures short_of_it { clean (pos 3) (pos 0) (add nothing a_b_a_b) ≡ add nothing a_b_a_b }
-    ensures nothing_went { clean_report (pos 3) (pos 0) (add nothing a_b_a_b)
+    ensures bound_at_last_offset_cleans_nothing { clean (pos 3) (pos 0) (add empty a_b_a_b) ≡ add empty a_b_a_b }
+    ensures reports_nothing { clean_report (pos 3) (pos 0) (add empty a_b_a_b)
         ≡ record { records = 0; tombstones = 0; batches = 0 } }
-    ensures in_reach { (clean (pos 4) (pos 0) (add nothing a_b_a_b)).kept ≡ latest_a_b ∷ [] }
-    ensures report { clean_report (pos 4) (pos 0) (add nothing a_b_a_b)
+    ensures head_stays { (clean (pos 4) (pos 0) (add empty a_b_a_b)).kept ≡ latest_a_b ∷ [] }
+    ensures report { clean_report (pos 4) (pos 0) (add empty a_b_a_b)
         ≡ record { records = 2; tombstones = 0; batches = 0 } }
-    ensures cover { (clean (pos 4) (pos 0) (add nothing a_b_a_b)).cover ≡ (pos 0, pos 3) ∷ [] }
+    ensures offsets_stay_seen { (clean (pos 4) (pos 0) (add empty a_b_a_b)).cover ≡ (pos 0, pos 3) ∷ [] }
 {}
 
 /// A producer's newest five batches stay when they are empty, so that a retry is recognised.
-#[tactic(auto, unfolding(crate::specs::Keyed::put, cover_ranges::specs::Runs::with_range, crate::specs::Table::table_of, crate::specs::Joins::join, crate::specs::Verdicts::verdict))]
 pub fn retries()
     ensures report { clean_report (pos 6) (pos 0) five_and_one
         ≡ record { records = 5; tombstones = 0; batches = 0 } }
-    ensures stay { heads (clean (pos 6) (pos 0) five_and_one).kept ≡ heads five_and_one.kept }
-    ensures repeat { verdict (window (heads five_and_one.kept) (pos 7))
+    // So these are also the heads of the cleaned copy, by which the verdicts below go.
+    ensures empty_batches_stay { heads (clean (pos 6) (pos 0) five_and_one).kept ≡ heads five_and_one.kept }
+    // A batch at base 6 of producer 7, epoch 0, with sequence number 0.
+    ensures retry_is_recognised { verdict (window (heads five_and_one.kept) (pos 7))
         (numbered (pos 6) (pos 7) (pos 0) (pos 0)) ≡ Repeat (pos 0) }
-    ensures next { verdict (window (heads five_and_one.kept) (pos 7))
+    // The same with sequence number 5.
+    ensures next_is_new { verdict (window (heads five_and_one.kept) (pos 7))
         (numbered (pos 6) (pos 7) (pos 0) (pos 5)) ≡ New }
-    ensures too_old { verdict (window (heads (add five_and_one sixth).kept) (pos 7))
+    // Sequence number 0 after a sixth batch.
+    ensures too_old_is_out_of_order { verdict (window (heads (add five_and_one sixth).kept) (pos 7))
         (numbered (pos 7) (pos 7) (pos 0) (pos 0)) ≡ OutOfOrder }
 {}
 
-/// Sequence numbers go round, and an epoch begins with 0.
-#[tactic(auto, unfolding(crate::specs::Keyed::put, cover_ranges::specs::Runs::with_range, crate::specs::Table::table_of, crate::specs::Joins::join, crate::specs::Verdicts::verdict))]
+/// Sequence numbers wrap, and an epoch begins with 0. The four numbers are a batch's base, producer,
+/// epoch and sequence number.
 pub fn sequences()
-    ensures first { verdict [] (numbered (pos 0) (pos 8) (pos 0) (pos 2147483647)) ≡ New }
-    ensures round { verdict (numbered (pos 0) (pos 8) (pos 0) (pos 2147483647) ∷ [])
+    ensures any_first_sequence { verdict [] (numbered (pos 0) (pos 8) (pos 0) (pos 2147483647)) ≡ New }
+    ensures wraps_to_0 { verdict (numbered (pos 0) (pos 8) (pos 0) (pos 2147483647) ∷ [])
         (numbered (pos 1) (pos 8) (pos 0) (pos 0)) ≡ New }
-    ensures not_first { verdict (numbered (pos 1) (pos 8) (pos 0) (pos 0) ∷ [])
+    ensures new_epoch_must_begin_with_0 { verdict (numbered (pos 1) (pos 8) (pos 0) (pos 0) ∷ [])
         (numbered (pos 2) (pos 8) (pos 1) (pos 3)) ≡ OutOfOrder }
     ensures new_epoch { verdict (numbered (pos 1) (pos 8) (pos 0) (pos 0) ∷ [])
         (numbered (pos 2) (pos 8) (pos 1) (pos 0)) ≡ New }
@@ -100,22 +99,18 @@ pub fn sequences()
         (numbered (pos 3) (pos 8) (pos 0) (pos 0)) ≡ OldEpoch }
 {}
 
-/// Copies that were not filled from one log don't agree.
-#[tactic(auto, unfolding(crate::specs::Keyed::put, cover_ranges::specs::Runs::with_range, crate::specs::Table::table_of, crate::specs::Joins::join, crate::specs::Verdicts::verdict))]
+/// Copies of different logs may disagree: in a record, or in a batch's span.
 pub fn disagreement()
-    ensures records { ¬ AgreeAt (add nothing batch_0) (add nothing other_0) (pos 0) }
-    ensures span { ¬ AgreeAt (add nothing twice_a) (add nothing batch_0) (pos 0) }
+    ensures records { ¬ AgreeAt (add empty batch_0) (add empty other_0) (pos 0) }
+    ensures span { ¬ AgreeAt (add empty twice_a) (add empty batch_0) (pos 0) }
 {}
 
-/// A later start.
-#[tactic(auto, unfolding(crate::specs::Keyed::put, cover_ranges::specs::Runs::with_range, crate::specs::Table::table_of, crate::specs::Joins::join, crate::specs::Verdicts::verdict))]
+/// After a cut at offset 2 nothing below it counts or comes back.
 pub fn a_later_start()
-    ensures cover { (cut (pos 2) four_batches).cover ≡ (pos 2, pos 3) ∷ [] }
-    ensures table { get (shown (cut (pos 2) four_batches)) b ≡ Some (text 0x33) }
-    ensures report { clean_report (pos 4) (pos 4) (cut (pos 2) four_batches)
+    ensures sees_2_and_3 { cut_at_2.cover ≡ (pos 2, pos 3) ∷ [] }
+    ensures b_is_3 { get (shown_table cut_at_2) key_b ≡ three }
+    ensures tombstone_goes { clean_report (pos 4) (pos 4) cut_at_2
         ≡ record { records = 0; tombstones = 1; batches = 1 } }
-    ensures merged { join (add nothing batch_0) (cut (pos 2) four_batches)
-        ≡ cut (pos 2) four_batches }
-    ensures other_order { join (cut (pos 2) four_batches) (add nothing batch_0)
-        ≡ cut (pos 2) four_batches }
+    ensures nothing_below_2_returns { join (add empty batch_0) cut_at_2 ≡ cut_at_2 }
+    ensures nor_in_other_order { join cut_at_2 (add empty batch_0) ≡ cut_at_2 }
 {}

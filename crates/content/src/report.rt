@@ -3,10 +3,10 @@
 /// What a cleaning took away.
 #[derive(Clone, Copy, Debug, PartialEq, Eq)]
 pub struct CleanReport {
-    /// Records that went because a later one has their key.
+    /// Records removed because a later one has their key, tombstones among them.
     pub records: u64,
-    /// Delete markers that went.
+    /// Tombstones removed that no later record supersedes.
     pub tombstones: u64,
-    /// Batches that went.
+    /// Batches removed.
     pub batches: u64,
 }

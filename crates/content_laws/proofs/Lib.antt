@@ -1,2 +1,2 @@
-pub mod Keyed
+pub mod ByOffset
 pub mod Windows

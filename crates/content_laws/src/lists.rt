@@ -1,10 +1,10 @@
-//! Laws of lists by rising key.
+//! Laws of lists by rising offset.
 
 ghost use Rattle.std.specs.Prelude.{◌≡◌, ℤ, List};
-ghost use Rattle.content.specs.Keyed.{look_up, Rises};
+ghost use Rattle.content.specs.ByOffset.{look_up, Rises};
 
 /// Rising lists with equal look-ups are equal.
 pub fn equal_look_ups_make_equal_lists<T>()
-    ensures { (key : T → ℤ) (low from : ℤ) (xs ys : List T) → Rises key low xs → Rises key from ys
-        → ((k : ℤ) → look_up key k xs ≡ look_up key k ys) → xs ≡ ys }
+    ensures { (offset : T → ℤ) (low from : ℤ) (xs ys : List T) → Rises offset low xs → Rises offset from ys
+        → ((k : ℤ) → look_up offset k xs ≡ look_up offset k ys) → xs ≡ ys }
 {}

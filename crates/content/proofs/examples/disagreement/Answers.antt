@@ -3,8 +3,8 @@ use Rattle.std.specs.Prelude.{slice_index_or, unwrap_or}
 use Rattle.std.proofs.lemmas.Int.{ints}
 use Rattle.batch_codec.specs.Values.{RecordValue}
 use Rattle.cover_ranges.specs.Runs.{with_range}
-use Rattle.content.specs.Keyed.{put}
-use Rattle.content.specs.Examples.{a, one, two, record_of, batch_0, other_0, twice_a}
+use Rattle.content.specs.ByOffset.{put}
+use Rattle.content.specs.Examples.{key_a, one, two, record_of, batch_0, other_0, twice_a}
 use Rattle.content.proofs.examples.disagreement.Goals as goal
 
 first_byte : RecordValue → ℕ
@@ -17,7 +17,7 @@ pub returns-clause-records : goal.returns-clause-records
 unfolding put with_range first_byte
 returns-clause-records c = λ agree.
     let alike = agree.2 batch_0 other_0 (omega (arith, ints)) refl refl in
-    let same : record_of (pos 0) a one ≡ record_of (pos 0) a two = alike.1 (pos 0) (record_of (pos 0) a one) (record_of (pos 0) a two) refl refl in
+    let same : record_of (pos 0) key_a one ≡ record_of (pos 0) key_a two = alike.1 (pos 0) (record_of (pos 0) key_a one) (record_of (pos 0) key_a two) refl refl in
     apart_49_50 49 refl (ap first_byte same)
 
 pub returns-clause-span : goal.returns-clause-span

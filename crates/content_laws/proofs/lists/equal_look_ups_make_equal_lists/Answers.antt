@@ -1,4 +1,4 @@
-use Rattle.content_laws.proofs.Keyed.{same_lists}
+use Rattle.content_laws.proofs.ByOffset.{same_lists}
 use Rattle.content_laws.proofs.lists.equal_look_ups_make_equal_lists.Goals as goal
 
 pub returns : goal.returns
