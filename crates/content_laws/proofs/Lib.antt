@@ -1,2 +1,3 @@
 pub mod ByOffset
 pub mod Windows
+pub mod WindowPush
