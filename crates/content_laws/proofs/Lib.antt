@@ -1,3 +1,4 @@
 pub mod ByOffset
 pub mod Windows
 pub mod WindowPush
+pub mod WindowPart
