@@ -2,3 +2,4 @@ pub mod ByOffset
 pub mod Windows
 pub mod WindowPush
 pub mod WindowPart
+pub mod Epochs
