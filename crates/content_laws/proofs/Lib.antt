@@ -3,3 +3,4 @@ pub mod Windows
 pub mod WindowPush
 pub mod WindowPart
 pub mod Epochs
+pub mod Legal
