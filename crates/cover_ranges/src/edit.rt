@@ -1,5 +1,5 @@
 //! One range in place of those that it meets.
-ghost use Rattle.std.specs.Prelude.{◌≡◌, ◌<◌, ◌≤◌, ◌-◌, ◌^◌, ◌++◌, ◌∷◌, length, take, drop, ℤ, pos, ◌<ℤ◌, ◌≤ℤ◌, is_ok, IsOk, if◌then◌else◌, slice_index_or};
+ghost use Rattle.std.specs.Prelude.{◌≡◌, ◌<◌, ◌≤◌, ◌+◌, ◌-◌, ◌^◌, ◌++◌, ◌∷◌, length, take, drop, ℤ, pos, ◌<ℤ◌, ◌≤ℤ◌, is_ok, IsOk, if◌then◌else◌, slice_index_or};
 ghost use Rattle.std.specs.Int.{int_min, int_max};
 ghost use Rattle.std.specs.Vec.{vec_len, vec_capacity};
 ghost use Rattle.cover_ranges.specs.Runs.{IsCanonical};
@@ -56,6 +56,8 @@ pub(crate) fn replace<A: Allocator + Copy>(
     requires within { end ≤ vec_len ranges.old }
     ensures items { ranges.new.items ≡ (if is_ok result then take start ranges.old.items ++ range ∷ drop end ranges.old.items else ranges.old.items) }
     ensures room { vec_len ranges.old < vec_capacity ranges.old → IsOk result }
+    ensures len { vec_len ranges.new ≤ vec_len ranges.old + 1 }
+    ensures capacity { vec_capacity ranges.old ≤ vec_capacity ranges.new }
 {
     if start == end {
         ranges.insert(start, range)?;

@@ -1,6 +1,6 @@
 //! The set of offsets.
-ghost use Rattle.std.specs.Prelude.{◌≡◌, ◌<◌, ◌^◌, ◌||◌, ◌↔◌, ℤ, pos, ◌<ℤ◌, ◌≤ℤ◌, [], IsTrue, IfOk, OnOk, OnErr, IsOk, MatchResult};
-ghost use Rattle.cover_ranges.specs.Runs.{Runs, is_within, covers, IsCanonical};
+ghost use Rattle.std.specs.Prelude.{◌≡◌, ◌<◌, ◌≤◌, ◌+◌, ◌^◌, ◌||◌, ◌↔◌, ℤ, pos, ◌<ℤ◌, ◌≤ℤ◌, [], length, IsTrue, IfOk, OnOk, OnErr, IsOk, MatchResult};
+ghost use Rattle.cover_ranges.specs.Runs.{is_within, covers, IsCanonical, with_range, union_of};
 ghost use Rattle.cover_ranges.specs.Held.{HasRoom};
 ghost use Rattle.cover_ranges.specs.Refusal.{IsRefusal};
 
@@ -101,9 +101,10 @@ impl<A: Allocator + Copy> Cover<A> {
 
     /// Makes room, so that the next insertion needs no memory.
     pub fn reserve_one(&mut self) -> Result<(), AllocError>
-        ensures kept { self.new.runs ≡ self.old.runs }
-        ensures room { OnOk result (HasRoom self.new) }
-        ensures had_room { HasRoom self.old → IsOk result }
+        ensures same_offsets { self.new.runs ≡ self.old.runs }
+        ensures makes_room { OnOk result (HasRoom self.new) }
+        ensures keeps_room { self.old.room ≤ self.new.room }
+        ensures room_suffices { HasRoom self.old → IsOk result }
     {
         self.ranges.reserve(1)
     }
@@ -114,10 +115,17 @@ impl<A: Allocator + Copy> Cover<A> {
         requires not_negative { pos 0 ≤ℤ first }
         requires not_empty { first ≤ℤ last }
         requires in_bounds { last <ℤ pos (2 ^ 62) }
-        ensures added { OnOk result ((o : ℤ) → covers self.new.runs o ≡ (covers self.old.runs o || is_within o (first, last))) }
-        ensures err { OnErr result (self.new.runs ≡ self.old.runs) }
-        ensures room { HasRoom self.old → IsOk result }
+        ensures adds_range { OnOk result (self.new.runs ≡ with_range first last self.old.runs) }
+        ensures adds_offsets { OnOk result ((o : ℤ)
+            → covers self.new.runs o ≡ (covers self.old.runs o || is_within o (first, last))) }
         ensures canonical { IsCanonical self.new.runs }
+        ensures error_changes_nothing { OnErr result (self.new.runs ≡ self.old.runs) }
+
+        // With room it can't fail; it takes the room of one run at most, and gives no memory back.
+        ensures room_suffices { HasRoom self.old → IsOk result }
+        ensures takes_room_of_one { self.old.room ≤ self.new.room + 1 }
+        ensures keeps_memory { self.old.room + length self.old.runs
+            ≤ self.new.room + length self.new.runs }
     {
         let plan = plan_insertion(&self.ranges, first, last);
         replace(&mut self.ranges, plan.start, plan.end, plan.range)
@@ -125,7 +133,9 @@ impl<A: Allocator + Copy> Cover<A> {
 
     /// The offsets of either set, in one pass over both.
     pub fn union(&self, other: &Cover<A>) -> Result<Cover<A>, AllocError>
-        ensures both { IfOk result (λ both. (o : ℤ) → covers both.runs o ≡ (covers self.now.runs o || covers other.now.runs o)) }
+        ensures unites_runs { IfOk result (λ both. both.runs ≡ union_of self.now.runs other.now.runs) }
+        ensures unites_offsets { IfOk result (λ both. (o : ℤ)
+            → covers both.runs o ≡ (covers self.now.runs o || covers other.now.runs o)) }
         ensures canonical { IfOk result (λ both. IsCanonical both.runs) }
     {
         let mut both = Cover::new(*self.ranges.allocator());
