@@ -9,14 +9,14 @@ use Rattle.cover_ranges.proofs.set.Cover.union.Goals as goal
 
 pub insert-requires-else-comes_next-clause-not_empty : goal.insert-requires-else-comes_next-clause-not_empty
 insert-requires-else-comes_next-clause-not_empty g c =
-    let canonical : IsCanonical c.ranges-theirs.result.now = subst IsCanonical (sym c.ranges-theirs.ensures.value) c.ranges-theirs.ensures.canonical in
+    let canonical : IsCanonical c.ranges-theirs.result.now = subst IsCanonical (sym c.ranges-theirs.ensures.lists_runs) c.ranges-theirs.ensures.canonical in
     let there : c.loop-i.j < length c.ranges-theirs.result.now = search rules in
     let run : IsRun (get_or c.ranges-theirs.result.now c.loop-i.j (pos 0, pos 0)) = canonical.are_runs c.loop-i.j (pos 0, pos 0) there in
     omega (arith, ints)
 
 pub loop-i-preserved : goal.loop-i-preserved
 loop-i-preserved g c =
-    let canonical : IsCanonical c.ranges-theirs.result.now = subst IsCanonical (sym c.ranges-theirs.ensures.value) c.ranges-theirs.ensures.canonical in
+    let canonical : IsCanonical c.ranges-theirs.result.now = subst IsCanonical (sym c.ranges-theirs.ensures.lists_runs) c.ranges-theirs.ensures.canonical in
     let there : c.loop-i.j < length c.ranges-theirs.result.now = search rules in
     let run : IsRun (get_or c.ranges-theirs.result.now c.loop-i.j (pos 0, pos 0)) = canonical.are_runs c.loop-i.j (pos 0, pos 0) there in
     record {
@@ -33,4 +33,4 @@ loop-i-preserved g c =
 pub returns-clause-unites_runs : goal.returns-clause-unites_runs
 returns-clause-unites_runs g c =
     union_at_ends c.args.self.now.runs c.args.other.now.runs c.ranges-mine.result.now c.ranges-theirs.result.now c.loop-i.both.runs c.loop-i.i c.loop-i.j
-    c.ranges-mine.ensures.value c.ranges-theirs.ensures.value (omega arith) (omega arith) c.ranges-mine.ensures.canonical c.ranges-theirs.ensures.canonical c.loop-i.invariant.canonical c.loop-i.invariant.both
+    c.ranges-mine.ensures.lists_runs c.ranges-theirs.ensures.lists_runs (omega arith) (omega arith) c.ranges-mine.ensures.canonical c.ranges-theirs.ensures.canonical c.loop-i.invariant.canonical c.loop-i.invariant.both
