@@ -11,8 +11,6 @@ mod judge;
 pub mod laws;
 mod search;
 pub mod set;
-#[cfg(test)]
-mod tests;
 
 pub use error::CoverError;
 pub use set::Cover;
