@@ -1,10 +1,13 @@
 -- Sets made of others: a range more, two sets together, and what is left from an offset on.
-use Rattle.std.proofs.Common.{◌≡◌, ◌^◌, Bool, true, false, ◌||◌, ◌&&◌, [], ◌∷◌, refl, sym, ap, ◌∙◌, arith}
+use Rattle.std.proofs.Common.{ℕ, length, OnOk, ◌≡◌, Bool, true, false, ◌||◌, ◌&&◌, [], ◌∷◌, refl, sym, ap, ◌∙◌, subst, Result, Ok, Err, take, arith}
 use Rattle.std.specs.Prelude.{ℤ, pos, ◌+ℤ◌, ◌<ℤ◌, ◌≤ℤ◌, int_lt, int_le, cond, None, Some}
 use Rattle.std.specs.List.{cons_option}
 use Rattle.std.specs.Int.{int_min, int_max}
 use Rattle.std.proofs.lemmas.Int.{ints, clamps}
+use Rattle.std.proofs.Math.Seq.{take-length}
+use Rattle.cover_ranges.specs.declared.TheConstants.{OFFSETS_END}
 use Rattle.cover_ranges.specs.Runs.{Runs, is_within, covers, IsCanonical, with_range, union_of, run_from, cut_below}
+use Rattle.cover_ranges.proofs.Law.{equal_lists}
 use Rattle.cover_ranges.proofs.RunsFrom.{RunsFrom, runs_lower, canonical_from, from_canonical}
 
 -- ---- a range more: its members
@@ -60,7 +63,7 @@ end_low l r p = grind (arith, ints)
 min_low : (low f x : ℤ) → low ≤ℤ f → low ≤ℤ x → low ≤ℤ int_min f x
 min_low low f x p q = omega (arith, ints, clamps)
 
-max_end : (l x : ℤ) → l <ℤ pos (2 ^ 62) → x <ℤ pos (2 ^ 62) → int_max l x <ℤ pos (2 ^ 62)
+max_end : (l x : ℤ) → l <ℤ OFFSETS_END → x <ℤ OFFSETS_END → int_max l x <ℤ OFFSETS_END
 max_end l x p q = omega (arith, ints, clamps)
 
 min_max : (f l : ℤ) (r : ℤ × ℤ) → f ≤ℤ l → int_min f r.0 ≤ℤ int_max l r.1
@@ -81,7 +84,7 @@ max_low low s x p = omega (arith, ints, clamps)
 max_within : (s : ℤ) (r : ℤ × ℤ) → int_lt r.1 s ≡ false → r.0 ≤ℤ r.1 → int_max s r.0 ≤ℤ r.1
 max_within s r e p = grind (arith, ints, clamps)
 
-pub range_runs : (low first last : ℤ) (runs : Runs) → low ≤ℤ first → first ≤ℤ last → last <ℤ pos (2 ^ 62) → RunsFrom low runs → RunsFrom low (with_range first last runs)
+pub range_runs : (low first last : ℤ) (runs : Runs) → low ≤ℤ first → first ≤ℤ last → last <ℤ OFFSETS_END → RunsFrom low runs → RunsFrom low (with_range first last runs)
 unfolding with_range
 range_runs low f l [] lf fl end h = (lf, fl, end, tt)
 range_runs low f l (r ∷ rs) lf fl end h =
@@ -97,7 +100,7 @@ range_runs low f l (r ∷ rs) lf fl end h =
     by false true ep eq behind joined = (lf, fl, end, (end_low l r eq, h.1, h.2, h.3))
     by false false ep eq behind joined = joined
 
-pub range_canonical : (first last : ℤ) (runs : Runs) → pos 0 ≤ℤ first → first ≤ℤ last → last <ℤ pos (2 ^ 62) → IsCanonical runs → IsCanonical (with_range first last runs)
+pub range_canonical : (first last : ℤ) (runs : Runs) → pos 0 ≤ℤ first → first ≤ℤ last → last <ℤ OFFSETS_END → IsCanonical runs → IsCanonical (with_range first last runs)
 range_canonical f l runs zf fl end c = from_canonical (pos 0) (with_range f l runs) (z_refl (pos 0)) (range_runs (pos 0) f l runs zf fl end (canonical_from runs c))
 
 -- ---- two sets together
@@ -141,3 +144,28 @@ cut_runs low s (r ∷ rs) h = by (int_lt r.1 s) refl (cut_runs (r.1 +ℤ pos 2) 
 
 pub cut_canonical : (start : ℤ) (runs : Runs) → IsCanonical runs → IsCanonical (cut_below start runs)
 cut_canonical s runs c = from_canonical (pos 0) (cut_below s runs) (z_refl (pos 0)) (cut_runs (pos 0) s runs (canonical_from runs c))
+
+-- ---- what has these members is this list
+
+pub range_only : (first last : ℤ) (old new : Runs) → pos 0 ≤ℤ first → first ≤ℤ last → last <ℤ OFFSETS_END → IsCanonical old → IsCanonical new
+    → ((o : ℤ) → covers new o ≡ (covers old o || is_within o (first, last))) → new ≡ with_range first last old
+range_only f l old new zf fl end co cn same =
+    equal_lists new (with_range f l old) cn (range_canonical f l old zf fl end co) (λ o. same o ∙ sym (range_covers f l old o))
+
+pub range_only_ok : {T E : Type 0} (r : Result T E) (first last : ℤ) (old held new : Runs) → old ≡ held → pos 0 ≤ℤ first → first ≤ℤ last → last <ℤ OFFSETS_END → IsCanonical old → IsCanonical new
+    → OnOk r ((o : ℤ) → covers new o ≡ (covers held o || is_within o (first, last))) → OnOk r (new ≡ with_range first last held)
+range_only_ok (Ok x) f l old held new e zf fl end co cn same = range_only f l held new zf fl end (subst IsCanonical e co) cn same
+range_only_ok (Err y) f l old held new e zf fl end co cn same = tt
+
+pub union_only : (a b both : Runs) → IsCanonical a → IsCanonical b → IsCanonical both → ((o : ℤ) → covers both o ≡ (covers a o || covers b o)) → both ≡ union_of a b
+union_only a b both ca cb c same = equal_lists both (union_of a b) c (union_canonical a b ca cb) (λ o. same o ∙ sym (union_covers a b o))
+
+take_all : (xs : Runs) (i : ℕ) → i ≡ length xs → take i xs ≡ xs
+take_all xs i e = ap (λ (n : ℕ). take n xs) e ∙ take-length xs
+
+-- a pass over both that came to both ends
+pub union_at_ends : (a b mine theirs both : Runs) (i j : ℕ) → mine ≡ a → theirs ≡ b → i ≡ length mine → j ≡ length theirs → IsCanonical a → IsCanonical b → IsCanonical both
+    → ((o : ℤ) → covers both o ≡ (covers (take i mine) o || covers (take j theirs) o)) → both ≡ union_of a b
+union_at_ends a b mine theirs both i j em et ei ej ca cb c same =
+    union_only a b both ca cb c
+    (λ o. same o ∙ ap (λ (xs : Runs). covers xs o || covers (take j theirs) o) (take_all mine i ei ∙ em) ∙ ap (λ (ys : Runs). covers a o || covers ys o) (take_all theirs j ej ∙ et))

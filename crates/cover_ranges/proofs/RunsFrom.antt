@@ -1,17 +1,18 @@
 -- Maximal runs by recursion on their list, which inductions go along; the same as `IsCanonical`.
-use Rattle.std.proofs.Common.{◌^◌, [], ◌∷◌, get_or, arith}
+use Rattle.std.proofs.Common.{[], ◌∷◌, get_or, arith}
 use Rattle.std.specs.Prelude.{ℤ, pos, ◌+ℤ◌, ◌<ℤ◌, ◌≤ℤ◌}
 use Rattle.std.specs.List.{All}
 use Rattle.std.proofs.lemmas.Int.{ints}
 use Rattle.std.proofs.lemmas.List.Elements.{All-cons}
 use Rattle.std.proofs.lemmas.List.Kept.{AllPairs-cons}
+use Rattle.cover_ranges.specs.declared.TheConstants.{OFFSETS_END}
 use Rattle.cover_ranges.specs.Runs.{Runs, IsRun, IsApart, IsCanonical}
-use Rattle.cover_ranges.proofs.Law.{Opened, opened}
+use Rattle.cover_ranges.proofs.Law.{Parts, parts_of}
 
 -- maximal runs, the first of which starts at `low` or later
 abbrev pub RunsFrom : ℤ → Runs → Type 0
 RunsFrom low [] = Unit {0}
-RunsFrom low (r ∷ rs) = (low ≤ℤ r.0) × (r.0 ≤ℤ r.1) × (r.1 <ℤ pos (2 ^ 62)) × RunsFrom (r.1 +ℤ pos 2) rs
+RunsFrom low (r ∷ rs) = (low ≤ℤ r.0) × (r.0 ≤ℤ r.1) × (r.1 <ℤ OFFSETS_END) × RunsFrom (r.1 +ℤ pos 2) rs
 
 pub runs_lower : (low high : ℤ) (rs : Runs) → low ≤ℤ high → RunsFrom high rs → RunsFrom low rs
 runs_lower low high [] le h = tt
@@ -28,7 +29,7 @@ apart_starts x xs past k d h = let p : (x.1 +ℤ pos 1) <ℤ (get_or xs k d).0 =
 pub runs_from : (low : ℤ) (rs : Runs) → IsCanonical rs → All (λ r. low ≤ℤ r.0) rs → RunsFrom low rs
 runs_from low [] c h = tt
 runs_from low (x ∷ xs) c h =
-    let a : Opened x xs = opened x xs c in
+    let a : Parts x xs = parts_of x xs c in
     (starts_by low x xs h, a.run.1, a.run.2, runs_from (x.1 +ℤ pos 2) xs a.rest (apart_starts x xs a.past))
 
 pub canonical_from : (rs : Runs) → IsCanonical rs → RunsFrom (pos 0) rs

@@ -1,9 +1,10 @@
 -- A set of offsets as its maximal runs. An offset is the position of a record in a partition's log:
 -- it is not negative, it rises with each record, and a log that was compacted has gaps (Kafka's
 -- documentation, "Log Compaction").
-use Rattle.std.specs.Prelude.{◌^◌, ℤ, pos, ◌+ℤ◌, ◌<ℤ◌, ◌≤ℤ◌, int_lt, int_le, Bool, ◌&&◌, ◌||◌, IsTrue, Option, None, Some, List, [], ◌∷◌, if◌then◌else◌}
+use Rattle.std.specs.Prelude.{ℤ, pos, ◌+ℤ◌, ◌<ℤ◌, ◌≤ℤ◌, int_lt, int_le, Bool, ◌&&◌, ◌||◌, IsTrue, Option, None, Some, List, [], ◌∷◌, if◌then◌else◌}
 use Rattle.std.specs.List.{All, AllPairs, list_any, filter_map, fold}
 use Rattle.std.specs.Int.{int_min, int_max}
+use Rattle.cover_ranges.specs.declared.TheConstants.{OFFSETS_END}
 
 -- runs of offsets, each from its first to its last, both of them in it
 abbrev pub Runs : Type 0
@@ -19,7 +20,7 @@ covers runs o = list_any (is_within o) runs
 
 -- a run that holds an offset, and nothing else but offsets
 abbrev pub IsRun : ℤ × ℤ → Type 0
-IsRun run = (pos 0 ≤ℤ run.0) × (run.0 ≤ℤ run.1) × (run.1 <ℤ pos (2 ^ 62))
+IsRun run = (pos 0 ≤ℤ run.0) × (run.0 ≤ℤ run.1) × (run.1 <ℤ OFFSETS_END)
 
 -- at least one offset lies between the end of the one run and the start of the other
 abbrev pub IsApart : ℤ × ℤ → ℤ × ℤ → Type 0

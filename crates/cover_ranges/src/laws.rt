@@ -1,6 +1,7 @@
 //! Laws of sets of offsets. The functions do nothing: what they ensure is the law.
 ghost use Rattle.std.specs.Prelude.{◌≡◌, ◌^◌, ◌||◌, ◌&&◌, ◌↔◌, ℤ, pos, ◌+ℤ◌, ◌-ℤ◌, ◌<ℤ◌, ◌≤ℤ◌, int_le, IsTrue, false};
 ghost use Rattle.std.specs.List.{Contains};
+ghost use Rattle.cover_ranges.specs.declared.TheConstants.{OFFSETS_END};
 ghost use Rattle.cover_ranges.specs.Runs.{Runs, is_within, covers, IsCanonical, with_range, union_of, cut_below, end_of, has_all, CoversAll};
 
 /// Equal members make equal lists: a set of offsets has one list of maximal runs.
@@ -17,7 +18,7 @@ pub fn range_covers()
 
 /// With a range more, maximal runs stay maximal.
 pub fn range_canonical()
-    ensures { (first last : ℤ) (runs : Runs) → pos 0 ≤ℤ first → first ≤ℤ last → last <ℤ pos (2 ^ 62)
+    ensures { (first last : ℤ) (runs : Runs) → pos 0 ≤ℤ first → first ≤ℤ last → last <ℤ OFFSETS_END
         → IsCanonical runs → IsCanonical (with_range first last runs) }
 {}
 

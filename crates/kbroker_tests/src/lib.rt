@@ -4,6 +4,4 @@
 #[cfg(test)]
 mod batch_codec_memory;
 #[cfg(test)]
-mod cover_ranges_memory;
-#[cfg(test)]
 mod table_memory;

@@ -2,7 +2,7 @@ use Rattle.std.proofs.Common.{arith, get_or, ◌-◌}
 use Rattle.std.specs.Prelude.{pos}
 use Rattle.std.proofs.lemmas.Int.{ints, clamps}
 use Rattle.cover_ranges.specs.Runs.{IsRun}
-use Rattle.cover_ranges.proofs.edit.joined.Goals as goal
+use Rattle.cover_ranges.proofs.edit.joined_range.Goals as goal
 
 pub returns-clause-first : goal.returns-clause-first
 returns-clause-first c = λ lt.

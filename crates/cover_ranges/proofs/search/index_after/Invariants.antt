@@ -1,7 +1,7 @@
 use Rattle.std.proofs.Common.{◌-◌, ◌≤◌, length}
 use Rattle.std.specs.List.{AllWithin}
 use Rattle.std.specs.Prelude.{◌<ℤ◌}
-use Rattle.cover_ranges.proofs.search.place_after.Given as goal
+use Rattle.cover_ranges.proofs.search.index_after.Given as goal
 
 abbrev pub invariant-loop-at : goal.invariant-loop-at
 invariant-loop-at l = record { within : l.at ≤ length l.ranges; passed : AllWithin (λ run. run.1 <ℤ l.offset) l.ranges 0 l.at }
