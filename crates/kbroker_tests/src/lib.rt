@@ -2,8 +2,6 @@
 #![tactic(auto)]
 
 #[cfg(test)]
-mod batch_codec_memory;
-#[cfg(test)]
 mod cover_ranges_memory;
 #[cfg(test)]
 mod table_memory;
