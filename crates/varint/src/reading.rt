@@ -89,12 +89,14 @@ fn number_i64(bytes: &[u8]) -> Result<(i64, usize), VarintError>
 #[inline]
 pub fn read_i32(bytes: &[u8]) -> Result<(i32, usize), VarintError>
     // What is read, or why nothing is.
-    ensures read { Gives bytes.now result (varint_at bytes.now) }
+    ensures reads_varint { Gives bytes.now result (varint_at bytes.now) }
     // What is read is encoded so.
-    ensures found { IfOk result (λ read. (bytes.now ≡ encoding read.0 ++ drop read.1 bytes.now) × (read.1 ≡ length (encoding read.0))) }
-    ensures within { IfOk result (λ read. read.1 ≤ length bytes.now) }
+    ensures finds_number { IfOk result (λ read. (bytes.now ≡ encoding read.0 ++ drop read.1 bytes.now)
+        × (read.1 ≡ length (encoding read.0))) }
+    ensures used_are_there { IfOk result (λ read. read.1 ≤ length bytes.now) }
     // What is encoded so is read, whatever follows it.
-    ensures again { (v : ℤ) (rest : List ℕ) → FitsSigned w32 v → bytes.now ≡ encoding v ++ rest → result ≡ Ok (v, length (encoding v)) }
+    ensures accepts_every_encoding { (v : ℤ) (rest : List ℕ) → FitsSigned w32 v
+        → bytes.now ≡ encoding v ++ rest → result ≡ Ok (v, length (encoding v)) }
     ensures short { IsErrOf result VarintError.Short ↔ IsShort 5 bytes.now }
     ensures too_long { IsErrOf result VarintError.TooLong ↔ IsTooLong 5 0x0f bytes.now }
     ensures not_shortest { IsErrOf result VarintError.NotShortest ↔ IsNotShortest 5 0x0f bytes.now }
@@ -112,15 +114,18 @@ pub fn read_i32(bytes: &[u8]) -> Result<(i32, usize), VarintError>
 #[inline]
 pub fn read_i64(bytes: &[u8]) -> Result<(i64, usize), VarintError>
     // What is read, or why nothing is.
-    ensures read { Gives bytes.now result (varlong_at bytes.now) }
+    ensures reads_varlong { Gives bytes.now result (varlong_at bytes.now) }
     // What is read is encoded so.
-    ensures found { IfOk result (λ read. (bytes.now ≡ encoding read.0 ++ drop read.1 bytes.now) × (read.1 ≡ length (encoding read.0))) }
-    ensures within { IfOk result (λ read. read.1 ≤ length bytes.now) }
+    ensures finds_number { IfOk result (λ read. (bytes.now ≡ encoding read.0 ++ drop read.1 bytes.now)
+        × (read.1 ≡ length (encoding read.0))) }
+    ensures used_are_there { IfOk result (λ read. read.1 ≤ length bytes.now) }
     // What is encoded so is read, whatever follows it.
-    ensures again { (v : ℤ) (rest : List ℕ) → FitsSigned w64 v → bytes.now ≡ encoding v ++ rest → result ≡ Ok (v, length (encoding v)) }
+    ensures accepts_every_encoding { (v : ℤ) (rest : List ℕ) → FitsSigned w64 v
+        → bytes.now ≡ encoding v ++ rest → result ≡ Ok (v, length (encoding v)) }
     ensures short { IsErrOf result VarintError.Short ↔ IsShort 10 bytes.now }
     ensures too_long { IsErrOf result VarintError.TooLong ↔ IsTooLong 10 0x01 bytes.now }
-    ensures not_shortest { IsErrOf result VarintError.NotShortest ↔ IsNotShortest 10 0x01 bytes.now }
+    ensures not_shortest { IsErrOf result VarintError.NotShortest
+        ↔ IsNotShortest 10 0x01 bytes.now }
 {
     number_i64(bytes)
 }
