@@ -36,22 +36,26 @@ fn digit_count(number: u64) -> usize
     others + 1
 }
 
-/// Writes a number of 64 bits at the end, in 1 to 10 bytes. Where memory runs out nothing is written.
+/// Writes a number of 64 bits at the end, in 1 to 10 bytes. Without memory nothing is written.
 #[tactic(auto, using(crate::proofs::Encodings::digits_last), unfolding(crate::specs::Encoding::encoding))]
 pub fn put_i64<A: Allocator + Copy>(out: &mut Vec<u8, A>, value: i64) -> Result<(), AllocError>
     ensures appends_encoding { OnOk result (out.new.items ≡ out.old.items ++ encoding value) }
     ensures unchanged_on_error { OnErr result (out.new.items ≡ out.old.items) }
 {
-    let place = zigzag_of(value);
-    if place < 128 {
-        out.push(place as u8)?;
+    let code = zigzag_of(value);
+    if code < 128 {
+        out.push(code as u8)?;
         return Ok(());
     }
-    let (bytes, used) = digits_of(place);
+    let (bytes, used) = digits_of(code);
     out.extend_from_slice(&bytes[..used])
 }
 
-/// Writes a number of 32 bits at the end, in 1 to 5 bytes. Where memory runs out nothing is written.
+/// Writes a number of 32 bits at the end, in 1 to 5 bytes. Without memory nothing is written.
+///
+/// ```
+/// put_i32(&mut out, 300)?; // appends 0xd8, 0x04
+/// ```
 pub fn put_i32<A: Allocator + Copy>(out: &mut Vec<u8, A>, value: i32) -> Result<(), AllocError>
     ensures appends_encoding { OnOk result (out.new.items ≡ out.old.items ++ encoding value) }
     ensures unchanged_on_error { OnErr result (out.new.items ≡ out.old.items) }
