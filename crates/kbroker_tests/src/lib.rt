@@ -2,6 +2,4 @@
 #![tactic(auto)]
 
 #[cfg(test)]
-mod batch_codec_memory;
-#[cfg(test)]
 mod table_memory;
