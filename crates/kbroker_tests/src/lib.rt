@@ -5,5 +5,3 @@
 mod batch_codec_memory;
 #[cfg(test)]
 mod cover_ranges_memory;
-#[cfg(test)]
-mod table_memory;

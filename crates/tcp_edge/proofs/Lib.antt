@@ -1,5 +1,6 @@
 mod Filled
 mod LineFeeds
 mod Printed
+pub mod Sending
 pub mod Streams
 pub mod Refusals

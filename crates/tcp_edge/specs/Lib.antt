@@ -1,4 +1,6 @@
 pub mod Lines
 pub mod Input
+pub mod Output
 pub mod Tables
 pub mod Refused
+pub mod Status

@@ -1,6 +1,6 @@
 use Rattle.std.proofs.Common.{length}
 use Rattle.partition_log.specs.Content.{IsLog}
-use Rattle.tcp_edge.specs.Tables.{TakesBatches}
+use Rattle.tcp_edge.specs.Input.{TakesBatches}
 use Rattle.tcp_edge.proofs.table.take_batches.Given as goal
 
 abbrev pub invariant-loop : goal.invariant-loop
