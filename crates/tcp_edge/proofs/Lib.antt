@@ -1,3 +1,4 @@
+mod Arguments
 mod Filled
 mod LineFeeds
 mod Printed

@@ -4,3 +4,4 @@ pub mod Output
 pub mod Tables
 pub mod Refused
 pub mod Status
+pub mod CommandLine
