@@ -7,3 +7,5 @@ mod batches;
 mod failing_streams;
 #[cfg(test)]
 mod memory;
+#[cfg(test)]
+mod refusing;

@@ -1,5 +1,5 @@
--- `Refusing::lent` at a call. Assumes `Logic`.
---     Lends, at_lent, lent_goes, lent_Gives      its contract, what it is handed, and the handle that it shows, if there is one
+-- `Refusing::borrow_inner` at a call. Assumes `Logic`.
+--     Borrows, at_borrow, borrow_goes, borrow_Gives      its contract, what it is handed, and the handle that it shows, if there is one
 use mathlib.Core.Path.{◌≡◌, refl, ap, ◌∙◌}
 use mathlib.Core.List.{List, [], ◌∷◌, ◌++◌}
 use lib.Dec.{T, lit<}
@@ -28,16 +28,16 @@ use Rattle.std.specs.Prelude.{None, Some}
 use Rattle.std.specs.contracts.option.Option as O
 use Rattle.std.proofs.alloc.Calls.{Al, seen}
 use Rattle.refusing_alloc.specs.contracts.Refusing as L
-use Rattle.refusing_alloc.specs.contracts.Refusing.lent as F
-use Rattle.refusing_alloc.specs.contracts.Refusing.lent.Key as key
+use Rattle.refusing_alloc.specs.contracts.Refusing.borrow_inner as F
+use Rattle.refusing_alloc.specs.contracts.Refusing.borrow_inner.Key as key
 
 abbrev pub shown_val : {X : Type 0} → Option (Bor X) → Val
 shown_val None = live 0 (of_list [])
 shown_val (Some b) = live 1 (of_list (vptr b.ref_ptr.0 b.ref_ptr.1 ∷ []))
 
 module _ (Z : Al) where
-  abbrev pub lent_key : Callee
-  lent_key = key.name (layouts (a_type ∷ []) (Z.row, tt))
+  abbrev pub borrow_key : Callee
+  borrow_key = key.name (layouts (a_type ∷ []) (Z.row, tt))
 
   abbrev pub Shown : Lft → RattleType
   Shown κ = O.the_row (ShrRef (named 0) κ (param 0 Z.row))
@@ -53,12 +53,12 @@ module _ (Z : Al) where
 module _ (Z : Al) {M : Type 1} {𝓤 : Ura M} (𝓛 : Logic 𝓤) (at_mem : Memory → SProp 𝓤) (run : Routine → Fun 𝓤) where
   open 𝓛 use {H, A}
 
-  abbrev pub Lends : Contract 𝓤
-  Lends = triple_of 𝓛 (F.signature Z.row) (F.spec Z.row 𝓛 at_mem run)
+  abbrev pub Borrows : Contract 𝓤
+  Borrows = triple_of 𝓛 (F.signature Z.row) (F.spec Z.row 𝓛 at_mem run)
 
   module _ (κ ρ : Lft) (q s : Share) (out : κ ⊑ ρ) (r : Bor (L.the_row Z.row).Denot) where
-    abbrev pub at_lent : Lends.Ghost
-    at_lent = (((κ, (ρ, tt)), (q, (s, tt)), (out, tt), (r, tt), (shr_vals r, tt)), tt)
+    abbrev pub at_borrow : Borrows.Ghost
+    at_borrow = (((κ, (ρ, tt)), (q, (s, tt)), (out, tt), (r, tt), (shr_vals r, tt)), tt)
 
     abbrev Tokens : SProp 𝓤
     Tokens = sep 𝓤 (A.lft κ q) (sep 𝓤 (A.lft ρ s) (emp 𝓤))
@@ -66,8 +66,8 @@ module _ (Z : Al) {M : Type 1} {𝓤 : Ura M} (𝓛 : Logic 𝓤) (at_mem : Memo
     abbrev pub Told : Option (Bor Z.row.Denot) → Type 0
     Told o = MatchOption o (Unit {0}) (λ h. r.now.inner ≡ h.now)
 
-    pub lent_goes : ρ ⊑ Z.row.lives → ent 𝓤 (sep 𝓤 (sem 𝓛 (hidden_shr (L.the_row (param 0 Z.row)) κ r.now r.ref_ptr.0 r.ref_ptr.1)) Tokens) (Lends.pre at_lent)
-    lent_goes le = qed 𝓛 (‵ (hidden_shr (L.the_row (param 0 Z.row)) κ r.now r.ref_ptr.0 r.ref_ptr.1) ∷ raw Tokens ∷ []) ∵
+    pub borrow_goes : ρ ⊑ Z.row.lives → ent 𝓤 (sep 𝓤 (sem 𝓛 (hidden_shr (L.the_row (param 0 Z.row)) κ r.now r.ref_ptr.0 r.ref_ptr.1)) Tokens) (Borrows.pre at_borrow)
+    borrow_goes le = qed 𝓛 (‵ (hidden_shr (L.the_row (param 0 Z.row)) κ r.now r.ref_ptr.0 r.ref_ptr.1) ∷ raw Tokens ∷ []) ∵
         feq_i ! (List Val) (shr_vals r) (shr_vals r) refl $ fjoin ! $ nothing ! $ move ! (1 ∷ 0 ∷ []) $ fjoin ! $ move ! (1 ∷ 0 ∷ []) $ join ! $
         nothing ! $ use0 𝓛 (raw (fact 𝓤 (ρ ⊑ Z.row.lives))) (fact_i 𝓤 (ρ ⊑ Z.row.lives) (emp 𝓤) le) $ join ! $ move ! (1 ∷ 0 ∷ []) $ done !
 
@@ -80,8 +80,8 @@ module _ (Z : Al) {M : Type 1} {𝓤 : Ura M} (𝓛 : Logic 𝓤) (at_mem : Memo
     abbrev pub Found : Val → Option (Bor Z.row.Denot) → SProp 𝓤
     Found v o = guard 𝓤 ((v ≡ shown_val o) × Told o) (sep 𝓤 (sem 𝓛 (seen_if Z κ o)) Tokens)
 
-    pub lent_Gives : (v : Val) → ent 𝓤 (Lends.post at_lent v) (H.⇛ (ex 𝓤 (Found v)))
-    lent_Gives v = qed 𝓛 (raw (Lends.post at_lent v) ∷ []) ∵ updating ! $
+    pub borrow_Gives : (v : Val) → ent 𝓤 (Borrows.post at_borrow v) (H.⇛ (ex 𝓤 (Found v)))
+    borrow_Gives v = qed 𝓛 (raw (Borrows.post at_borrow v) ∷ []) ∵ updating ! $
         use1 𝓛 (later (some (λ (o : Option (Bor Z.row.Denot)). (raw Tokens ⊛ ‵ ((Shown Z κ).own_val o (v ∷ []))) ⊛ some (λ (ws : Unit {0} × Unit {0}). ‵ (fsep ftrue ftrue) ⊛ given (Told o) (‵ ftrue))))) (id⊢ 𝓤 _) $ await ! tt $ pick ! (λ o.
         split ! $ split ! $ move ! (1 ∷ []) $ use1 𝓛 (given (v ≡ shown_val o) (‵ (seen_if Z κ o))) (opened o v) $ learn ! (λ e. move ! (2 ∷ []) $ pick ! (λ ws. split ! $ move ! (1 ∷ []) $ learn ! (λ k.
         at_once ! $ show ! (Found v) o $ check ! (e, k) $ keep ! (2 ∷ 3 ∷ []) $ done !))))
