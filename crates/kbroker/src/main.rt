@@ -1,31 +1,35 @@
-//! The broker's program: its words and its standard streams, given to the library.
+//! The broker's program: its arguments and its standard streams, given to the library.
 #![tactic(auto)]
 
-ghost use Rattle.std.specs.Prelude.{◌≤◌};
+ghost use Rattle.std.specs.Prelude.{◌≡◌, ◌≤◌};
+ghost use Rattle.std.specs.IoError.{error_kind};
 
+use std::io::ErrorKind;
 use std::process::ExitCode;
 use std::{env, io};
 use tcp_edge::{FAILED, FAULTY, NO_MEMORY, run_line};
 
-/// The words of the command line, the program's name first.
-fn words(rt: &HostRuntime) -> io::Result<Vec<String>> {
-    let mut words = Vec::new(rt.alloc());
-    for word in env::args(rt)? {
-        words.push(word)?;
+/// The arguments of the command line, the program's name first.
+fn arguments(rt: &HostRuntime) -> io::Result<Vec<String>> {
+    let mut arguments = Vec::new(rt.alloc());
+    for argument in env::args(rt)? {
+        arguments.push(argument)?;
     }
-    Ok(words)
+    Ok(arguments)
 }
 
-/// Says why there are no words, and answers the status.
-fn no_words(rt: &HostRuntime, why: &io::Error) -> u8
-    ensures { result ≤ FAILED }
+/// Says why there are no arguments, and answers the status.
+fn no_arguments(rt: &HostRuntime, why: &io::Error) -> u8
+    ensures out_of_memory { error_kind why.now ≡ ErrorKind.OutOfMemory → result ≡ 3 }
+    ensures not_text { error_kind why.now ≡ ErrorKind.InvalidData → result ≡ 2 }
+    ensures is_status { (2 ≤ result) × (result ≤ 4) }
 {
     match why.kind() {
-        io::ErrorKind::OutOfMemory => {
+        ErrorKind::OutOfMemory => {
             let _ = eprintln!(rt; "kbroker: out of memory");
             NO_MEMORY
         }
-        io::ErrorKind::InvalidData => {
+        ErrorKind::InvalidData => {
             let _ = eprintln!(rt; "error: an argument is not text");
             FAULTY
         }
@@ -37,15 +41,15 @@ fn no_words(rt: &HostRuntime, why: &io::Error) -> u8
 }
 
 fn main(rt: HostRuntime) -> ExitCode {
-    let status = match words(&rt) {
-        Ok(words) => run_line(
+    let status = match arguments(&rt) {
+        Ok(arguments) => run_line(
             rt.alloc(),
-            &words,
+            &arguments,
             &mut rt.stdin(),
             &mut rt.stdout(),
             &mut rt.stderr(),
         ),
-        Err(why) => no_words(&rt, &why),
+        Err(why) => no_arguments(&rt, &why),
     };
     ExitCode::from(status)
 }

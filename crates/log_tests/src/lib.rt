@@ -1,5 +1,11 @@
-//! Tests of the public calls of the crates below the log, a file for each of them.
+//! Tests of the public calls of covered offsets and of logs, a file for each of them.
 #![tactic(auto)]
 
 #[cfg(test)]
+mod batches;
+#[cfg(test)]
 mod cover;
+#[cfg(test)]
+mod delivery;
+#[cfg(test)]
+mod delivery_memory;

@@ -1,7 +1,7 @@
-//! An allocator for tests, which refuses one growth and serves all others.
+//! An allocator for tests, which refuses one allocation and serves all others.
 //!
-//! Want of memory is an ordinary answer, and this makes it happen: a test tries the first growth refused, then the
-//! second, and so on, until a run passes.
+//! Out of memory is an ordinary answer, and this makes it happen: a test lets the first allocation fail, then the second,
+//! and so on, until a run passes.
 #![tactic(auto)]
 
 ghost use Rattle.std.specs.Prelude.{◌≡◌, MatchOption};
@@ -9,10 +9,7 @@ ghost use Rattle.std.specs.Prelude.{◌≡◌, MatchOption};
 use std::alloc::{AllocError, Allocator};
 use std::cell::Cell;
 
-#[cfg(test)]
-mod tests;
-
-/// An allocator over another one that refuses its growth number `refused`, counted from 1, and passes all other calls on.
+/// An allocator over another one. Its allocation number `refused`, counted from 1, fails, and all other calls are passed on.
 /// A `&` to it is an allocator that may be copied.
 #[derive(Drop)]
 pub struct Refusing<B> {
@@ -22,7 +19,7 @@ pub struct Refusing<B> {
 }
 
 impl<B> Refusing<B> {
-    /// It refuses the growth of this number, counted from 1; none where it is 0.
+    /// The allocation of this number fails, counted from 1; none where it is 0.
     pub fn new(inner: B, refused: u64) -> Refusing<B> {
         Refusing {
             inner,
@@ -31,14 +28,14 @@ impl<B> Refusing<B> {
         }
     }
 
-    /// How many growths were asked of it, with the refused one.
+    /// How many allocations were asked for, with the one that failed.
     pub fn calls(&self) -> u64 {
         self.calls.get()
     }
 
-    /// Counts a growth, and lends the inner allocator unless that growth is refused.
-    fn lent(&self) -> Option<&B>
-        ensures { MatchOption result (Unit {0}) (λ lent. self.now.inner ≡ lent.now) }
+    /// Counts an allocation, and borrows the inner allocator unless it is to fail.
+    fn borrow_inner(&self) -> Option<&B>
+        ensures { MatchOption result (Unit {0}) (λ inner. self.now.inner ≡ inner.now) }
     {
         let call = self.calls.get().wrapping_add(1);
         self.calls.set(call);
@@ -54,7 +51,7 @@ unsafe impl<B: Allocator> Allocator for Refusing<B> {
     ghost dealloc_token = { λ heap ty ptr. B.dealloc_token heap.inner ty ptr };
 
     fn allocate(&self, size: usize, align: usize) -> Result<*mut u8, AllocError> {
-        match self.lent() {
+        match self.borrow_inner() {
             Some(inner) => inner.allocate(size, align),
             None => Err(AllocError),
         }

@@ -1,5 +1,7 @@
+mod Arguments
 mod Filled
 mod LineFeeds
 mod Printed
+pub mod Sending
 pub mod Streams
 pub mod Refusals

@@ -5,23 +5,23 @@ use Rattle.std.proofs.lemmas.Bool.{not-true}
 use Rattle.std.proofs.lemmas.Bool.Decides.{nat_tests}
 use Rattle.std.proofs.lemmas.List.{take_all, take_rest, drop_all}
 use Rattle.std.proofs.lemmas.List.Quantifiers.{position-Some}
-use Rattle.tcp_edge.specs.Lines.{is_plain, printed, printed_byte}
+use Rattle.tcp_edge.specs.Lines.{is_unescaped, printed, printed_byte}
 
-abbrev pub is_special : ℕ → Bool
-is_special byte = not (is_plain byte)
+abbrev pub is_escaped : ℕ → Bool
+is_escaped byte = not (is_unescaped byte)
 
 -- a byte before bytes whose first n stand for themselves
 printed_run_at : (b : Bool) (byte : ℕ) (bytes whole : List ℕ) (n : ℕ) → printed bytes ≡ take n bytes ++ printed (drop n bytes) → printed (byte ∷ bytes) ≡ whole → (b ≡ true → whole ≡ byte ∷ printed bytes) → printed (byte ∷ bytes) ≡ take (cond (not (not b)) (1 + n) 0) (byte ∷ bytes) ++ printed (drop (cond (not (not b)) (1 + n) 0) (byte ∷ bytes))
-printed_run_at true byte bytes whole n rest e plain =
+printed_run_at true byte bytes whole n rest e unescaped =
     let next : 1 + n ≡ suc n = omega arith in
-    rw next (e ∙ plain refl ∙ ap (λ xs. byte ∷ xs) rest)
-printed_run_at false byte bytes whole n rest e plain = refl
+    rw next (e ∙ unescaped refl ∙ ap (λ xs. byte ∷ xs) rest)
+printed_run_at false byte bytes whole n rest e unescaped = refl
 
--- the plain bytes at the front are printed as they are
-printed_run : (bytes : List ℕ) → printed bytes ≡ take (position_or_len is_special bytes) bytes ++ printed (drop (position_or_len is_special bytes) bytes)
+-- the unescaped bytes at the front are printed as they are
+printed_run : (bytes : List ℕ) → printed bytes ≡ take (position_or_len is_escaped bytes) bytes ++ printed (drop (position_or_len is_escaped bytes) bytes)
 printed_run [] = refl
 printed_run (byte ∷ bytes) =
-    printed_run_at (is_plain byte) byte bytes _ (position_or_len is_special bytes) (printed_run bytes) refl (λ plain. rw plain refl)
+    printed_run_at (is_unescaped byte) byte bytes _ (position_or_len is_escaped bytes) (printed_run bytes) refl (λ unescaped. rw unescaped refl)
 
 chosen_none : (b : Bool) (n : ℕ) → cond b (Some n) None ≡ None → b ≡ false
 chosen_none true n e = cc
@@ -31,32 +31,32 @@ chosen_some : (b : Bool) (n k : ℕ) → cond b (Some n) None ≡ Some k → n �
 chosen_some true n k e = cc
 chosen_some false n k e = cc
 
--- bytes that are all plain are printed as they are
-pub printed_all : (bytes : List ℕ) → position is_special bytes ≡ None → printed bytes ≡ bytes
+-- bytes that are all unescaped are printed as they are
+pub printed_all : (bytes : List ℕ) → position is_escaped bytes ≡ None → printed bytes ≡ bytes
 printed_all bytes none =
     let over = chosen_none _ _ none in
-    let long : length bytes ≤ position_or_len is_special bytes = grind (arith, nat_tests, over) in
+    let long : length bytes ≤ position_or_len is_escaped bytes = grind (arith, nat_tests, over) in
     printed_run bytes ∙ rw (take_all _ bytes long, drop_all _ bytes long) (append-nil bytes)
 
--- the first byte that isn't plain
-pub special_there : (bytes : List ℕ) (k : ℕ) → position is_special bytes ≡ Some k → is_plain (get_or bytes k 0) ≡ false
-special_there bytes k some = not-true _ (position-Some is_special bytes k 0 some).1
+-- the first byte that is escaped
+pub escaped_there : (bytes : List ℕ) (k : ℕ) → position is_escaped bytes ≡ Some k → is_unescaped (get_or bytes k 0) ≡ false
+escaped_there bytes k some = not-true _ (position-Some is_escaped bytes k 0 some).1
 
 -- the bytes before it are printed as they are
-pub printed_split : (bytes : List ℕ) (k : ℕ) → position is_special bytes ≡ Some k → printed bytes ≡ take k bytes ++ (printed_byte (get_or bytes k 0) ++ printed (drop (k + 1) bytes))
+pub printed_split : (bytes : List ℕ) (k : ℕ) → position is_escaped bytes ≡ Some k → printed bytes ≡ take k bytes ++ (printed_byte (get_or bytes k 0) ++ printed (drop (k + 1) bytes))
 printed_split bytes k some =
-    let there = (position-Some is_special bytes k 0 some).0 in
+    let there = (position-Some is_escaped bytes k 0 some).0 in
     let place = chosen_some _ _ k some in
     let next : k + 1 ≡ suc k = add-one k in
     printed_run bytes ∙ rw (place, next, drop-cons bytes k 0 there) refl
 
--- bytes that are all plain, once they are pushed
-pub pushed_all : (old new bytes : List ℕ) → position is_special bytes ≡ None → new ≡ old ++ bytes → new ++ printed (take (length bytes - length bytes) (drop (length bytes) bytes)) ≡ old ++ printed bytes
+-- bytes that are all unescaped, once they are pushed
+pub pushed_all : (old new bytes : List ℕ) → position is_escaped bytes ≡ None → new ≡ old ++ bytes → new ++ printed (take (length bytes - length bytes) (drop (length bytes) bytes)) ≡ old ++ printed bytes
 pushed_all old new bytes none pushed =
     let long : length bytes ≤ length bytes = omega arith in
     rw (take_rest bytes (length bytes), drop_all _ bytes long, printed_all bytes none) (append-nil new ∙ pushed)
 
--- the bytes up to the first that isn't plain, once they are pushed with its escape
-pub pushed_run : (old run new bytes : List ℕ) (k : ℕ) → position is_special bytes ≡ Some k → run ≡ old ++ take k bytes → new ≡ run ++ printed_byte (get_or bytes k 0) → new ++ printed (take (length bytes - (k + 1)) (drop (k + 1) bytes)) ≡ old ++ printed bytes
+-- the bytes up to the first that is escaped, once they are pushed with its escape
+pub pushed_run : (old run new bytes : List ℕ) (k : ℕ) → position is_escaped bytes ≡ Some k → run ≡ old ++ take k bytes → new ≡ run ++ printed_byte (get_or bytes k 0) → new ++ printed (take (length bytes - (k + 1)) (drop (k + 1) bytes)) ≡ old ++ printed bytes
 pushed_run old run new bytes k some before escaped =
     rw (take_rest bytes (k + 1), printed_split bytes k some, escaped, before) (simp append_assoc)

@@ -1,4 +1,7 @@
 pub mod Lines
 pub mod Input
+pub mod Output
 pub mod Tables
 pub mod Refused
+pub mod Status
+pub mod CommandLine

@@ -3,17 +3,17 @@ use Rattle.std.specs.Prelude.{◌≡◌, ◌≢◌, ℕ, ◌+◌, ◌/◌, ◌%�
 use Rattle.std.specs.List.{flat_map}
 
 -- a byte that stands for itself: 0x21 to 0x7e, but for `%` and `=`
-abbrev pub is_plain : ℕ → Bool
-is_plain b = nat_le 0x21 b && nat_le b 0x7e && not (b == 0x25) && not (b == 0x3d)
+abbrev pub is_unescaped : ℕ → Bool
+is_unescaped b = nat_le 0x21 b && nat_le b 0x7e && not (b == 0x25) && not (b == 0x3d)
 
 -- the character of a digit below sixteen: `0` to `9`, then `A` to `F`
 abbrev pub hex_digit : ℕ → ℕ
 hex_digit d = if nat_lt d 10 then 0x30 + d else 0x37 + d
 
--- a plain byte as it is, any other as `%` and two hexadecimal digits
+-- an unescaped byte as it is, any other as `%` and two hexadecimal digits
 abbrev pub printed_byte : ℕ → List ℕ
 printed_byte b =
-    if is_plain b then b ∷ [] else 0x25 ∷ hex_digit (b / 16) ∷ hex_digit (b % 16) ∷ []
+    if is_unescaped b then b ∷ [] else 0x25 ∷ hex_digit (b / 16) ∷ hex_digit (b % 16) ∷ []
 
 -- each byte in its printed form
 abbrev pub printed : List ℕ → List ℕ

@@ -1,10 +1,14 @@
 -- What the table of a stream of batches is, from the bytes that come in to the bytes that go out.
-use Rattle.std.specs.Prelude.{◌≡◌, ℕ, List, [], ◌++◌, Option, None, Some, ⊤}
+use Rattle.std.specs.Prelude.{◌≡◌, ℕ, List, [], Option, None, Some, ⊤}
 use Rattle.std.specs.List.{flat_map}
+use Rattle.std.specs.Io.KnownBytes.{Appends}
 use Rattle.batch_codec.specs.Values.{BatchValue}
 use Rattle.batch_codec.specs.Grammar.{batch_encoding}
-use Rattle.partition_log.specs.Table.{placed, table_of, rows}
+use Rattle.content.specs.Logs.{IsLogPart}
+use Rattle.content.specs.Records.{log_records}
+use Rattle.content.specs.Table.{table_of, rows}
 use Rattle.tcp_edge.specs.Lines.{lines}
+use Rattle.tcp_edge.specs.Output.{AppendsFront}
 
 -- batches end to end
 abbrev pub stream : List BatchValue → List ℕ
@@ -12,7 +16,7 @@ stream bs = flat_map batch_encoding bs
 
 -- a line for each key that has a value after the last of the batches, by rising key bytes
 abbrev pub table_lines : List BatchValue → List ℕ
-table_lines bs = lines (rows (table_of (placed bs)))
+table_lines bs = lines (rows (table_of (log_records bs)))
 
 -- What a reader had left was these bytes, and it has told its end; where its bytes are not known, nothing is said.
 abbrev pub ReadsAll : Option (List ℕ) → Option (List ℕ) → List ℕ → Type 0
@@ -20,8 +24,18 @@ ReadsAll None left' bytes = ⊤
 ReadsAll (Some left) None bytes = ⊥
 ReadsAll (Some left) (Some left') bytes = (left ≡ bytes) × (left' ≡ [])
 
--- More batches stood at the front of the bytes that waited, and are kept behind those that were.
-pub record TakesBatches (waiting waiting' : List ℕ) (kept kept' : List BatchValue) : Type 0 where
-  pub taken : List BatchValue
-  pub encoded : waiting ≡ stream taken ++ waiting'
-  pub added : kept' ≡ kept ++ taken
+-- What a reader had left, to its end, was the batches bs of a log, end to end.
+abbrev pub ReadsLog : Option (List ℕ) → Option (List ℕ) → List BatchValue → Type 0
+ReadsLog left left' bs = IsLogPart bs × ReadsAll left left' (stream bs)
+
+-- The batches of a log were read to the reader's end, and the lines of their table were written.
+pub record PrintsTable (left left' held held' : Option (List ℕ)) : Type 0 where
+  pub batches : List BatchValue
+  pub read : ReadsLog left left' batches
+  pub written : Appends held held' (table_lines batches)
+
+-- The batches of a log were read to the reader's end, and a front of the lines of their table was written.
+pub record PrintsFront (left left' held held' : Option (List ℕ)) : Type 0 where
+  pub batches : List BatchValue
+  pub read : ReadsLog left left' batches
+  pub written : AppendsFront held held' (table_lines batches)

@@ -1,25 +1,19 @@
 //! The program's command line.
 
-ghost use Rattle.std.specs.Prelude.{◌≤◌};
+ghost use Rattle.std.specs.Prelude.{◌≡◌, ◌≢◌, ◌≤◌, ◌⊎◌, ℕ, List, IfOk, IfErr, map};
+ghost use Rattle.batch_codec.specs.Values.{BatchValue};
+ghost use Rattle.clap.specs.Words.{app_of, kind_of};
+ghost use Rattle.tcp_edge.specs.declared.error.Refusal.{Refusal};
+ghost use Rattle.tcp_edge.specs.CommandLine.{kbroker, AsksForTable};
+ghost use Rattle.tcp_edge.specs.Refused.{RefusesStream};
+ghost use Rattle.tcp_edge.specs.Tables.{ReadsLog, PrintsTable, PrintsFront};
 
-use crate::error::TableError;
-use crate::table::run_table;
+use crate::subcommand::{DONE, FAILED, FAULTY, NO_MEMORY, run_subcommand};
 use clap::error::ErrorKind;
 use clap::{Command, Error};
 use std::alloc::{AllocError, Global};
 use std::convert::AsStr;
 use std::io::{Read, Write};
-
-/// The status of a run that did what it was asked for.
-pub const DONE: u8 = 0;
-/// The status where the input is refused.
-pub const REFUSED: u8 = 1;
-/// The status of a faulty command line.
-pub const FAULTY: u8 = 2;
-/// The status of want of memory.
-pub const NO_MEMORY: u8 = 3;
-/// The status where a read or a write failed.
-pub const FAILED: u8 = 4;
 
 const ABOUT: &str = "A message broker with compacted topics";
 
@@ -27,7 +21,9 @@ const ABOUT_TABLE: &str = "Prints the current state of a topic: reads record bat
 from standard input, and writes a line KEY=VALUE for each key that has a value, by rising key bytes";
 
 /// What the program can be asked for.
-fn command<'a>(alloc: Global) -> Result<Command<'a>, AllocError> {
+fn command<'a>(alloc: Global) -> Result<Command<'a>, AllocError>
+    ensures { IfOk result (λ command. app_of command ≡ kbroker) }
+{
     let table = Command::new(alloc, "table").about(ABOUT_TABLE);
     Command::new(alloc, "kbroker")
         .version("0.1.0")
@@ -36,15 +32,21 @@ fn command<'a>(alloc: Global) -> Result<Command<'a>, AllocError> {
         .subcommand(table)
 }
 
-/// Looks the words up, of which the first is the program's name. The one subcommand is `table`.
-fn parse<S: AsStr>(alloc: Global, words: &[S]) -> Result<(), Error> {
-    let _matches = command(alloc)?.try_get_matches_from(words)?;
+/// Looks the arguments up, of which the first is the program's name. The one subcommand is `table`.
+fn parse<S: AsStr>(alloc: Global, arguments: &[S]) -> Result<(), Error>
+    ensures takes_table { IfErr result (λ error. AsksForTable (map S.text arguments.now)
+        → kind_of error ≡ ErrorKind.OutOfMemory) }
+{
+    let _matches = command(alloc)?.try_get_matches_from(arguments)?;
     Ok(())
 }
 
-/// Prints what `clap` says of the words, and answers the status.
+/// Prints what `clap` says of the arguments, and answers the status.
 fn explain<W: Write, E: Write>(error: &Error, out: &mut W, err: &mut E) -> u8
-    ensures { result ≤ FAILED }
+    ensures is_status { (result ≤ 4) × (result ≢ 1) }
+    ensures out_of_memory { kind_of error.now ≡ ErrorKind.OutOfMemory → result ≡ 3 }
+    ensures faulty_prints_nothing { result ≡ 2 → out.new ≡ out.old }
+    ensures out_of_memory_prints_nothing { result ≡ 3 → out.new ≡ out.old }
 {
     if matches!(error.kind(), ErrorKind::OutOfMemory) {
         let _ = writeln!(err, "kbroker: out of memory");
@@ -62,35 +64,44 @@ fn explain<W: Write, E: Write>(error: &Error, out: &mut W, err: &mut E) -> u8
     FAILED
 }
 
-/// Says why there is no table, and answers the status.
-fn complain<E: Write>(why: TableError, err: &mut E) -> u8
-    ensures { result ≤ FAILED }
-{
-    let _ = writeln!(err, "kbroker: {why}");
-    match why {
-        TableError::Batch { index: _, why: _ } => REFUSED,
-        TableError::OutOfMemory => NO_MEMORY,
-        TableError::Read | TableError::Write => FAILED,
-    }
-}
-
-/// Runs the program on its words, of which the first is its name, and answers its status: 0 done,
-/// 1 input refused, 2 a faulty command line, 3 want of memory, 4 a read or a write failed. A status
-/// of 1, 3 or 4 comes with one line on `err`.
+/// Runs the program on its arguments, of which the first is its name, and answers its status: 0
+/// done, 1 input refused, 2 a faulty command line, 3 out of memory, 4 a read or a write failed. A
+/// status of 1, 3 or 4 comes with one line on `err`.
 pub fn run_line<S: AsStr, R: Read, W: Write, E: Write>(
     alloc: Global,
-    words: &[S],
+    arguments: &[S],
     reader: &mut R,
     out: &mut W,
     err: &mut E,
 ) -> u8
-    ensures { result ≤ FAILED }
+    ensures is_status { result ≤ 4 }
+
+    // A run that is done has printed help and read nothing, or it has printed the table.
+    ensures done_prints_help_or_table { result ≡ 0 → (reader.new ≡ reader.old) ⊎ PrintsTable
+        (R.remaining reader.old) (R.remaining reader.new)
+        (W.contents out.old) (W.contents out.new) }
+    // Asked for the table, it prints the table or says why there is none.
+    ensures table_is_no_fault { AsksForTable (map S.text arguments.now) → result ≢ 2 }
+    ensures table_is_printed { AsksForTable (map S.text arguments.now) → result ≡ 0 → PrintsTable
+        (R.remaining reader.old) (R.remaining reader.new)
+        (W.contents out.old) (W.contents out.new) }
+
+    ensures refused_has_first_refused { result ≡ 1 → (index : ℕ) × (why : Refusal)
+        × RefusesStream (R.remaining reader.old) (R.remaining reader.new) index why }
+    ensures refused_prints_nothing { result ≡ 1 → out.new ≡ out.old }
+
+    ensures faulty_prints_nothing { result ≡ 2 → out.new ≡ out.old }
+    ensures faulty_reads_nothing { result ≡ 2 → reader.new ≡ reader.old }
+
+    ensures out_of_memory_prints_a_front { result ≡ 3 → (out.new ≡ out.old) ⊎ PrintsFront
+        (R.remaining reader.old) (R.remaining reader.new)
+        (W.contents out.old) (W.contents out.new) }
+    ensures failed_prints_nothing_before_whole_input { AsksForTable (map S.text arguments.now)
+        → result ≡ 4 → (out.new ≡ out.old) ⊎ ((bs : List BatchValue)
+        × ReadsLog (R.remaining reader.old) (R.remaining reader.new) bs) }
 {
-    if let Err(error) = parse(alloc, words) {
+    if let Err(error) = parse(alloc, arguments) {
         return explain(&error, out, err);
     }
-    match run_table(alloc, reader, out) {
-        Ok(()) => DONE,
-        Err(why) => complain(why, err),
-    }
+    run_subcommand(alloc, reader, out, err)
 }

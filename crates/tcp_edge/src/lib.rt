@@ -5,13 +5,10 @@ mod command_line;
 mod error;
 mod lines;
 mod pending;
+mod subcommand;
 mod table;
 
-pub use command_line::{DONE, FAILED, FAULTY, NO_MEMORY, REFUSED, run_line};
+pub use command_line::run_line;
 pub use error::{Refusal, TableError};
+pub use subcommand::{DONE, FAILED, FAULTY, NO_MEMORY, REFUSED, run_subcommand};
 pub use table::run_table;
-
-#[cfg(test)]
-mod failure_tests;
-#[cfg(test)]
-mod tests;

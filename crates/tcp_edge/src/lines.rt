@@ -1,7 +1,9 @@
 //! The lines that a table is printed as.
-ghost use Rattle.std.specs.Prelude.{◌≡◌, ◌<◌, ◌++◌, false, [], not, length, map, position, IfOk, OnOk};
-ghost use Rattle.std.specs.Io.KnownBytes.{Appends, append_known};
-ghost use Rattle.tcp_edge.specs.Lines.{is_plain, hex_digit, printed_byte, printed, line, lines, EndsOnce};
+
+ghost use Rattle.std.specs.Prelude.{◌≡◌, ◌<◌, ◌++◌, false, [], not, length, map, position, IfOk, OnOk, IsErrOf};
+ghost use Rattle.std.specs.Io.KnownBytes.{Appends};
+ghost use Rattle.tcp_edge.specs.Lines.{is_unescaped, hex_digit, printed_byte, printed, line, lines, EndsOnce};
+ghost use Rattle.tcp_edge.specs.Output.{Sends, AppendsFront};
 
 use std::alloc::{AllocError, Allocator};
 use std::io::Write;
@@ -17,9 +19,9 @@ pub(crate) enum WriteFailed {
     OutOfMemory,
 }
 
-/// Tells whether a byte is printed as it is.
-fn is_plain(byte: u8) -> bool
-    ensures { result ≡ is_plain byte }
+/// Whether a byte is printed as it is.
+fn is_unescaped(byte: u8) -> bool
+    ensures { result ≡ is_unescaped byte }
 {
     matches!(byte, 0x21..=0x7e) && byte != b'%' && byte != b'='
 }
@@ -36,36 +38,36 @@ fn hex_digit(digit: u8) -> u8
     }
 }
 
-/// The place of the first byte that isn't plain.
-fn first_special(bytes: &[u8]) -> Option<usize>
-    ensures { result ≡ position (λ byte. not (is_plain byte)) bytes.now }
+/// The index of the first byte that is escaped.
+fn first_escaped(bytes: &[u8]) -> Option<usize>
+    ensures { result ≡ position (λ byte. not (is_unescaped byte)) bytes.now }
 {
-    bytes.iter().position(|byte| !is_plain(*byte))
+    bytes.iter().position(|byte| !is_unescaped(*byte))
 }
 
 /// Pushes `%` and a byte's two digits.
 fn push_escape<A: Allocator>(out: &mut Vec<u8, A>, byte: u8) -> Result<(), AllocError>
-    requires { is_plain byte ≡ false }
+    requires { is_unescaped byte ≡ false }
     ensures { OnOk result (out.new.items ≡ out.old.items ++ printed_byte byte) }
 {
     out.extend_from_slice(&[b'%', hex_digit(byte / 16), hex_digit(byte % 16)])
 }
 
-/// Pushes the plain bytes at the front, and the escape of the byte behind them, if there is one.
-/// Gives the bytes that are left.
+/// Pushes the unescaped bytes at the front, and the escape of the byte behind them, if there is
+/// one. Gives the bytes that are left.
 fn push_run<'a, A: Allocator>(out: &mut Vec<u8, A>, bytes: &'a [u8]) -> Result<&'a [u8], AllocError>
     requires { 0 < length bytes.now }
     ensures pushed { IfOk result (λ rest.
         out.new.items ++ printed rest.now ≡ out.old.items ++ printed bytes.now) }
     ensures shorter { IfOk result (λ rest. length rest.now < length bytes.now) }
 {
-    let Some(plain) = first_special(bytes) else {
+    let Some(escaped) = first_escaped(bytes) else {
         out.extend_from_slice(bytes)?;
         return Ok(&bytes[bytes.len()..]);
     };
-    out.extend_from_slice(&bytes[..plain])?;
-    push_escape(out, bytes[plain])?;
-    Ok(&bytes[plain + 1..])
+    out.extend_from_slice(&bytes[..escaped])?;
+    push_escape(out, bytes[escaped])?;
+    Ok(&bytes[escaped + 1..])
 }
 
 /// Pushes the printed form of the bytes.
@@ -104,9 +106,10 @@ fn pass_on<A: Allocator, W: Write>(
     buffer: &mut Vec<u8, A>,
     writer: &mut W,
 ) -> Result<(), WriteFailed>
-    ensures passed { OnOk result
+    ensures writes_all { OnOk result
         (Appends (W.contents writer.old) (W.contents writer.new) buffer.old.items) }
-    ensures emptied { OnOk result (buffer.new.items ≡ []) }
+    ensures empties_buffer { OnOk result (buffer.new.items ≡ []) }
+    ensures takes_no_memory { ¬ IsErrOf result WriteFailed.OutOfMemory }
 {
     if writer.write_all(buffer).is_err() {
         return Err(WriteFailed::Write);
@@ -116,17 +119,15 @@ fn pass_on<A: Allocator, W: Write>(
 }
 
 /// Pushes a row's line, and hands what was collected to the writer once that is much.
-/// The writer's bytes and those in the buffer behind them have then grown by the line.
 fn write_line<A: Allocator, W: Write>(
     buffer: &mut Vec<u8, A>,
     writer: &mut W,
     key: &[u8],
     value: &[u8],
 ) -> Result<(), WriteFailed>
-    ensures { OnOk result (Appends
-        (append_known (W.contents writer.old) buffer.old.items)
-        (append_known (W.contents writer.new) buffer.new.items)
-        (line (key.now, value.now))) }
+    ensures sends_line { OnOk result (Sends (W.contents writer.old) (W.contents writer.new)
+        buffer.old.items buffer.new.items (line (key.now, value.now))) }
+    ensures out_of_memory_writes_nothing { IsErrOf result WriteFailed.OutOfMemory → writer.new ≡ writer.old }
 {
     if push_line(buffer, key, value).is_err() {
         return Err(WriteFailed::OutOfMemory);
@@ -144,8 +145,11 @@ pub(crate) fn write_lines<A: Allocator + Copy, W: Write>(
     writer: &mut W,
     rows: &[(&[u8], &[u8])],
 ) -> Result<(), WriteFailed>
-    ensures { OnOk result (Appends (W.contents writer.old) (W.contents writer.new)
+    ensures writes_lines { OnOk result (Appends (W.contents writer.old) (W.contents writer.new)
         (lines (map (λ row. (row.0.now, row.1.now)) rows.now))) }
+    ensures out_of_memory_writes_a_front { IsErrOf result WriteFailed.OutOfMemory
+        → AppendsFront (W.contents writer.old) (W.contents writer.new)
+        (lines (map (λ row. (row.0.now, row.1.now)) rows.now)) }
 {
     let mut buffer = Vec::new(alloc);
     for (key, value) in rows {

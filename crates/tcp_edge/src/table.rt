@@ -1,14 +1,16 @@
 //! The table of a stream of batches.
 
-ghost use Rattle.std.specs.Prelude.{◌≡◌, ◌<◌, List, length, IfOk, OnOk, IfErr, OnErr, IsErrOf, MatchBool};
+ghost use Rattle.std.specs.Prelude.{◌≡◌, ◌<◌, ◌⊎◌, List, length, IfOk, OnOk, IfErr, OnErr, IsErrOf, MatchBool};
 ghost use Rattle.std.specs.Bool.{OnFalse};
 ghost use Rattle.std.specs.Io.KnownBytes.{Appends};
 ghost use Rattle.batch_codec.specs.declared.error.BatchError.TheVariants.{Short};
 ghost use Rattle.batch_codec.specs.Refusals.{FirstFault};
 ghost use Rattle.batch_codec.specs.Values.{BatchValue};
-ghost use Rattle.partition_log.specs.Content.{IsLog};
+ghost use Rattle.content.specs.Logs.{IsLogPart};
 ghost use Rattle.tcp_edge.specs.declared.error.TableError.TheVariants.{Batch};
-ghost use Rattle.tcp_edge.specs.Tables.{stream, table_lines, TakesBatches, ReadsAll};
+ghost use Rattle.tcp_edge.specs.Input.{TakesBatches};
+ghost use Rattle.tcp_edge.specs.Output.{AppendsFront};
+ghost use Rattle.tcp_edge.specs.Tables.{stream, table_lines, ReadsAll, ReadsLog, PrintsTable, PrintsFront};
 ghost use Rattle.tcp_edge.specs.Refused.{RefusesNext, RefusesStream, IfBatch};
 
 use crate::error::{Refusal, TableError};
@@ -37,13 +39,15 @@ fn take_batch<A: Allocator + Copy>(
     log: &mut PartitionLog<A>,
     pending: &mut Pending<A>,
 ) -> Result<bool, TableError>
-    requires { IsLog log.old.kept }
+    requires { IsLogPart log.old.kept }
     ensures more { IfOk result (λ more. MatchBool more
         (TakesBatches pending.old pending.new log.old.kept log.new.kept)
         ((pending.new ≡ pending.old) × (log.new ≡ log.old))) }
-    ensures fewer { IfOk result (λ more. MatchBool more (length pending.new < length pending.old) (pending.new ≡ pending.old)) }
+    ensures fewer { IfOk result (λ more. MatchBool more
+        (length pending.new < length pending.old)
+        (pending.new ≡ pending.old)) }
     ensures short { IfOk result (λ more. OnFalse more (FirstFault Short pending.old)) }
-    ensures log { OnOk result (IsLog log.new.kept) }
+    ensures log { OnOk result (IsLogPart log.new.kept) }
 
     ensures refused { IfErr result (λ e. IfBatch e (RefusesNext log.old.kept pending.old)) }
     ensures no_read { ¬ IsErrOf result TableError.Read }
@@ -68,9 +72,9 @@ fn take_batches<A: Allocator + Copy>(
     log: &mut PartitionLog<A>,
     pending: &mut Pending<A>,
 ) -> Result<(), TableError>
-    requires { IsLog log.old.kept }
+    requires { IsLogPart log.old.kept }
     ensures taken { TakesBatches pending.old pending.new log.old.kept log.new.kept }
-    ensures log { IsLog log.new.kept }
+    ensures log { IsLogPart log.new.kept }
     ensures short { OnOk result (FirstFault Short pending.new) }
     ensures refused { IfErr result (λ e. IfBatch e (RefusesNext log.new.kept pending.new)) }
     ensures no_write { ¬ IsErrOf result TableError.Write }
@@ -84,8 +88,9 @@ fn read_log<A: Allocator + Copy, R: Read>(
     alloc: A,
     reader: &mut R,
 ) -> Result<PartitionLog<A>, TableError>
-    ensures log { IfOk result (λ log. IsLog log.kept) }
-    ensures read { IfOk result (λ log. ReadsAll (R.remaining reader.old) (R.remaining reader.new) (stream log.kept)) }
+    ensures log { IfOk result (λ log. IsLogPart log.kept) }
+    ensures read { IfOk result (λ log. ReadsAll
+        (R.remaining reader.old) (R.remaining reader.new) (stream log.kept)) }
     ensures refused { IfErr result (λ e. IfBatch e
         (RefusesStream (R.remaining reader.old) (R.remaining reader.new))) }
     ensures no_write { ¬ IsErrOf result TableError.Write }
@@ -111,7 +116,10 @@ fn print_log<A: Allocator + Copy, W: Write>(
     log: &PartitionLog<A>,
     writer: &mut W,
 ) -> Result<(), TableError>
-    ensures ok { OnOk result (Appends (W.contents writer.old) (W.contents writer.new) (table_lines log.now.kept)) }
+    ensures writes_lines { OnOk result
+        (Appends (W.contents writer.old) (W.contents writer.new) (table_lines log.now.kept)) }
+    ensures out_of_memory_writes_a_front { IsErrOf result TableError.OutOfMemory → AppendsFront
+        (W.contents writer.old) (W.contents writer.new) (table_lines log.now.kept) }
     ensures no_batch { IfErr result (λ e. IfBatch e (λ index why. ⊥)) }
     ensures no_read { ¬ IsErrOf result TableError.Read }
 {
@@ -132,7 +140,7 @@ fn print_log<A: Allocator + Copy, W: Write>(
 ///
 /// # Errors
 ///
-/// A batch that is refused, with its number; a reader or writer that fails; want of memory.
+/// A batch that is refused, with its number from 0; a reader or writer that fails; out of memory.
 pub fn run_table<A: Allocator + Copy, R: Read, W: Write>(
     alloc: A,
     reader: &mut R,
@@ -140,19 +148,24 @@ pub fn run_table<A: Allocator + Copy, R: Read, W: Write>(
 ) -> Result<(), TableError>
     // What was read, to the reader's end, is whole batches with keys, end to end, whose spans rise
     // and don't meet; what was written is the lines of the table of their records.
-    ensures ok { OnOk result ((bs : List BatchValue) × IsLog bs
-        × ReadsAll (R.remaining reader.old) (R.remaining reader.new) (stream bs)
-        × Appends (W.contents writer.old) (W.contents writer.new) (table_lines bs)) }
+    ensures prints_table { OnOk result (PrintsTable
+        (R.remaining reader.old) (R.remaining reader.new)
+        (W.contents writer.old) (W.contents writer.new)) }
+
     // What was read is as many batches as the index says, all taken, and then some bytes that are
     // refused for the reason given; bytes are too few for a batch only at the reader's end.
-    ensures refused { IfErr result (λ e. IfBatch e
+    ensures names_first_refused { IfErr result (λ e. IfBatch e
         (RefusesStream (R.remaining reader.old) (R.remaining reader.new))) }
-    // Nothing is written where the input is refused, or can't be read to its end.
-    ensures unwritten { IfErr result (λ e. IfBatch e (λ index why. writer.new ≡ writer.old)) }
-    ensures unread { IsErrOf result TableError.Read → writer.new ≡ writer.old }
-    // A write fails only once the input was accepted whole.
-    ensures accepted { IsErrOf result TableError.Write → (bs : List BatchValue) × IsLog bs
-        × ReadsAll (R.remaining reader.old) (R.remaining reader.new) (stream bs) }
+    ensures refusal_prints_nothing { IfErr result (λ e. IfBatch e (λ index why. writer.new ≡ writer.old)) }
+
+    ensures read_error_prints_nothing { IsErrOf result TableError.Read → writer.new ≡ writer.old }
+    ensures write_error_after_whole_input { IsErrOf result TableError.Write →
+        (bs : List BatchValue) × ReadsLog (R.remaining reader.old) (R.remaining reader.new) bs }
+    // Without memory nothing was written, or only lines of the table, from the front.
+    ensures out_of_memory_prints_a_front { IsErrOf result TableError.OutOfMemory →
+        (writer.new ≡ writer.old) ⊎ PrintsFront
+        (R.remaining reader.old) (R.remaining reader.new)
+        (W.contents writer.old) (W.contents writer.new) }
 {
     let log = read_log(alloc, reader)?;
     print_log(alloc, &log, writer)

@@ -1,4 +1,4 @@
--- It asks the inner allocator where it is lent, and refuses where it is not. Assumes `Logic`.
+-- It asks the inner allocator where it may borrow it, and refuses where it may not. Assumes `Logic`.
 use mathlib.Core.Path.{◌≡◌, refl}
 use mathlib.Core.Bool.{true, false}
 use Prim.Native.Nat.{ℕ, ◌<◌, ◌^◌}
@@ -60,8 +60,8 @@ use Rattle.std.specs.Prelude.{Option}
 use Rattle.std.specs.Prelude.{None, Some}
 use Rattle.std.proofs.alloc.Shapes.{after, front, arm_body}
 use Rattle.refusing_alloc.specs.contracts.Refusing as L
-use Rattle.refusing_alloc.proofs.Lent.{lent_key, Lends, at_lent, Told, shown_val, seen_if, Shown-typed, lent_goes, lent_Gives}
-use Rattle.refusing_alloc.proofs.Refusing.lent.Met as lent_met
+use Rattle.refusing_alloc.proofs.Borrowing.{borrow_key, Borrows, at_borrow, Told, shown_val, seen_if, Shown-typed, borrow_goes, borrow_Gives}
+use Rattle.refusing_alloc.proofs.Refusing.borrow_inner.Met as borrow_met
 
 module _ (Z : Al) where
   abbrev args : Args
@@ -80,7 +80,7 @@ module _ (Z : Al) where
   stayed = (stay_dropped self yes, (stay_dropped (plain (λ _. usize)) yes, (stay_dropped (plain (λ _. usize)) yes, tt)))
 
 module _ (Z : Al) {M : Type 1} {𝓤 : Ura M} (𝓛 : Logic 𝓤) (at_mem : Memory → SProp 𝓤) (run : Routine → Fun 𝓤) (𝓣 : Tables 𝓤 𝓛.H) (tk : Triple 𝓤 (𝓣.C (takes_key Z)) (Takes Z 𝓛 at_mem run))
-    (ln : Triple 𝓤 (𝓣.C (lent_key Z)) (Lends Z 𝓛 at_mem run)) where
+    (ln : Triple 𝓤 (𝓣.C (borrow_key Z)) (Borrows Z 𝓛 at_mem run)) where
   open 𝓛 use {H}
 
   abbrev held : Clauses 𝓤 (ended Z)
@@ -144,9 +144,9 @@ module _ (Z : Al) {M : Type 1} {𝓤 : Ura M} (𝓛 : Logic 𝓤) (at_mem : Memo
         qed 𝓛 (((‵ (flft κ q) ⊛ ‵ (flft ρ s) ⊛ ‵ ftrue) ⊛ ‵ (owns (types_at (ended Z).signature.params bound.0.0) bound.0.3 bound.0.4)) ∷ (raw (fact 𝓤 (ρ ⊑ Z.row.lives)) ⊛ raw (fact 𝓤 Said)) ∷ []) ∵
         move ! (1 ∷ []) $ split ! $ heard ! (ρ ⊑ Z.row.lives) (λ le. heard ! Said (λ said. split ! $ move ! (1 ∷ []) $ fsplit ! $ fsplit ! $ keep ! (1 ∷ 3 ∷ []) $
         enter ! 𝓣.C 𝓣.Λ (here Z) vs _ $ alloc_all ! (λ l. pass_all ! refl ((tt, tt), ((tt, record { fits = fn }), ((tt, record { fits = fa }), tt))) $
-        use2 𝓛 (raw ((Lends Z 𝓛 at_mem run).pre (at_lent Z 𝓛 at_mem run κ ρ q s out r))) (lent_goes Z 𝓛 at_mem run κ ρ q s out r le) $
-        calls_at ! (fm_of 𝓤 H 𝓛.laws 𝓣) (Lends Z 𝓛 at_mem run) ln (at_lent Z 𝓛 at_mem run κ ρ q s out r) (and_then ! (get ! refl) (no_more !)) (λ u.
-        use1 𝓛 (later (some (λ (f : Option (Bor Z.row.Denot)). given ((u ≡ shown_val f) × Told Z 𝓛 at_mem run κ ρ q s out r f) (‵ (seen_if Z κ f) ⊛ ‵ (flft κ q) ⊛ ‵ (flft ρ s) ⊛ ‵ ftrue)))) (lent_Gives Z 𝓛 at_mem run κ ρ q s out r u) $ await ! tt $ pick ! (λ f.
+        use2 𝓛 (raw ((Borrows Z 𝓛 at_mem run).pre (at_borrow Z 𝓛 at_mem run κ ρ q s out r))) (borrow_goes Z 𝓛 at_mem run κ ρ q s out r le) $
+        calls_at ! (fm_of 𝓤 H 𝓛.laws 𝓣) (Borrows Z 𝓛 at_mem run) ln (at_borrow Z 𝓛 at_mem run κ ρ q s out r) (and_then ! (get ! refl) (no_more !)) (λ u.
+        use1 𝓛 (later (some (λ (f : Option (Bor Z.row.Denot)). given ((u ≡ shown_val f) × Told Z 𝓛 at_mem run κ ρ q s out r f) (‵ (seen_if Z κ f) ⊛ ‵ (flft κ q) ⊛ ‵ (flft ρ s) ⊛ ‵ ftrue)))) (borrow_Gives Z 𝓛 at_mem run κ ρ q s out r u) $ await ! tt $ pick ! (λ f.
         shown fn fa le said l u f)))))
 
 pub allocate_spec : {M : Type 1} → stated.statement M
@@ -159,4 +159,4 @@ allocate_spec 𝓤 𝓛 𝓜 𝓡 wired Y L g d d' met _ =
     entered 𝓤 𝓛.H (triple_of 𝓛 (F.signature Y) (F.spec Y g d d' 𝓛 𝓜.mem 𝓡.returns)) 𝓣.C 𝓣.Λ (key.name (args Z)) (here Z) (code.unfolded 𝓤 𝓛.H 𝓜 𝓡 wired (Y, tt) d d')
     (walk_Meets 𝓛 (ended Z) (stayed Z) (Goes-dropped 𝓛 2 (self Z) yes (λ κs x f. refl), (Goes-dropped 𝓛 2 (plain (λ _. usize)) yes (λ κs x f. refl), (Goes-dropped 𝓛 2 (plain (λ _. usize)) yes (λ κs x f. refl), tt))) c (WpFn 𝓤 𝓛.H 𝓣.C 𝓣.Λ (here Z)) (WpFn-mono 𝓤 𝓛.H 𝓛.laws 𝓣 (here Z))
     (walked 𝓛 (ended Z) (stayed Z) c (WpFn 𝓤 𝓛.H 𝓣.C 𝓣.Λ (here Z)) (λ κs. (shr_vals, (uint_vals w64, (uint_vals w64, tt)))) (λ κs. ((λ r vs s. s.0), (uint_Tells w64, (uint_Tells w64, tt))))
-    (λ κs qs bounds a τ are. walk Z 𝓛 𝓜.mem 𝓡.returns 𝓣 (met.allocate d') (lent_met.met 𝓤 𝓛 𝓜 𝓡 (code.calls-refusing_alloc::Refusing::lent 𝓡.env wired) Y L) κs.0 κs.1.0 qs.0 qs.1.0 bounds.0 a.0 a.1.0 a.1.1.0 τ are.1.0.1 are.1.1.0.1)))
+    (λ κs qs bounds a τ are. walk Z 𝓛 𝓜.mem 𝓡.returns 𝓣 (met.allocate d') (borrow_met.met 𝓤 𝓛 𝓜 𝓡 (code.calls-refusing_alloc::Refusing::borrow_inner 𝓡.env wired) Y L) κs.0 κs.1.0 qs.0 qs.1.0 bounds.0 a.0 a.1.0 a.1.1.0 τ are.1.0.1 are.1.1.0.1)))

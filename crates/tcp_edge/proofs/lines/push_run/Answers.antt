@@ -1,5 +1,5 @@
 use Rattle.std.proofs.Common.{sym}
-use Rattle.tcp_edge.proofs.Printed.{special_there, pushed_all, pushed_run}
+use Rattle.tcp_edge.proofs.Printed.{escaped_there, pushed_all, pushed_run}
 use Rattle.tcp_edge.proofs.lines.push_run.Goals as goal
 
 pub returns-in_default-clause-pushed : goal.returns-in_default-clause-pushed
@@ -7,7 +7,7 @@ returns-in_default-clause-pushed g c =
     pushed_all _ _ c.args.bytes.now (sym c.in_default.ensures) c.in_ok-extend_from_slice.ensures.items
 
 pub push_escape-requires : goal.push_escape-requires
-push_escape-requires g c = special_there c.args.bytes.now _ (sym c.in-Some.ensures)
+push_escape-requires g c = escaped_there c.args.bytes.now _ (sym c.in-Some.ensures)
 
 pub returns-clause-pushed : goal.returns-clause-pushed
 returns-clause-pushed g c =

@@ -1,0 +1,70 @@
+//! What the program does once its arguments are read, and how it answers.
+
+ghost use Rattle.std.specs.Prelude.{◌≡◌, ◌≢◌, ◌≤◌, ◌⊎◌, List, ℕ};
+ghost use Rattle.batch_codec.specs.Values.{BatchValue};
+ghost use Rattle.tcp_edge.specs.declared.error.Refusal.{Refusal};
+ghost use Rattle.tcp_edge.specs.Status.{status_of};
+ghost use Rattle.tcp_edge.specs.Tables.{ReadsLog, PrintsTable, PrintsFront};
+ghost use Rattle.tcp_edge.specs.Refused.{RefusesStream};
+
+use crate::error::TableError;
+use crate::table::run_table;
+use std::alloc::Allocator;
+use std::io::{Read, Write};
+
+/// The status of a run that did what it was asked for.
+pub const DONE: u8 = 0;
+/// The status where the input is refused.
+pub const REFUSED: u8 = 1;
+/// The status of a faulty command line.
+pub const FAULTY: u8 = 2;
+/// The status where there is no memory.
+pub const NO_MEMORY: u8 = 3;
+/// The status where a read or a write failed.
+pub const FAILED: u8 = 4;
+
+/// The status where there is no table.
+fn status_of(why: TableError) -> u8
+    ensures { result ≡ status_of why }
+{
+    match why {
+        TableError::Batch { index: _, why: _ } => REFUSED,
+        TableError::OutOfMemory => NO_MEMORY,
+        TableError::Read | TableError::Write => FAILED,
+    }
+}
+
+/// Runs the subcommand `table`: prints the table of what the reader gives, and answers the status,
+/// 0 done, 1 the input is refused, 3 out of memory, 4 a read or a write failed. A status that is
+/// not 0 comes with one line on `err`.
+pub fn run_subcommand<A: Allocator + Copy, R: Read, W: Write, E: Write>(
+    alloc: A,
+    reader: &mut R,
+    out: &mut W,
+    err: &mut E,
+) -> u8
+    ensures is_status { (result ≤ 4) × (result ≢ 2) }
+
+    ensures done_prints_table { result ≡ 0 → PrintsTable
+        (R.remaining reader.old) (R.remaining reader.new)
+        (W.contents out.old) (W.contents out.new) }
+    ensures done_complains_of_nothing { result ≡ 0 → err.new ≡ err.old }
+
+    ensures refused_has_first_refused { result ≡ 1 → (index : ℕ) × (why : Refusal)
+        × RefusesStream (R.remaining reader.old) (R.remaining reader.new) index why }
+    ensures refused_prints_nothing { result ≡ 1 → out.new ≡ out.old }
+
+    ensures out_of_memory_prints_a_front { result ≡ 3 → (out.new ≡ out.old) ⊎ PrintsFront
+        (R.remaining reader.old) (R.remaining reader.new)
+        (W.contents out.old) (W.contents out.new) }
+    ensures failed_prints_nothing_before_whole_input { result ≡ 4 → (out.new ≡ out.old) ⊎
+        ((bs : List BatchValue) × ReadsLog (R.remaining reader.old) (R.remaining reader.new) bs) }
+{
+    match run_table(alloc, reader, out) {
+        Ok(()) => DONE,
+        Err(why) => {
+            let _ = writeln!(err, "kbroker: {why}");
+            status_of(why)
+        }
+    }
+}
