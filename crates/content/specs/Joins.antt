@@ -16,9 +16,9 @@ use Rattle.content.specs.Content.{Content}
 pub data Slot : Type 0 where
   -- the offset was not seen
   Unknown : Slot
-  -- a batch is kept there
+  -- a batch with this base is kept
   Kept : BatchValue → Slot
-  -- the offset was seen, and no batch is kept there
+  -- the offset was seen, and no kept batch has this base
   Gone : Slot
   -- the offset is below the start
   Below : Slot

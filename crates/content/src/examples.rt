@@ -2,16 +2,16 @@
 //! whose outcome was found by hand.
 #![tactic(auto, unfolding(crate::specs::ByOffset::put, cover_ranges::specs::Runs::with_range, crate::specs::Table::table_of, crate::specs::Joins::join, crate::specs::Verdicts::verdict))]
 
-ghost use Rattle.std.specs.Prelude.{◌≡◌, pos, [], ◌∷◌, true, Some, None};
+ghost use Rattle.std.specs.Prelude.{◌≡◌, ◌^◌, pos, [], ◌∷◌, true, Some, None};
 ghost use Rattle.std.specs.FinMap.{get};
 ghost use Rattle.batch_codec.specs.Offsets.{IsWhole};
 ghost use Rattle.content.specs.declared.verdict.Verdict.TheVariants.{New, Repeat, OldEpoch, OutOfOrder};
-ghost use Rattle.content.specs.Content.{empty, add, end, has_seen_all, shown_table};
-ghost use Rattle.content.specs.Windows.{heads, window};
+ghost use Rattle.content.specs.Content.{empty, add, end, has_seen_all, shown_table, IsAcceptedStart};
+ghost use Rattle.content.specs.Windows.{heads, producer_window};
 ghost use Rattle.content.specs.Verdicts.{verdict};
 ghost use Rattle.content.specs.Joins.{join, AgreeAt};
 ghost use Rattle.content.specs.Cleaning.{clean, clean_report};
-ghost use Rattle.content.specs.Examples.{key_a, key_b, two, three, numbered, batch_0, batch_1, batch_2, batch_3, other_0, three_then_one, copy_of_three, cleaned_three, cut_at_2, twice_a, thin_a, cleaned_twice_a, a_b_a_b, latest_a_b, five_and_one, sixth};
+ghost use Rattle.content.specs.Examples.{key_a, key_b, two, three, entry, batch_0, batch_1, batch_2, batch_3, other_0, three_then_one, copy_of_three, cleaned_three, cut_at_2, twice_a, thin_a, cleaned_twice_a, a_b_a_b, latest_a_b, five_and_one, sixth, copy_of_four, last_possible};
 
 /// Deliveries in any order, and one that comes again.
 pub fn deliveries()
@@ -74,35 +74,39 @@ pub fn retries()
         ≡ record { records = 5; tombstones = 0; batches = 0 } }
     // So these are also the heads of the cleaned copy, by which the verdicts below go.
     ensures empty_batches_stay { heads (clean (pos 6) (pos 0) five_and_one).kept ≡ heads five_and_one.kept }
-    // A batch at base 6 of producer 7, epoch 0, with sequence number 0.
-    ensures retry_is_recognised { verdict (window (heads five_and_one.kept) (pos 7))
-        (numbered (pos 6) (pos 7) (pos 0) (pos 0)) ≡ Repeat (pos 0) }
-    // The same with sequence number 5.
-    ensures next_is_new { verdict (window (heads five_and_one.kept) (pos 7))
-        (numbered (pos 6) (pos 7) (pos 0) (pos 5)) ≡ New }
-    // Sequence number 0 after a sixth batch.
-    ensures too_old_is_out_of_order { verdict (window (heads (add five_and_one sixth).kept) (pos 7))
-        (numbered (pos 7) (pos 7) (pos 0) (pos 0)) ≡ OutOfOrder }
+    // A batch of producer 7 and epoch 0 with sequence number 0 comes again.
+    ensures retry_is_recognised { verdict (producer_window (heads five_and_one.kept) (pos 7)) (pos 0) (pos 0) (pos 0)
+        ≡ Repeat (pos 0) }
+    ensures next_is_new { verdict (producer_window (heads five_and_one.kept) (pos 7)) (pos 0) (pos 5) (pos 0)
+        ≡ New }
+    // Sequence number 0 comes again after a sixth batch.
+    ensures too_old_is_out_of_order { verdict (producer_window (heads (add five_and_one sixth).kept) (pos 7))
+        (pos 0) (pos 0) (pos 0) ≡ OutOfOrder }
 {}
 
-/// Sequence numbers wrap, and an epoch begins with 0. The four numbers are a batch's base, producer,
-/// epoch and sequence number.
+/// Sequence numbers wrap, and an epoch begins with 0. The three numbers of an entry are a batch's
+/// base, epoch and first sequence number; those of a verdict are its epoch, first sequence number
+/// and last offset delta.
 pub fn sequences()
-    ensures any_first_sequence { verdict [] (numbered (pos 0) (pos 8) (pos 0) (pos 2147483647)) ≡ New }
-    ensures wraps_to_0 { verdict (numbered (pos 0) (pos 8) (pos 0) (pos 2147483647) ∷ [])
-        (numbered (pos 1) (pos 8) (pos 0) (pos 0)) ≡ New }
-    ensures new_epoch_must_begin_with_0 { verdict (numbered (pos 1) (pos 8) (pos 0) (pos 0) ∷ [])
-        (numbered (pos 2) (pos 8) (pos 1) (pos 3)) ≡ OutOfOrder }
-    ensures new_epoch { verdict (numbered (pos 1) (pos 8) (pos 0) (pos 0) ∷ [])
-        (numbered (pos 2) (pos 8) (pos 1) (pos 0)) ≡ New }
-    ensures old_epoch { verdict (numbered (pos 2) (pos 8) (pos 1) (pos 0) ∷ [])
-        (numbered (pos 3) (pos 8) (pos 0) (pos 0)) ≡ OldEpoch }
+    ensures any_first_sequence { verdict [] (pos 0) (pos 2147483647) (pos 0) ≡ New }
+    ensures wraps_to_0 { verdict (entry (pos 0) (pos 0) (pos 2147483647) ∷ []) (pos 0) (pos 0) (pos 0) ≡ New }
+    ensures new_epoch_must_begin_with_0 { verdict (entry (pos 1) (pos 0) (pos 0) ∷ []) (pos 1) (pos 3) (pos 0) ≡ OutOfOrder }
+    ensures new_epoch { verdict (entry (pos 1) (pos 0) (pos 0) ∷ []) (pos 1) (pos 0) (pos 0) ≡ New }
+    ensures old_epoch { verdict (entry (pos 2) (pos 1) (pos 0) ∷ []) (pos 0) (pos 0) (pos 0) ≡ OldEpoch }
 {}
 
 /// Copies of different logs may disagree: in a record, or in a batch's span.
 pub fn disagreement()
     ensures records { ¬ AgreeAt (add empty batch_0) (add empty other_0) (pos 0) }
     ensures span { ¬ AgreeAt (add empty twice_a) (add empty batch_0) (pos 0) }
+{}
+
+/// Where a copy's start may move to: not into a batch, and to the end, also past the last offset.
+pub fn accepted_starts()
+    ensures at_a_kept_batch { IsAcceptedStart (clean (pos 3) (pos 3) copy_of_four) (pos 3) }
+    ensures not_where_none_is_kept { ¬ IsAcceptedStart (clean (pos 3) (pos 3) copy_of_four) (pos 2) }
+    ensures not_into_a_batch { ¬ IsAcceptedStart (add empty a_b_a_b) (pos 2) }
+    ensures ends_after_the_last_offset { end (add empty last_possible) ≡ pos (2 ^ 62) }
 {}
 
 /// After a cut at offset 2 nothing below it counts or comes back.
