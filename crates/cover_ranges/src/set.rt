@@ -44,8 +44,8 @@ impl<A: Allocator + Copy> Cover<A> {
         }
     }
 
-    /// Takes a list of ranges, each from its first to its last offset, as a set. They rise, and there
-    /// is a gap between any two.
+    /// Takes a list of ranges, each from its first to its last offset, as a set. They rise, and
+    /// there is a gap between any two.
     ///
     /// The first range at fault decides the error, and within it the first of `EmptyRange`,
     /// `NotRising` and `OutOfBounds`. `OutOfMemory` comes only where no range is at fault.

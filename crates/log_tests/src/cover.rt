@@ -1,5 +1,5 @@
-//! `cover_ranges`: sets of offsets worked by hand, the refusals of `from_ranges`, and each allocation
-//! failing in turn.
+//! `cover_ranges`: sets of offsets worked by hand, the refusals of `from_ranges`, and each
+//! allocation failing in turn.
 ghost use Rattle.std.specs.Prelude.{◌<◌, pos, ◌≤ℤ◌};
 
 use cover_ranges::{Cover, CoverError, OFFSETS_END};
@@ -85,7 +85,7 @@ fn the_first_range_at_fault_decides(rt: HostRuntime) -> Result<(), Fail> {
 #[test]
 fn questions_take_any_numbers(rt: HostRuntime) -> Result<(), Fail> {
     let cover = Cover::from_ranges(rt.alloc(), &[(0, 4), (10, 12), (20, GREATEST)])?;
-    // whether all and whether some offsets from first to last are there, and the first gap from first on
+    // whether all and whether some offsets from first to last are in the set, and its first gap
     let rows: [(i64, i64, bool, bool, i64); 11] = [
         (0, 0, true, true, 5),
         (1, 4, true, true, 5),
