@@ -4,3 +4,4 @@ pub mod WindowPush
 pub mod WindowPart
 pub mod Epochs
 pub mod Legal
+pub mod Tables
