@@ -5,3 +5,4 @@ pub mod WindowPart
 pub mod Epochs
 pub mod Legal
 pub mod Tables
+pub mod PlainLogs

@@ -12,8 +12,8 @@ pub fn window_of_one_more()
     ensures { (low p : ℤ) (hs : List BatchHead) (h : BatchHead)
         → Rises (λ x. x.base) low (hs ++ h ∷ []) → pos 0 ≤ℤ p
         → producer_window (hs ++ h ∷ []) p ≡ (if int_eq h.producer p
-            then with_entry (producer_window hs p) (entry_of h)
-            else producer_window hs p) }
+        then with_entry (producer_window hs p) (entry_of h)
+        else producer_window hs p) }
 {}
 
 /// A batch of a list's window is in the window of each part of the list that has it.
