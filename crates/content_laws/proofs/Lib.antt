@@ -1,4 +1,6 @@
 pub mod ByOffset
+pub mod Batches
+pub mod BatchParts
 pub mod Windows
 pub mod WindowPush
 pub mod WindowPart
