@@ -8,3 +8,4 @@ pub mod Epochs
 pub mod Legal
 pub mod Tables
 pub mod PlainLogs
+pub mod CopyFacts
