@@ -9,3 +9,4 @@ pub mod Legal
 pub mod Tables
 pub mod PlainLogs
 pub mod CopyFacts
+pub mod CopyParts
