@@ -10,3 +10,4 @@ pub mod Tables
 pub mod PlainLogs
 pub mod CopyFacts
 pub mod CopyParts
+pub mod CopyAdd
