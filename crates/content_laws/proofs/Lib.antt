@@ -11,3 +11,4 @@ pub mod PlainLogs
 pub mod CopyFacts
 pub mod CopyParts
 pub mod CopyAdd
+pub mod CopyGrow
