@@ -12,3 +12,4 @@ pub mod CopyFacts
 pub mod CopyParts
 pub mod CopyAdd
 pub mod CopyGrow
+pub mod CopyCut
