@@ -1,6 +1,7 @@
 pub mod ByOffset
 pub mod Batches
 pub mod BatchParts
+pub mod Slots
 pub mod Windows
 pub mod WindowPush
 pub mod WindowPart
