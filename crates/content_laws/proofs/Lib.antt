@@ -1,6 +1,8 @@
 pub mod ByOffset
 pub mod Batches
 pub mod BatchParts
+pub mod Slots
+pub mod ContentSteps
 pub mod Windows
 pub mod WindowPush
 pub mod WindowPart
