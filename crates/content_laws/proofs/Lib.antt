@@ -15,3 +15,4 @@ pub mod CopyParts
 pub mod CopyAdd
 pub mod CopyGrow
 pub mod CopyCut
+pub mod CopyClean
