@@ -3,6 +3,7 @@ pub mod Batches
 pub mod BatchParts
 pub mod Slots
 pub mod ContentSteps
+pub mod JoinLaws
 pub mod Windows
 pub mod WindowPush
 pub mod WindowPart

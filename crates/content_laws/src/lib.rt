@@ -4,6 +4,8 @@
 //! The functions do nothing: each clause is a law. No code stands on them yet.
 #![tactic(auto)]
 
+pub mod contents;
+pub mod joins;
 pub mod legal_logs;
 pub mod lists;
 pub mod producer_windows;
