@@ -156,9 +156,9 @@ module _ (c : Content) (b : BatchValue) (log : Batches) (content : IsContent c) 
       by : (covers c.cover o ≡ true) ⊎ ((first_offset b ≤ℤ o) × (o ≤ℤ last_offset b)) → (record_at (with_batch c b).kept o ≡ Some r) ⊎ IsDeadTombstone (with_batch c b) o r
       by (inr here) = inl (holds_new o r here.0 here.1 there)
       by (inl old) = elim (copy.latest o r there old (λ q s in_q seen same. last q s in_q (more q seen) same)) [
-            inl held ↦ inl (holds_old o r held)
-          | inr dead ↦ inr (still_dead o r last dead)
-          ]
+        | inl held ↦ inl (holds_old o r held)
+        | inr dead ↦ inr (still_dead o r last dead)
+      ]
 
   window : (base : ℤ) (y : BatchValue) → look_up first_offset base log ≡ Some y → is_inside (with_batch c b).cover y ≡ true → pos 0 ≤ℤ y.head.producer → is_in_window (heads_inside (with_batch c b).cover log) y.head ≡ true → IsSome (look_up first_offset base (with_batch c b).kept)
   window base y there inside numbered is = by (int_eq (first_offset b) base) refl

@@ -97,7 +97,10 @@ module _ (c : Content) (s : ℤ) (log : Batches) (content : IsContent c) (plain 
       let seen = copy.seen_batches o old.0 in
       let from : s ≤ℤ first_offset seen.batch = begins o seen.batch seen.of_log old.1 seen.has_offset.1 in
       record {
-        batch = seen.batch; of_log = seen.of_log; from_start = from; has_offset = seen.has_offset;
+        batch = seen.batch;
+        of_log = seen.of_log;
+        from_start = from;
+        has_offset = seen.has_offset;
         all_seen = covers_has_all (cut s c).cover (first_offset seen.batch) (last_offset seen.batch) new.canonical
             (λ i low high. new_covered i (has_all_covers c.cover (first_offset seen.batch) (last_offset seen.batch) seen.all_seen i low high) (omega (arith, ints)));
       }

@@ -141,6 +141,6 @@ module _ (c : Content) (log : Batches) (content : IsContent c) (plain : IsPlainL
   pub shown_is_table : shown_table c ≡ table_within (covers c.cover) (log_records log)
   unfolding seen_records
   shown_is_table = same_table (pos 0) c.start seen_records (log_records c.kept)
-        (rises-filter offset_in_log (λ x. covers c.cover x.0) (pos 0) (log_records log) (placed_rises (pos 0) log (plain_spans 0 log plain) (plain_keepable 0 log plain)))
-        (placed_rises c.start c.kept content.disjoint content.keepable)
-        (record { of_these = held_seen; has_latest = latest_is })
+      (rises-filter offset_in_log (λ x. covers c.cover x.0) (pos 0) (log_records log) (placed_rises (pos 0) log (plain_spans 0 log plain) (plain_keepable 0 log plain)))
+      (placed_rises c.start c.kept content.disjoint content.keepable)
+      (record { of_these = held_seen; has_latest = latest_is })

@@ -108,4 +108,4 @@ inside_more less more b canonical weaker inside = covers_has_all more (first_off
 pub more_cover : (less more : Runs) (log : Batches) (h : BatchHead) → IsCanonical more → ((o : ℤ) → covers less o ≡ true → covers more o ≡ true) → is_in_window (heads_inside more log) h ≡ true → is_in_window (heads_inside less log) h ≡ true
 more_cover less more log h canonical weaker is =
     subst (λ (bs : Batches). is_in_window (heads bs) h ≡ true) (filter_twice (is_inside less) (is_inside more) log (λ b e. inside_more less more b canonical weaker e))
-      (in_window_of_part (is_inside less) (filter (is_inside more) log) h is)
+    (in_window_of_part (is_inside less) (filter (is_inside more) log) h is)

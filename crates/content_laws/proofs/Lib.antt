@@ -17,3 +17,4 @@ pub mod CopyAdd
 pub mod CopyGrow
 pub mod CopyCut
 pub mod CopyClean
+pub mod CopyStarts

@@ -5,7 +5,9 @@
 #![tactic(auto)]
 
 pub mod contents;
+pub mod copies;
 pub mod joins;
 pub mod legal_logs;
 pub mod lists;
 pub mod producer_windows;
+pub mod shown_tables;
