@@ -15,11 +15,14 @@ IsShort most bytes = (marks bytes ≡ length bytes) × (length bytes < most)
 
 -- The last digit that a number may have is reached, and it is more than fits.
 abbrev pub IsTooLong : ℕ → ℕ → List ℕ → Type 0
-IsTooLong most top bytes = (most ≤ marks bytes + 1) × (most ≤ length bytes) × (top < slice_index bytes (most - 1))
+IsTooLong most top bytes =
+    (most ≤ marks bytes + 1) × (most ≤ length bytes) × (top < slice_index bytes (most - 1))
 
 -- Neither of these, and the last of several digits is 0.
 abbrev pub IsNotShortest : ℕ → ℕ → List ℕ → Type 0
-IsNotShortest most top bytes = ¬ IsTooLong most top bytes × (0 < marks bytes) × (marks bytes < length bytes) × (slice_index bytes (marks bytes) ≡ 0)
+IsNotShortest most top bytes =
+    ¬ IsTooLong most top bytes × (0 < marks bytes) × (marks bytes < length bytes)
+    × (slice_index bytes (marks bytes) ≡ 0)
 
 -- the number that is zigzag's n
 abbrev pub unzigzag : ℕ → ℤ
