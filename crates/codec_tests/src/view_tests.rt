@@ -51,7 +51,7 @@ fn batches_with_bytes_behind(rt: HostRuntime) -> Result<(), Fail> {
 }
 
 #[test]
-fn headers_are_lent(rt: HostRuntime) -> Result<(), Fail> {
+fn headers_are_borrowed(rt: HostRuntime) -> Result<(), Fail> {
     let batch = view(&ALL_FIELDS)?;
     let rec = batch.recs().next().ok_or("there is a record")?;
     let mut headers = rec.headers;
