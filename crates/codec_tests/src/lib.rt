@@ -1,5 +1,5 @@
-//! Tests of the public calls of `varint`, `checksum` and `batch_codec`, a file for each call, on numbers and batches
-//! that come from outside.
+//! Tests of the public calls of `varint`, `checksum` and `batch_codec`, a file for each call, on
+//! numbers and batches that come from outside.
 #![tactic(auto)]
 
 #[cfg(test)]

@@ -5,7 +5,8 @@ use Rattle.std.specs.Int.{w32, w64}
 use Rattle.varint.specs.declared.error.VarintError.{VarintError}
 use Rattle.varint.specs.declared.error.VarintError.TheVariants.{Short, TooLong, NotShortest}
 use Rattle.varint.specs.Encoding.{encoding}
-use Rattle.varint.specs.Reading.{Read, Gives, signed, varint_at, varlong_at, IsShort, IsTooLong, IsNotShortest}
+use Rattle.varint.specs.Refusals.{IsShort, IsTooLong, IsNotShortest}
+use Rattle.varint.specs.Reading.{Read, Gives, signed, varint_at, varlong_at}
 use Rattle.varint.proofs.Encodings.{IsBytes, done, ok_is, i32_again, i64_again, i32_takes, i64_takes}
 use Rattle.varint.proofs.Refusals.{fault, refused}
 

@@ -4,7 +4,8 @@ use Rattle.std.specs.Prelude.{◌↔◌}
 use Rattle.std.proofs.lemmas.Bool.{cond_both, lt-ltb, le-ltb, ltb-true, ltb-false, leb-true, leb-false}
 use Rattle.varint.specs.declared.error.VarintError.{VarintError}
 use Rattle.varint.specs.declared.error.VarintError.TheVariants.{Short, TooLong, NotShortest}
-use Rattle.varint.specs.Reading.{Read, with_digit, number_at, marks}
+use Rattle.varint.specs.Refusals.{marks}
+use Rattle.varint.specs.Reading.{Read, with_digit, number_at}
 
 -- the numbers up to limit take at most `more` digits and a last one, of at most top
 abbrev pub HasTop : ℕ → ℕ → ℕ → Type 0

@@ -3,7 +3,8 @@
 ghost use Rattle.std.specs.Prelude.{◌≡◌, ◌≤◌, ◌*◌, ◌+◌, ◌/◌, ◌<◌, ◌++◌, ◌↔◌, ℤ, ℕ, List, IfOk, IsErrOf, Ok, FitsSigned, drop, length};
 ghost use Rattle.std.specs.Int.{w32, w64};
 ghost use Rattle.varint.specs.Encoding.{encoding, zigzag};
-ghost use Rattle.varint.specs.Reading.{Gives, IsGreatest, IsShort, IsTooLong, IsNotShortest, number_at, signed, varint_at, varlong_at};
+ghost use Rattle.varint.specs.Refusals.{IsShort, IsTooLong, IsNotShortest};
+ghost use Rattle.varint.specs.Reading.{Gives, IsGreatest, number_at, signed, varint_at, varlong_at};
 
 use crate::error::VarintError;
 use crate::zigzag::number_of;
