@@ -17,14 +17,14 @@ stream bs = flat_map batch_encoding bs
 abbrev pub table_lines : List BatchValue → List ℕ
 table_lines bs = lines (rows (table_of (placed bs)))
 
--- What a reader had left was these bytes, and it has told its end. Where its bytes are not known,
+-- A reader had these bytes left, gave them all, and is at its end. Where its bytes are not known,
 -- nothing is said.
 abbrev pub ReadsAll : Option (List ℕ) → Option (List ℕ) → List ℕ → Type 0
 ReadsAll None left' bytes = ⊤
 ReadsAll (Some left) None bytes = ⊥
 ReadsAll (Some left) (Some left') bytes = (left ≡ bytes) × (left' ≡ [])
 
--- What a reader had left, to its end, was the batches bs of a log, end to end.
+-- A reader had the batches bs of a log left, end to end, gave them all, and is at its end.
 abbrev pub ReadsLog : Option (List ℕ) → Option (List ℕ) → List BatchValue → Type 0
 ReadsLog left left' bs = IsLog bs × ReadsAll left left' (stream bs)
 
