@@ -5,6 +5,3 @@ mod crc;
 mod tables;
 
 pub use crc::crc32c;
-
-#[cfg(test)]
-mod tests;

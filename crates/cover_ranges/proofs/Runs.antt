@@ -1,5 +1,5 @@
--- Where an offset stands among maximal runs, and whether they cover it.
-use Rattle.std.proofs.Common.{◌≡◌, ℕ, ◌+◌, ◌-◌, ◌<◌, ◌≤◌, ◌^◌, Bool, true, false, ◌||◌, length, get_or, take, refl, sym, ap, ◌∙◌, subst, ◌⊎◌, inl, inr, arith}
+-- The index of an offset among maximal runs, and whether they cover it.
+use Rattle.std.proofs.Common.{◌≡◌, ℕ, ◌+◌, ◌-◌, ◌<◌, ◌≤◌, Bool, true, false, ◌||◌, length, get_or, take, refl, sym, ap, ◌∙◌, subst, ◌⊎◌, inl, inr, arith}
 use Rattle.std.specs.Prelude.{ℤ, pos, ◌+ℤ◌, ◌-ℤ◌, ◌<ℤ◌, ◌≤ℤ◌, int_le, int_lt, IsTrue, MatchBool, ◌↔◌}
 use Rattle.std.specs.List.{All, AllWithin, Any}
 use Rattle.std.specs.List.Sorted.{IsPartitionedBy, IsPartitionPoint}
@@ -10,8 +10,9 @@ use Rattle.std.proofs.Math.Seq.{take-length}
 use Rattle.std.proofs.lemmas.List.Elements.{All-push}
 use Rattle.std.proofs.lemmas.List.Quantifiers.{all_pairs_push}
 use Rattle.std.proofs.lemmas.List.Folds.{list_any_none, list_any_at, list_any_more}
+use Rattle.cover_ranges.specs.declared.TheConstants.{OFFSETS_END}
 use Rattle.cover_ranges.specs.Runs.{Runs, is_within, covers, IsRun, IsApart, IsCanonical}
-use Rattle.cover_ranges.specs.Place.{IsPlaceOf, StartsBy, StartsPast}
+use Rattle.cover_ranges.specs.Index.{IsIndexOf, StartsBy, StartsPast}
 use Rattle.cover_ranges.specs.Refusal.{HasFault, IsFirstFault, IsRefusal}
 use Rattle.cover_ranges.specs.declared.error.CoverError.{CoverError}
 use Rattle.cover_ranges.specs.declared.error.CoverError.TheVariants.{EmptyRange, NotRising, OutOfBounds, OutOfMemory}
@@ -56,8 +57,8 @@ starts_past rs at o c past k d le h =
 
 -- ---- covered, and not
 
-pub covered : (rs : Runs) (k : ℕ) (d : ℤ × ℤ) (o : ℤ) → k < length rs → (get_or rs k d).0 ≤ℤ o → o ≤ℤ (get_or rs k d).1 → covers rs o ≡ true
-covered rs k d o h p q = list_any_at (is_within o) rs k d h (in_run o (get_or rs k d) p q)
+pub covers_at : (rs : Runs) (k : ℕ) (d : ℤ × ℤ) (o : ℤ) → k < length rs → (get_or rs k d).0 ≤ℤ o → o ≤ℤ (get_or rs k d).1 → covers rs o ≡ true
+covers_at rs k d o h p q = list_any_at (is_within o) rs k d h (in_run o (get_or rs k d) p q)
 
 pub not_covered : (rs : Runs) (at : ℕ) (o : ℤ) → IsCanonical rs → AllWithin (λ run. run.1 <ℤ o) rs 0 at → StartsPast o rs at → covers rs o ≡ false
 not_covered rs at o c before past =
@@ -86,7 +87,7 @@ not_covered_after rs at d c h =
       ])
     ]))
 
--- ---- the place of an offset
+-- ---- the index of an offset
 
 int_lt_true : (a b : ℤ) → a <ℤ b → int_lt a b ≡ true
 int_lt_true a b h = grind (arith, ints)
@@ -100,15 +101,15 @@ false_int_lt a b h = grind (arith, ints)
 lower_passes : (o : ℤ) (a b : ℤ × ℤ) → a.1 <ℤ b.1 → int_lt b.1 o ≡ true → int_lt a.1 o ≡ true
 lower_passes o a b p q = grind (arith, ints)
 
-pub parted : (rs : Runs) (o : ℤ) → IsCanonical rs → IsPartitionedBy (λ run. int_lt run.1 o) rs
-parted rs o c i j d le h p =
+pub is_partitioned : (rs : Runs) (o : ℤ) → IsCanonical rs → IsPartitionedBy (λ run. int_lt run.1 o) rs
+is_partitioned rs o c i j d le h p =
     elim (cases_lt i j) [
       | inl lt ↦ lower_passes o (get_or rs i d) (get_or rs j d) (earlier rs i j d c lt h).2 p
       | inr ge ↦ (let e : j ≡ i = omega arith in let Q : ℕ → Type 0 = λ n. int_lt (get_or rs n d).1 o ≡ true in subst Q e p)
     ]
 
-pub place_found : (rs : Runs) (o : ℤ) (at : ℕ) → at ≤ length rs → IsPartitionPoint (λ run. int_lt run.1 o ≡ true) (λ run. int_lt run.1 o ≡ false) rs at → IsPlaceOf o rs at
-place_found rs o at le point = record {
+pub index_found : (rs : Runs) (o : ℤ) (at : ℕ) → at ≤ length rs → IsPartitionPoint (λ run. int_lt run.1 o ≡ true) (λ run. int_lt run.1 o ≡ false) rs at → IsIndexOf o rs at
+index_found rs o at le point = record {
   within = le;
   before = λ k d lo hi. true_int_lt (get_or rs k d).1 o (point.0 k d lo hi);
   reached = λ h d. false_int_lt (get_or rs at d).1 o (point.1 at d (omega arith) h);
@@ -117,8 +118,8 @@ place_found rs o at le point = record {
 below_end : (o : ℤ) (a b : ℤ × ℤ) → b.1 <ℤ o → a.1 <ℤ b.1 → a.1 <ℤ o
 below_end o a b p q = omega (arith, ints)
 
-pub place_at_end : (rs : Runs) (o : ℤ) (d : ℤ × ℤ) → IsCanonical rs → 0 < length rs → (get_or rs (length rs - 1) d).1 <ℤ o → IsPlaceOf o rs (length rs)
-place_at_end rs o d c some h = record {
+pub index_at_end : (rs : Runs) (o : ℤ) (d : ℤ × ℤ) → IsCanonical rs → 0 < length rs → (get_or rs (length rs - 1) d).1 <ℤ o → IsIndexOf o rs (length rs)
+index_at_end rs o d c some h = record {
   within = omega arith;
   before = λ k e lo hi. let hk : k < length rs = hi in rw (get_or_default rs k e d hk)
       (elim (cases_lt k (length rs - 1)) [
@@ -131,8 +132,8 @@ place_at_end rs o d c some h = record {
 below_start : (o : ℤ) (a b : ℤ × ℤ) → (b.0 -ℤ pos 1) ≤ℤ o → (a.1 +ℤ pos 1) <ℤ b.0 → a.1 <ℤ o
 below_start o a b p q = omega (arith, ints)
 
-pub place_at_last : (rs : Runs) (o : ℤ) (d : ℤ × ℤ) → IsCanonical rs → 0 < length rs → o ≤ℤ (get_or rs (length rs - 1) d).1 → ((get_or rs (length rs - 1) d).0 -ℤ pos 1) ≤ℤ o → IsPlaceOf o rs (length rs - 1)
-place_at_last rs o d c some reaches starts = record {
+pub index_at_last : (rs : Runs) (o : ℤ) (d : ℤ × ℤ) → IsCanonical rs → 0 < length rs → o ≤ℤ (get_or rs (length rs - 1) d).1 → ((get_or rs (length rs - 1) d).0 -ℤ pos 1) ≤ℤ o → IsIndexOf o rs (length rs - 1)
+index_at_last rs o d c some reaches starts = record {
   within = omega arith;
   before = λ k e lo hi. let hk : k < length rs = omega arith in rw (get_or_default rs k e d hk)
       (below_start o (get_or rs k d) (get_or rs (length rs - 1) d) starts (earlier rs k (length rs - 1) d c hi (omega arith)).1);
@@ -142,17 +143,17 @@ place_at_last rs o d c some reaches starts = record {
 reached_then_past : (o : ℤ) (a b : ℤ × ℤ) → o ≤ℤ a.1 → (a.1 +ℤ pos 1) <ℤ b.0 → o <ℤ b.0
 reached_then_past o a b p q = omega (arith, ints)
 
--- the runs behind the place of an offset start past it
-pub past_place : (rs : Runs) (o : ℤ) (at : ℕ) → IsCanonical rs → IsPlaceOf o rs at → (k : ℕ) (d : ℤ × ℤ) → at < k → k < length rs → o <ℤ (get_or rs k d).0
-past_place rs o at c place k d lt h =
+-- the runs behind the index of an offset start past it
+pub past_index : (rs : Runs) (o : ℤ) (at : ℕ) → IsCanonical rs → IsIndexOf o rs at → (k : ℕ) (d : ℤ × ℤ) → at < k → k < length rs → o <ℤ (get_or rs k d).0
+past_index rs o at c index k d lt h =
     let ha : at < length rs = omega arith in
-    reached_then_past o (get_or rs at d) (get_or rs k d) (place.reached ha d) (earlier rs at k d c lt h).1
+    reached_then_past o (get_or rs at d) (get_or rs k d) (index.reached ha d) (earlier rs at k d c lt h).1
 
 -- ---- answers about the set
 
-pub contains_says : (rs : Runs) (o : ℤ) (at : ℕ) (r : Bool) → IsCanonical rs → IsPlaceOf o rs at → MatchBool r (StartsBy o rs at) (StartsPast o rs at) → r ≡ covers rs o
-contains_says rs o at true c place m = sym (covered rs at (pos 0, pos 0) o m.0 (m.1 (pos 0, pos 0)) (place.reached m.0 (pos 0, pos 0)))
-contains_says rs o at false c place m = sym (not_covered rs at o c place.before m)
+pub contains_says : (rs : Runs) (o : ℤ) (at : ℕ) (r : Bool) → IsCanonical rs → IsIndexOf o rs at → MatchBool r (StartsBy o rs at) (StartsPast o rs at) → r ≡ covers rs o
+contains_says rs o at true c index m = sym (covers_at rs at (pos 0, pos 0) o m.0 (m.1 (pos 0, pos 0)) (index.reached m.0 (pos 0, pos 0)))
+contains_says rs o at false c index m = sym (not_covered rs at o c index.before m)
 
 true_to_IsTrue : (b : Bool) → b ≡ true → IsTrue b
 true_to_IsTrue b e = e
@@ -188,19 +189,19 @@ next_within : (first last : ℤ) (r : ℤ × ℤ) → first ≤ℤ r.1 → r.1 <
 next_within first last r p q = (omega (arith, ints), omega (arith, ints))
 
 -- the first offset itself is missing
-pub missing_first : (rs : Runs) (first last : ℤ) (at : ℕ) → IsCanonical rs → IsPlaceOf first rs at → first ≤ℤ last → StartsPast first rs at
+pub missing_first : (rs : Runs) (first last : ℤ) (at : ℕ) → IsCanonical rs → IsIndexOf first rs at → first ≤ℤ last → StartsPast first rs at
     → ((o : ℤ) → first ≤ℤ o → o ≤ℤ last → IsTrue (covers rs o)) → ⊥
-missing_first rs first last at c place some past all = not_IsTrue (covers rs first) (not_covered rs at first c place.before past) (all first (refl_z first) some)
+missing_first rs first last at c index some past all = not_IsTrue (covers rs first) (not_covered rs at first c index.before past) (all first (refl_z first) some)
 
--- the run at the place of the first offset decides
-pub all_says : (rs : Runs) (first last : ℤ) (at : ℕ) (d : ℤ × ℤ) (l e : ℤ) → l ≡ last → e ≡ (get_or rs at d).1 → IsCanonical rs → IsPlaceOf first rs at → first ≤ℤ last → StartsBy first rs at
+-- the run at the index of the first offset decides
+pub all_says : (rs : Runs) (first last : ℤ) (at : ℕ) (d : ℤ × ℤ) (l e : ℤ) → l ≡ last → e ≡ (get_or rs at d).1 → IsCanonical rs → IsIndexOf first rs at → first ≤ℤ last → StartsBy first rs at
     → (IsTrue (int_le l e) → (o : ℤ) → first ≤ℤ o → o ≤ℤ last → IsTrue (covers rs o))
     × (((o : ℤ) → first ≤ℤ o → o ≤ℤ last → IsTrue (covers rs o)) → IsTrue (int_le l e))
-all_says rs first last at d l e same_l same_e c place some by =
+all_says rs first last at d l e same_l same_e c index some by =
     let run : ℤ × ℤ = get_or rs at d in (
-      (λ yes o p q. true_to_IsTrue (covers rs o) (covered rs at d o by.0 (trans_z run.0 first o (by.1 d) p) (trans_z o last run.1 q (le_true_at l e last run.1 same_l same_e yes)))),
+      (λ yes o p q. true_to_IsTrue (covers rs o) (covers_at rs at d o by.0 (trans_z run.0 first o (by.1 d) p) (trans_z o last run.1 q (le_true_at l e last run.1 same_l same_e yes)))),
       (λ all. true_le_at l e last run.1 same_l same_e (by_lt_z run.1 last
-          (λ lt. let n : (first ≤ℤ (run.1 +ℤ pos 1)) × ((run.1 +ℤ pos 1) ≤ℤ last) = next_within first last run (place.reached by.0 d) lt in
+          (λ lt. let n : (first ≤ℤ (run.1 +ℤ pos 1)) × ((run.1 +ℤ pos 1) ≤ℤ last) = next_within first last run (index.reached by.0 d) lt in
           absurd (not_IsTrue (covers rs (run.1 +ℤ pos 1)) (not_covered_after rs at d c by.0) (all (run.1 +ℤ pos 1) n.0 n.1)))
           (λ le. le))),
     )
@@ -219,16 +220,16 @@ some_offset : (first last : ℤ) (r : ℤ × ℤ) → IsRun r → first ≤ℤ l
 some_offset first last r run some ends starts =
     by_lt_z r.0 first (λ lt. (first, refl_z first, some, lt_le r.0 first lt, ends)) (λ le. (r.0, le, starts, refl_z r.0, run.1))
 
-pub any_says : (rs : Runs) (first last : ℤ) (at : ℕ) (r : Bool) → IsCanonical rs → IsPlaceOf first rs at → first ≤ℤ last → MatchBool r (StartsBy last rs at) (StartsPast last rs at)
+pub any_says : (rs : Runs) (first last : ℤ) (at : ℕ) (r : Bool) → IsCanonical rs → IsIndexOf first rs at → first ≤ℤ last → MatchBool r (StartsBy last rs at) (StartsPast last rs at)
     → (IsTrue r → (o : ℤ) × (first ≤ℤ o) × (o ≤ℤ last) × IsTrue (covers rs o)) × ((o : ℤ) × (first ≤ℤ o) × (o ≤ℤ last) × IsTrue (covers rs o) → IsTrue r)
-any_says rs first last at true c place some m =
+any_says rs first last at true c index some m =
     let d : ℤ × ℤ = (pos 0, pos 0) in
-    let w : (o : ℤ) × (first ≤ℤ o) × (o ≤ℤ last) × ((get_or rs at d).0 ≤ℤ o) × (o ≤ℤ (get_or rs at d).1) = some_offset first last (get_or rs at d) (c.are_runs at d m.0) some (place.reached m.0 d) (m.1 d) in
-    ((λ _. (w.0, w.1, w.2, true_to_IsTrue (covers rs w.0) (covered rs at d w.0 m.0 w.3 w.4))), (λ _. refl))
-any_says rs first last at false c place some m = (
+    let w : (o : ℤ) × (first ≤ℤ o) × (o ≤ℤ last) × ((get_or rs at d).0 ≤ℤ o) × (o ≤ℤ (get_or rs at d).1) = some_offset first last (get_or rs at d) (c.are_runs at d m.0) some (index.reached m.0 d) (m.1 d) in
+    ((λ _. (w.0, w.1, w.2, true_to_IsTrue (covers rs w.0) (covers_at rs at d w.0 m.0 w.3 w.4))), (λ _. refl))
+any_says rs first last at false c index some m = (
   (λ never. absurd (false_is_not_true never)),
   (λ w. absurd (not_IsTrue (covers rs w.0) (not_covered rs at w.0 c
-      (λ k d lo hi. below_first first w.0 (get_or rs k d) (place.before k d lo hi) w.1)
+      (λ k d lo hi. below_first first w.0 (get_or rs k d) (index.before k d lo hi) w.1)
       (λ h d. past_last w.0 last (get_or rs at d) w.2 (m h d))) w.3)),
 )
 
@@ -241,13 +242,13 @@ up_to_gap : (o end gap : ℤ) → gap ≡ end +ℤ pos 1 → o <ℤ gap → o �
 up_to_gap o end gap e h = omega (arith, ints)
 
 pub gap_least : (rs : Runs) (from : ℤ) (at : ℕ) (d : ℤ × ℤ) (gap : ℤ) → gap ≡ (get_or rs at d).1 +ℤ pos 1 → StartsBy from rs at → (o : ℤ) → from ≤ℤ o → o <ℤ gap → IsTrue (covers rs o)
-gap_least rs from at d gap e by o p q = covered rs at d o by.0 (trans_z (get_or rs at d).0 from o (by.1 d) p) (up_to_gap o (get_or rs at d).1 gap e q)
+gap_least rs from at d gap e by o p q = covers_at rs at d o by.0 (trans_z (get_or rs at d).0 from o (by.1 d) p) (up_to_gap o (get_or rs at d).1 gap e q)
 
 pub gap_from_on : (from end : ℤ) → from ≤ℤ end → from ≤ℤ (end +ℤ pos 1)
 gap_from_on from end h = omega (arith, ints)
 
-pub from_missing : (rs : Runs) (from : ℤ) (at : ℕ) → IsCanonical rs → IsPlaceOf from rs at → StartsPast from rs at → IsTrue (covers rs from) → ⊥
-from_missing rs from at c place past = not_IsTrue (covers rs from) (not_covered rs at from c place.before past)
+pub from_missing : (rs : Runs) (from : ℤ) (at : ℕ) → IsCanonical rs → IsIndexOf from rs at → StartsPast from rs at → IsTrue (covers rs from) → ⊥
+from_missing rs from at c index past = not_IsTrue (covers rs from) (not_covered rs at from c index.before past)
 
 -- ---- one more range
 
@@ -279,8 +280,8 @@ earlier_run rs at d c some h =
     let before : at - 1 < at = omega arith in
     rw (← get_or-take at rs (at - 1) d before) (c.are_runs (at - 1) d (last_there rs at some h))
 
-pub place_same : (rs : Runs) (at : ℕ) (a b : ℤ) → a ≡ b → IsPlaceOf a rs at → IsPlaceOf b rs at
-place_same rs at a b e h = let P : ℤ → Type 0 = λ o. IsPlaceOf o rs at in subst P e h
+pub index_same : (rs : Runs) (at : ℕ) (a b : ℤ) → a ≡ b → IsIndexOf a rs at → IsIndexOf b rs at
+index_same rs at a b e h = let P : ℤ → Type 0 = λ o. IsIndexOf o rs at in subst P e h
 
 pub meets_says : (rs : Runs) (at : ℕ) (first : ℤ) (d : ℤ × ℤ) (r : Bool) → IsCanonical (take at rs) → 0 < at → at < length rs → r ≡ int_le first ((get_or rs (at - 1) d).1 +ℤ pos 1)
     → MatchBool r (Any (λ run. first ≤ℤ (run.1 +ℤ pos 1)) (take at rs)) (All (λ run. (run.1 +ℤ pos 1) <ℤ first) (take at rs))
@@ -309,7 +310,7 @@ one_more rs at d h c apart run =
 -- ---- subsets, a run at a time
 
 -- the runs before i are in the other set, and its runs before at end below the run at i
-pub record Followed (inner outer : Runs) (i at : ℕ) : Type 0 where
+pub record IsSubsetSoFar (inner outer : Runs) (i at : ℕ) : Type 0 where
   pub within : at ≤ length outer
   pub passed : (d : ℤ × ℤ) → i < length inner → AllWithin (λ run. run.1 <ℤ (get_or inner i d).0) outer 0 at
   pub so_far : (o : ℤ) → covers (take i inner) o ≡ true → covers outer o ≡ true
@@ -321,27 +322,27 @@ or_either false b h = inr h
 ends_before_next : (a b r : ℤ × ℤ) → r.1 <ℤ a.0 → a.0 <ℤ b.0 → r.1 <ℤ b.0
 ends_before_next a b r p q = omega (arith, ints)
 
-pub follow : (inner outer : Runs) (i at : ℕ) (d : ℤ × ℤ) → IsCanonical inner → i < length inner → Followed inner outer i at → (next : ℕ) → IsPlaceOf (get_or inner i d).0 outer next
-    → ((o : ℤ) → (get_or inner i d).0 ≤ℤ o → o ≤ℤ (get_or inner i d).1 → IsTrue (covers outer o)) → Followed inner outer (i + 1) next
-follow inner outer i at d c h f next place all = record {
-  within = place.within;
+pub subset_step : (inner outer : Runs) (i at : ℕ) (d : ℤ × ℤ) → IsCanonical inner → i < length inner → IsSubsetSoFar inner outer i at → (next : ℕ) → IsIndexOf (get_or inner i d).0 outer next
+    → ((o : ℤ) → (get_or inner i d).0 ≤ℤ o → o ≤ℤ (get_or inner i d).1 → IsTrue (covers outer o)) → IsSubsetSoFar inner outer (i + 1) next
+subset_step inner outer i at d c h f next index all = record {
+  within = index.within;
   passed = λ x hn k e lo hi. rw (get_or_default inner (i + 1) x d hn)
-      (ends_before_next (get_or inner i d) (get_or inner (i + 1) d) (get_or outer k e) (place.before k e lo hi) (earlier inner i (i + 1) d c (omega arith) hn).0);
+      (ends_before_next (get_or inner i d) (get_or inner (i + 1) d) (get_or outer k e) (index.before k e lo hi) (earlier inner i (i + 1) d c (omega arith) hn).0);
   so_far = λ o yes. elim (or_either (covers (take i inner) o) (is_within o (get_or inner i d)) (sym (list_any_more (is_within o) inner i d h) ∙ yes))
       [ inl old ↦ f.so_far o old | inr new ↦ all o (run_bounds o (get_or inner i d) new).0 (run_bounds o (get_or inner i d) new).1 ];
 }
 
 -- a run that is not in the other set shows that the whole is not
-pub not_followed : (inner outer : Runs) (i : ℕ) (d : ℤ × ℤ) (r : Bool) → i < length inner → r ≡ false
+pub not_subset : (inner outer : Runs) (i : ℕ) (d : ℤ × ℤ) (r : Bool) → i < length inner → r ≡ false
     → (((o : ℤ) → (get_or inner i d).0 ≤ℤ o → o ≤ℤ (get_or inner i d).1 → IsTrue (covers outer o)) → IsTrue r)
     → ((o : ℤ) → IsTrue (covers inner o) → IsTrue (covers outer o)) → ⊥
-not_followed inner outer i d r h e says all = not_IsTrue r e (says (λ o p q. all o (covered inner i d o h p q)))
+not_subset inner outer i d r h e says all = not_IsTrue r e (says (λ o p q. all o (covers_at inner i d o h p q)))
 
-pub followed_all : (inner outer : Runs) (at : ℕ) → Followed inner outer (length inner) at → (o : ℤ) → IsTrue (covers inner o) → IsTrue (covers outer o)
-followed_all inner outer at f o h = f.so_far o (ap (λ (xs : Runs). covers xs o) (take-length inner) ∙ h)
+pub subset_at_end : (inner outer : Runs) (at : ℕ) → IsSubsetSoFar inner outer (length inner) at → (o : ℤ) → IsTrue (covers inner o) → IsTrue (covers outer o)
+subset_at_end inner outer at f o h = f.so_far o (ap (λ (xs : Runs). covers xs o) (take-length inner) ∙ h)
 
-pub followed_none : (inner outer : Runs) → Followed inner outer 0 0
-followed_none inner outer = record {
+pub subset_at_start : (inner outer : Runs) → IsSubsetSoFar inner outer 0 0
+subset_at_start inner outer = record {
   within = omega arith;
   passed = λ d h k e lo hi. absurd (omega arith);
   so_far = λ o h. absurd (false_is_not_true h);
@@ -386,11 +387,11 @@ none_at : (rs : Runs) (a b : ℤ) → a ≡ b → All (λ run. (run.1 +ℤ pos 1
 none_at rs a b e h = let P : ℤ → Type 0 = λ first. All (λ run. (run.1 +ℤ pos 1) <ℤ first) rs in subst P e h
 
 pub out_says : (rs : Runs) (at : ℕ) (d e : ℤ × ℤ) (first : ℤ) → at < length rs → (get_or rs at e).0 ≤ℤ (get_or rs at e).1 → All (λ run. (run.1 +ℤ pos 1) <ℤ first) (take at rs) → first ≡ (get_or rs at e).0
-    → ((get_or rs at e).0 <ℤ pos 0) ⊎ (pos (2 ^ 62) ≤ℤ (get_or rs at e).1) → HasFault OutOfBounds (take at rs) (get_or rs at d)
+    → ((get_or rs at e).0 <ℤ pos 0) ⊎ (OFFSETS_END ≤ℤ (get_or rs at e).1) → HasFault OutOfBounds (take at rs) (get_or rs at d)
 out_says rs at d e first h le none same out =
     rw (get_or_default rs at d e h) (le, meets_none (take at rs) (get_or rs at e).0 (none_at (take at rs) first (get_or rs at e).0 same none), out)
 
--- the first fault is a refusal, and none for want of memory
+-- the first fault is a refusal, and none for lack of memory
 pub refusal : (error : CoverError) (rs : Runs) → IsFirstFault error rs → IsRefusal rs error
 refusal EmptyRange rs f = f
 refusal NotRising rs f = f

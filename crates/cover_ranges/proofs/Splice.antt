@@ -1,4 +1,4 @@
--- One run in the place of those that it meets: the runs stay maximal, and it is added to the set.
+-- One run in place of those that it meets: the runs stay maximal, and its offsets are in the set.
 use Rattle.std.proofs.Common.{◌≡◌, ℕ, zero, suc, ◌+◌, ◌-◌, ◌<◌, ◌≤◌, Bool, true, false, ◌||◌, List, [], ◌∷◌, ◌++◌, length, get_or, take, drop, refl, sym, ap, ◌∙◌, subst, ◌⊎◌, inl, inr, arith}
 use Rattle.std.specs.Prelude.{ℤ, pos, ◌+ℤ◌, ◌-ℤ◌, ◌<ℤ◌, ◌≤ℤ◌, cond, Result, Ok, Err, is_ok, OnOk}
 use Rattle.std.specs.Int.{int_min, int_max}
@@ -11,8 +11,9 @@ use Rattle.std.proofs.lemmas.List.Elements.{All-append, All-cons, All-take, All-
 use Rattle.std.proofs.lemmas.List.Kept.{AllPairs-cons}
 use Rattle.std.proofs.lemmas.List.Folds.{list_any_at, list_any-append, Any-from_list_any}
 use Rattle.cover_ranges.specs.Runs.{Runs, is_within, covers, IsRun, IsApart, IsCanonical}
-use Rattle.cover_ranges.specs.Place.{IsPlaceOf, Reaches}
-use Rattle.cover_ranges.proofs.Runs.{in_run, run_bounds, covered, earlier}
+use Rattle.cover_ranges.specs.Index.{IsIndexOf}
+use Rattle.cover_ranges.specs.Insertion.{Reaches}
+use Rattle.cover_ranges.proofs.Runs.{in_run, run_bounds, covers_at, earlier}
 
 -- ---- any pairs
 
@@ -43,16 +44,16 @@ AllPairs-splice R (suc s) (suc e) (x ∷ xs) m le p front back =
 no_run_between : (r : ℤ × ℤ) (f l : ℤ) → IsRun r → f ≤ℤ l → r.1 <ℤ (f -ℤ pos 1) → (l +ℤ pos 1) <ℤ r.0 → ⊥
 no_run_between r f l run fl p q = omega (arith, ints)
 
-before_start : (rs : Runs) (s e : ℕ) (f l : ℤ) (d : ℤ × ℤ) → IsCanonical rs → f ≤ℤ l → IsPlaceOf (f -ℤ pos 1) rs s → AllWithin (λ run. (l +ℤ pos 1) <ℤ run.0) rs e (length rs) → e < s → ⊥
-before_start rs s e f l d c fl place later lt =
-    let w : s ≤ length rs = place.within in
+before_start : (rs : Runs) (s e : ℕ) (f l : ℤ) (d : ℤ × ℤ) → IsCanonical rs → f ≤ℤ l → IsIndexOf (f -ℤ pos 1) rs s → AllWithin (λ run. (l +ℤ pos 1) <ℤ run.0) rs e (length rs) → e < s → ⊥
+before_start rs s e f l d c fl index later lt =
+    let w : s ≤ length rs = index.within in
     let h : e < length rs = omega arith in
-    no_run_between (get_or rs e d) f l (c.are_runs e d h) fl (place.before e d (omega arith) lt) (later e d (omega arith) h)
+    no_run_between (get_or rs e d) f l (c.are_runs e d h) fl (index.before e d (omega arith) lt) (later e d (omega arith) h)
 
-pub start_before_end : (rs : Runs) (s e : ℕ) (f l : ℤ) → IsCanonical rs → f ≤ℤ l → IsPlaceOf (f -ℤ pos 1) rs s → AllWithin (λ run. (l +ℤ pos 1) <ℤ run.0) rs e (length rs) → s ≤ e
-start_before_end rs s e f l c fl place later =
+pub start_before_end : (rs : Runs) (s e : ℕ) (f l : ℤ) → IsCanonical rs → f ≤ℤ l → IsIndexOf (f -ℤ pos 1) rs s → AllWithin (λ run. (l +ℤ pos 1) <ℤ run.0) rs e (length rs) → s ≤ e
+start_before_end rs s e f l c fl index later =
     let d : ℤ × ℤ = (pos 0, pos 0) in
-    elim (cases_lt e s) [ inr ge ↦ ge | inl lt ↦ absurd (before_start rs s e f l d c fl place later lt) ]
+    elim (cases_lt e s) [ inr ge ↦ ge | inl lt ↦ absurd (before_start rs s e f l d c fl index later lt) ]
 
 alone_front : (r : ℤ × ℤ) (f : ℤ) → r.1 <ℤ (f -ℤ pos 1) → (r.1 +ℤ pos 1) <ℤ f
 alone_front r f p = omega (arith, ints)
@@ -67,15 +68,15 @@ z_refl : (a : ℤ) → a ≤ℤ a
 z_refl a = omega (arith, ints)
 
 -- where it meets no run, it is the new run itself
-pub reaches_alone : (rs : Runs) (s e : ℕ) (f l : ℤ) → s ≤ e → e ≤ length rs → IsRun (f, l) → IsPlaceOf (f -ℤ pos 1) rs s → AllWithin (λ run. (l +ℤ pos 1) <ℤ run.0) rs e (length rs) → e ≤ s → Reaches rs s e f l (f, l)
-reaches_alone rs s e f l ordered within run place later le = record {
+pub reaches_alone : (rs : Runs) (s e : ℕ) (f l : ℤ) → s ≤ e → e ≤ length rs → IsRun (f, l) → IsIndexOf (f -ℤ pos 1) rs s → AllWithin (λ run. (l +ℤ pos 1) <ℤ run.0) rs e (length rs) → e ≤ s → Reaches rs s e f l (f, l)
+reaches_alone rs s e f l ordered within run index later le = record {
   ordered = ordered;
   within = within;
   is_run = run;
   from_first = z_refl f;
   to_last = z_refl l;
   middle = λ k d lo hi. absurd (omega arith);
-  front = λ k d h. alone_front (get_or rs k d) f (place.before k d (omega arith) h);
+  front = λ k d h. alone_front (get_or rs k d) f (index.before k d (omega arith) h);
   back = λ k d lo h. later k d lo h;
   left = λ o p q. absurd (no_offset o f p q);
   right = λ o p q. absurd (none_past o l p q);
@@ -116,9 +117,9 @@ rising rs i j d c le h =
     ]
 
 -- where it meets the runs from s to before e
-pub reaches_joined : (rs : Runs) (s e : ℕ) (f l : ℤ) (m d : ℤ × ℤ) → IsCanonical rs → IsRun (f, l) → IsPlaceOf (f -ℤ pos 1) rs s → e ≤ length rs → AllWithin (λ run. run.0 ≤ℤ (l +ℤ pos 1)) rs 0 e
+pub reaches_joined : (rs : Runs) (s e : ℕ) (f l : ℤ) (m d : ℤ × ℤ) → IsCanonical rs → IsRun (f, l) → IsIndexOf (f -ℤ pos 1) rs s → e ≤ length rs → AllWithin (λ run. run.0 ≤ℤ (l +ℤ pos 1)) rs 0 e
     → AllWithin (λ run. (l +ℤ pos 1) <ℤ run.0) rs e (length rs) → s < e → m.0 ≡ int_min f (get_or rs s d).0 → m.1 ≡ int_max l (get_or rs (e - 1) d).1 → Reaches rs s e f l m
-reaches_joined rs s e f l m d c new place we started later lt p q =
+reaches_joined rs s e f l m d c new index we started later lt p q =
     let hs : s < length rs = omega arith in
     let he : e - 1 < length rs = omega arith in
     let a : ℤ × ℤ = get_or rs s d in
@@ -134,11 +135,11 @@ reaches_joined rs s e f l m d c new place we started later lt p q =
         z_trans (get_or rs k d).1 b.1 m.1 (rising rs k (e - 1) d c (omega arith) he).1 (max_last m.1 l b.1 q).1,
       );
       front = λ k x h. let hk : k < length rs = omega arith in rw (get_or_default rs k x d hk)
-          (min_front m.0 f a.0 (get_or rs k d).1 p (place.before k d (omega arith) h) (earlier rs k s d c h hs).1);
+          (min_front m.0 f a.0 (get_or rs k d).1 p (index.before k d (omega arith) h) (earlier rs k s d c h hs).1);
       back = λ k x lo hk. rw (get_or_default rs k x d hk)
           (max_back m.1 l b.1 (get_or rs k d).0 q (later k d lo hk) (earlier rs (e - 1) k d c (omega arith) hk).1);
-      left = λ o u v. let w : (a.0 ≤ℤ o) × (o ≤ℤ a.1) = min_left m.0 f o a p (place.reached hs d) u v in covered rs s d o hs w.0 w.1;
-      right = λ o u v. let w : (b.0 ≤ℤ o) × (o ≤ℤ b.1) = max_right m.1 l o b q (started (e - 1) d (omega arith) (omega arith)) u v in covered rs (e - 1) d o he w.0 w.1;
+      left = λ o u v. let w : (a.0 ≤ℤ o) × (o ≤ℤ a.1) = min_left m.0 f o a p (index.reached hs d) u v in covers_at rs s d o hs w.0 w.1;
+      right = λ o u v. let w : (b.0 ≤ℤ o) × (o ≤ℤ b.1) = max_right m.1 l o b q (started (e - 1) d (omega arith) (omega arith)) u v in covers_at rs (e - 1) d o he w.0 w.1;
     }
 
 -- ---- the runs then
@@ -231,14 +232,14 @@ spliced_covers rs s e f l m o r =
     one_truth (covers (take s rs ++ m ∷ drop e rs) o) (covers rs o || is_within o (f, l)) (spliced_to rs s e f l m o r) (spliced_from rs s e f l m o r ws)
 
 -- the two cases together
-pub reaches : (rs : Runs) (s e : ℕ) (f l : ℤ) (m : ℤ × ℤ) → IsCanonical rs → IsRun (f, l) → IsPlaceOf (f -ℤ pos 1) rs s → e ≤ length rs → AllWithin (λ run. run.0 ≤ℤ (l +ℤ pos 1)) rs 0 e
+pub reaches : (rs : Runs) (s e : ℕ) (f l : ℤ) (m : ℤ × ℤ) → IsCanonical rs → IsRun (f, l) → IsIndexOf (f -ℤ pos 1) rs s → e ≤ length rs → AllWithin (λ run. run.0 ≤ℤ (l +ℤ pos 1)) rs 0 e
     → AllWithin (λ run. (l +ℤ pos 1) <ℤ run.0) rs e (length rs) → (e ≤ s → m ≡ (f, l)) → (s < e → m.0 ≡ int_min f (get_or rs s (pos 0, pos 0)).0) → (s < e → m.1 ≡ int_max l (get_or rs (e - 1) (pos 0, pos 0)).1)
     → Reaches rs s e f l m
-reaches rs s e f l m c new place we started later alone first last =
+reaches rs s e f l m c new index we started later alone first last =
     elim (cases_lt s e) [
-      | inl lt ↦ reaches_joined rs s e f l m (pos 0, pos 0) c new place we started later lt (first lt) (last lt)
+      | inl lt ↦ reaches_joined rs s e f l m (pos 0, pos 0) c new index we started later lt (first lt) (last lt)
       | inr ge ↦ (let P : ℤ × ℤ → Type 0 = λ r. Reaches rs s e f l r in
-          subst P (sym (alone ge)) (reaches_alone rs s e f l (start_before_end rs s e f l c new.1 place later) we new place later ge))
+          subst P (sym (alone ge)) (reaches_alone rs s e f l (start_before_end rs s e f l c new.1 index later) we new index later ge))
     ]
 
 pub starts_same : (rs : Runs) (e : ℕ) (a b : ℤ) → a ≡ b → AllWithin (λ run. run.0 ≤ℤ a) rs 0 e → AllWithin (λ run. run.0 ≤ℤ b) rs 0 e

@@ -1,4 +1,5 @@
 pub mod Runs
-pub mod Held
-pub mod Place
+pub mod CoverValue
+pub mod Index
+pub mod Insertion
 pub mod Refusal

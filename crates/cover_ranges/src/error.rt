@@ -1,7 +1,8 @@
 //! Why a list of ranges is refused.
 use thiserror::Error;
 
-/// Why a list of ranges is not that of a cover. The first range at fault decides, and within it the first of these.
+/// Why a list of ranges is not that of a cover. The first range at fault decides, and within it the
+/// first of these.
 #[derive(Debug, Drop, Error)]
 pub enum CoverError {
     /// A range ends below its start.
@@ -13,7 +14,7 @@ pub enum CoverError {
     /// A range holds an offset below 0, or one of 2^62 or more.
     #[error("OutOfBounds")]
     OutOfBounds,
-    /// No range is at fault, and there was no memory.
+    /// No range is at fault, and the allocation failed.
     #[error("OutOfMemory")]
     OutOfMemory,
 }

@@ -1,14 +1,14 @@
-//! Where an offset stands among maximal runs.
+//! The index of an offset among maximal runs, and the questions that it answers.
 ghost use Rattle.std.specs.Prelude.{◌≡◌, ◌<◌, ◌≤◌, ℤ, ◌<ℤ◌, ◌≤ℤ◌, ◌↔◌, ◌⊎◌, length, IsTrue, MatchBool};
 ghost use Rattle.std.specs.List.{AllWithin};
-ghost use Rattle.cover_ranges.specs.Runs.{covers, IsCanonical};
-ghost use Rattle.cover_ranges.specs.Place.{IsPlaceOf, StartsBy, StartsPast};
+ghost use Rattle.cover_ranges.specs.Runs.{covers, IsCanonical, CoversAll, CoversAny, IsSubset};
+ghost use Rattle.cover_ranges.specs.Index.{IsIndexOf, StartsBy, StartsPast};
 
-/// Finds the first range that ends at `offset` or later; the length where there is none. At the end at once, else by
-/// a binary search.
-pub(crate) fn place_of(ranges: &[(i64, i64)], offset: i64) -> usize
+/// Finds the first range that ends at `offset` or later; the length where there is none. At the end
+/// at once, else by a binary search.
+pub(crate) fn index_of(ranges: &[(i64, i64)], offset: i64) -> usize
     requires { IsCanonical ranges.now }
-    ensures { IsPlaceOf offset ranges.now result }
+    ensures { IsIndexOf offset ranges.now result }
 {
     let len = ranges.len();
     if len == 0 {
@@ -38,7 +38,7 @@ pub(crate) fn count_started(ranges: &[(i64, i64)], offset: i64) -> usize
     ensures started { AllWithin (λ run. run.0 ≤ℤ offset) ranges.now 0 result }
     ensures later { AllWithin (λ run. offset <ℤ run.0) ranges.now result (length ranges.now) }
 {
-    let at = place_of(ranges, offset);
+    let at = index_of(ranges, offset);
     if starts_by(ranges, at, offset) {
         at + 1
     } else {
@@ -47,10 +47,10 @@ pub(crate) fn count_started(ranges: &[(i64, i64)], offset: i64) -> usize
 }
 
 /// Finds the first range from `from` on that ends at `offset` or later, one after another.
-fn place_after(ranges: &[(i64, i64)], from: usize, offset: i64) -> usize
-    requires there { from ≤ length ranges.now }
+fn index_after(ranges: &[(i64, i64)], from: usize, offset: i64) -> usize
+    requires within { from ≤ length ranges.now }
     requires passed { AllWithin (λ run. run.1 <ℤ offset) ranges.now 0 from }
-    ensures { IsPlaceOf offset ranges.now result }
+    ensures { IsIndexOf offset ranges.now result }
 {
     let mut at = from;
     while at < ranges.len() && ranges[at].1 < offset {
@@ -64,17 +64,17 @@ pub(crate) fn contains(ranges: &[(i64, i64)], offset: i64) -> bool
     requires { IsCanonical ranges.now }
     ensures { result ≡ covers ranges.now offset }
 {
-    let at = place_of(ranges, offset);
+    let at = index_of(ranges, offset);
     starts_by(ranges, at, offset)
 }
 
-/// Whether the range at `at` holds all offsets from `first` to `last`, where it is the first that ends at `first` or
-/// later.
+/// Whether the range at `at` holds all offsets from `first` to `last`, where it is the first that
+/// ends at `first` or later.
 fn holds_all(ranges: &[(i64, i64)], at: usize, first: i64, last: i64) -> bool
     requires canonical { IsCanonical ranges.now }
-    requires place { IsPlaceOf first ranges.now at }
+    requires index { IsIndexOf first ranges.now at }
     requires some { first ≤ℤ last }
-    ensures { IsTrue result ↔ ((o : ℤ) → first ≤ℤ o → o ≤ℤ last → IsTrue (covers ranges.now o)) }
+    ensures { IsTrue result ↔ CoversAll ranges.now first last }
 {
     if !starts_by(ranges, at, first) {
         return false;
@@ -85,24 +85,24 @@ fn holds_all(ranges: &[(i64, i64)], at: usize, first: i64, last: i64) -> bool
 /// Whether all offsets from `first` to `last` are in a range.
 pub(crate) fn has_all(ranges: &[(i64, i64)], first: i64, last: i64) -> bool
     requires { IsCanonical ranges.now }
-    ensures { IsTrue result ↔ ((o : ℤ) → first ≤ℤ o → o ≤ℤ last → IsTrue (covers ranges.now o)) }
+    ensures { IsTrue result ↔ CoversAll ranges.now first last }
 {
     if last < first {
         return true;
     }
-    let at = place_of(ranges, first);
+    let at = index_of(ranges, first);
     holds_all(ranges, at, first, last)
 }
 
 /// Whether some offset from `first` to `last` is in a range.
 pub(crate) fn has_any(ranges: &[(i64, i64)], first: i64, last: i64) -> bool
     requires { IsCanonical ranges.now }
-    ensures { IsTrue result ↔ ((o : ℤ) × (first ≤ℤ o) × (o ≤ℤ last) × IsTrue (covers ranges.now o)) }
+    ensures { IsTrue result ↔ CoversAny ranges.now first last }
 {
     if last < first {
         return false;
     }
-    let at = place_of(ranges, first);
+    let at = index_of(ranges, first);
     starts_by(ranges, at, last)
 }
 
@@ -113,7 +113,7 @@ pub(crate) fn first_gap(ranges: &[(i64, i64)], from: i64) -> i64
     ensures from_on { from ≤ℤ result }
     ensures least { (o : ℤ) → from ≤ℤ o → o <ℤ result → IsTrue (covers ranges.now o) }
 {
-    let at = place_of(ranges, from);
+    let at = index_of(ranges, from);
     if starts_by(ranges, at, from) {
         return ranges[at].1 + 1;
     }
@@ -124,11 +124,11 @@ pub(crate) fn first_gap(ranges: &[(i64, i64)], from: i64) -> i64
 pub(crate) fn is_subset(inner: &[(i64, i64)], outer: &[(i64, i64)]) -> bool
     requires inner_canonical { IsCanonical inner.now }
     requires outer_canonical { IsCanonical outer.now }
-    ensures { IsTrue result ↔ ((o : ℤ) → IsTrue (covers inner.now o) → IsTrue (covers outer.now o)) }
+    ensures { IsTrue result ↔ IsSubset inner.now outer.now }
 {
     let mut at = 0;
     for range in inner {
-        at = place_after(outer, at, range.0);
+        at = index_after(outer, at, range.0);
         if !holds_all(outer, at, range.0, range.1) {
             return false;
         }
@@ -136,9 +136,12 @@ pub(crate) fn is_subset(inner: &[(i64, i64)], outer: &[(i64, i64)]) -> bool
     true
 }
 
-/// Whether the next range by its start is that of the first list, at `i`, and not that of the second one, at `j`.
+/// Whether the next range by its start is that of the first list, at `i`, and not that of the
+/// second one, at `j`.
 pub(crate) fn comes_next(mine: &[(i64, i64)], i: usize, theirs: &[(i64, i64)], j: usize) -> bool
-    ensures { MatchBool result (i < length mine.now) ((length mine.now ≤ i) ⊎ (j < length theirs.now)) }
+    ensures { MatchBool result
+        (i < length mine.now)
+        ((length mine.now ≤ i) ⊎ (j < length theirs.now)) }
 {
     i < mine.len() && (theirs.len() <= j || mine[i].0 <= theirs[j].0)
 }

@@ -1,9 +1,10 @@
 //! The set of offsets.
-ghost use Rattle.std.specs.Prelude.{◌≡◌, ◌<◌, ◌^◌, ◌||◌, ◌↔◌, ℤ, pos, ◌<ℤ◌, ◌≤ℤ◌, [], IsTrue, IfOk, OnOk, OnErr, IsOk, MatchResult};
-ghost use Rattle.cover_ranges.specs.Runs.{Runs, is_within, covers, IsCanonical};
-ghost use Rattle.cover_ranges.specs.Held.{HasRoom};
+ghost use Rattle.std.specs.Prelude.{◌≡◌, ◌<◌, ◌≤◌, ◌+◌, ◌^◌, ◌||◌, ◌↔◌, ℤ, pos, ◌<ℤ◌, ◌≤ℤ◌, [], length, IsTrue, IfOk, IfErr, OnOk, OnErr, IsOk};
+ghost use Rattle.cover_ranges.specs.Runs.{is_within, covers, IsCanonical, with_range, union_of, CoversAll, CoversAny, IsSubset};
+ghost use Rattle.cover_ranges.specs.CoverValue.{HasRoom};
 ghost use Rattle.cover_ranges.specs.Refusal.{IsRefusal};
 
+use crate::OFFSETS_END;
 use crate::edit::{plan_insertion, replace};
 use crate::error::CoverError;
 use crate::judge::judge;
@@ -21,11 +22,14 @@ impl<A: Allocator + Copy> Model for Cover<A> {
     ghost use Rattle.std.specs.Prelude.{◌-◌};
     ghost use Rattle.std.specs.Vec.{vec_len, vec_capacity};
     ghost use Rattle.cover_ranges.specs.Runs.{IsCanonical};
-    ghost use Rattle.cover_ranges.specs.Held.{Held};
+    ghost use Rattle.cover_ranges.specs.CoverValue.{CoverValue};
 
-    ghost Value = { Held };
+    ghost Value = { CoverValue };
 
-    ghost view = { λ cover. record { runs = cover.ranges.items; room = vec_capacity cover.ranges - vec_len cover.ranges } };
+    ghost view = { λ cover. record {
+      runs = cover.ranges.items;
+      room = vec_capacity cover.ranges - vec_len cover.ranges;
+    } };
 
     ghost invariant = { λ cover. IsCanonical cover.ranges.items };
 }
@@ -40,12 +44,15 @@ impl<A: Allocator + Copy> Cover<A> {
         }
     }
 
-    /// Takes a list of ranges, from first to last offset, as a set. The ranges rise, and there is a gap between any two.
+    /// Takes a list of ranges, each from its first to its last offset, as a set. They rise, and
+    /// there is a gap between any two.
     ///
-    /// The first range at fault decides the error, and within it the first of `EmptyRange`, `NotRising` and
-    /// `OutOfBounds`. `OutOfMemory` comes only where no range is at fault.
+    /// The first range at fault decides the error, and within it the first of `EmptyRange`,
+    /// `NotRising` and `OutOfBounds`. `OutOfMemory` comes only where no range is at fault.
     pub fn from_ranges(alloc: A, ranges: &[(i64, i64)]) -> Result<Cover<A>, CoverError>
-        ensures { MatchResult result (λ cover. IsCanonical ranges.now × (cover.runs ≡ ranges.now)) (λ error. IsRefusal ranges.now error) }
+        ensures accepts_maximal_runs { IfOk result (λ _. IsCanonical ranges.now) }
+        ensures holds_the_ranges { IfOk result (λ cover. cover.runs ≡ ranges.now) }
+        ensures names_the_first_fault { IfErr result (λ error. IsRefusal ranges.now error) }
     {
         judge(ranges)?;
         match Vec::from_slice(alloc, ranges) {
@@ -54,9 +61,9 @@ impl<A: Allocator + Copy> Cover<A> {
         }
     }
 
-    /// The maximal ranges, from first to last offset, rising.
+    /// The maximal ranges, each from its first to its last offset, rising.
     pub fn ranges(&self) -> &[(i64, i64)]
-        ensures value { result.now ≡ self.now.runs }
+        ensures lists_runs { result.now ≡ self.now.runs }
         ensures canonical { IsCanonical self.now.runs }
     {
         self.ranges.as_slice()
@@ -69,16 +76,16 @@ impl<A: Allocator + Copy> Cover<A> {
         search::contains(&self.ranges, offset)
     }
 
-    /// Whether all offsets from `first` to `last` are in the set; so it is where `last` is below `first`.
+    /// Whether all offsets from `first` to `last` are in the set; so it is where there are none.
     pub fn has_all(&self, first: i64, last: i64) -> bool
-        ensures { IsTrue result ↔ ((o : ℤ) → first ≤ℤ o → o ≤ℤ last → IsTrue (covers self.now.runs o)) }
+        ensures { IsTrue result ↔ CoversAll self.now.runs first last }
     {
         search::has_all(&self.ranges, first, last)
     }
 
     /// Whether some offset from `first` to `last` is in the set.
     pub fn has_any(&self, first: i64, last: i64) -> bool
-        ensures { IsTrue result ↔ ((o : ℤ) × (first ≤ℤ o) × (o ≤ℤ last) × IsTrue (covers self.now.runs o)) }
+        ensures { IsTrue result ↔ CoversAny self.now.runs first last }
     {
         search::has_any(&self.ranges, first, last)
     }
@@ -94,30 +101,38 @@ impl<A: Allocator + Copy> Cover<A> {
 
     /// Whether all offsets of this set are in the other one, in one pass over both.
     pub fn is_subset(&self, other: &Cover<A>) -> bool
-        ensures { IsTrue result ↔ ((o : ℤ) → IsTrue (covers self.now.runs o) → IsTrue (covers other.now.runs o)) }
+        ensures { IsTrue result ↔ IsSubset self.now.runs other.now.runs }
     {
         search::is_subset(&self.ranges, &other.ranges)
     }
 
-    /// Makes room, so that the next insertion needs no memory.
+    /// Makes room, so that the next insertion needs no memory. The set stays the same.
     pub fn reserve_one(&mut self) -> Result<(), AllocError>
-        ensures kept { self.new.runs ≡ self.old.runs }
-        ensures room { OnOk result (HasRoom self.new) }
-        ensures had_room { HasRoom self.old → IsOk result }
+        ensures same_offsets { self.new.runs ≡ self.old.runs }
+        ensures makes_room { OnOk result (HasRoom self.new) }
+        ensures keeps_room { self.old.room ≤ self.new.room }
+        ensures room_suffices { HasRoom self.old → IsOk result }
     {
         self.ranges.reserve(1)
     }
 
-    /// Adds the offsets from `first` to `last`. At the end of the set in constant time, amortized; else by a binary
-    /// search and one move. On an error the set is as it was.
+    /// Adds the offsets from `first` to `last`. At the end of the set this takes constant time,
+    /// amortized; else a binary search and one move. On an error the set is as it was.
     pub fn insert(&mut self, first: i64, last: i64) -> Result<(), AllocError>
         requires not_negative { pos 0 ≤ℤ first }
         requires not_empty { first ≤ℤ last }
-        requires in_bounds { last <ℤ pos (2 ^ 62) }
-        ensures added { OnOk result ((o : ℤ) → covers self.new.runs o ≡ (covers self.old.runs o || is_within o (first, last))) }
-        ensures err { OnErr result (self.new.runs ≡ self.old.runs) }
-        ensures room { HasRoom self.old → IsOk result }
+        requires in_bounds { last <ℤ OFFSETS_END }
+        ensures adds_range { OnOk result (self.new.runs ≡ with_range first last self.old.runs) }
+        ensures adds_offsets { OnOk result ((o : ℤ)
+            → covers self.new.runs o ≡ (covers self.old.runs o || is_within o (first, last))) }
         ensures canonical { IsCanonical self.new.runs }
+        ensures error_changes_nothing { OnErr result (self.new.runs ≡ self.old.runs) }
+
+        // With room it can't fail; it takes the room of one run at most, and gives no memory back.
+        ensures room_suffices { HasRoom self.old → IsOk result }
+        ensures takes_room_of_one { self.old.room ≤ self.new.room + 1 }
+        ensures keeps_memory { self.old.room + length self.old.runs
+            ≤ self.new.room + length self.new.runs }
     {
         let plan = plan_insertion(&self.ranges, first, last);
         replace(&mut self.ranges, plan.start, plan.end, plan.range)
@@ -125,7 +140,10 @@ impl<A: Allocator + Copy> Cover<A> {
 
     /// The offsets of either set, in one pass over both.
     pub fn union(&self, other: &Cover<A>) -> Result<Cover<A>, AllocError>
-        ensures both { IfOk result (λ both. (o : ℤ) → covers both.runs o ≡ (covers self.now.runs o || covers other.now.runs o)) }
+        ensures unites_runs { IfOk result (λ both.
+            both.runs ≡ union_of self.now.runs other.now.runs) }
+        ensures unites_offsets { IfOk result (λ both. (o : ℤ)
+            → covers both.runs o ≡ (covers self.now.runs o || covers other.now.runs o)) }
         ensures canonical { IfOk result (λ both. IsCanonical both.runs) }
     {
         let mut both = Cover::new(*self.ranges.allocator());

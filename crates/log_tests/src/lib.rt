@@ -1,8 +1,10 @@
-//! Tests of the logs' public calls.
+//! Tests of the public calls of covered offsets and of logs, a file for each of them.
 #![tactic(auto)]
 
 #[cfg(test)]
 mod batches;
+#[cfg(test)]
+mod cover;
 #[cfg(test)]
 mod delivery;
 #[cfg(test)]

@@ -7,7 +7,7 @@ use Rattle.batch_codec.specs.declared.error.BatchError.TheVariants.{Short}
 use Rattle.batch_codec.specs.Values.{BatchValue}
 use Rattle.batch_codec.specs.Grammar.{batch_encoding}
 use Rattle.batch_codec.specs.Refusals.{FirstFault}
-use Rattle.partition_log.specs.Content.{IsLog}
+use Rattle.content.specs.Logs.{IsLogPart}
 use Rattle.tcp_edge.specs.declared.error.Refusal.{Refusal}
 use Rattle.tcp_edge.specs.declared.error.Refusal.TheVariants.{View, Deliver}
 use Rattle.tcp_edge.specs.declared.error.TableError.{TableError}
@@ -40,7 +40,7 @@ refused_some kept next (Deliver why) refused settled = subst (λ (t : List ℕ).
 -- ---- a stream
 
 -- behind the batches that were taken waits one that is refused
-pub next_refused : (a b : Option (List ℕ)) (waiting : List ℕ) (kept : List BatchValue) → IsLog kept → Consumes a b (stream kept ++ waiting) → (index : ℕ) (why : Refusal) → RefusesNext kept waiting index why → RefusesStream a b index why
+pub next_refused : (a b : Option (List ℕ)) (waiting : List ℕ) (kept : List BatchValue) → IsLogPart kept → Consumes a b (stream kept ++ waiting) → (index : ℕ) (why : Refusal) → RefusesNext kept waiting index why → RefusesStream a b index why
 next_refused a b waiting kept log read index why r = record {
   batches = kept;
   next = waiting;
@@ -53,7 +53,7 @@ next_refused a b waiting kept log read index why r = record {
 }
 
 -- the reader's end comes within a batch
-pub end_refused : (a b c : Option (List ℕ)) (waiting waiting' : List ℕ) (kept : List BatchValue) → IsLog kept → Consumes a b (stream kept ++ waiting) → FirstFault Short waiting → FindsEnd b c waiting waiting' → length waiting' ≢ 0 → RefusesStream a c (length kept) (View Short)
+pub end_refused : (a b c : Option (List ℕ)) (waiting waiting' : List ℕ) (kept : List BatchValue) → IsLogPart kept → Consumes a b (stream kept ++ waiting) → FirstFault Short waiting → FindsEnd b c waiting waiting' → length waiting' ≢ 0 → RefusesStream a c (length kept) (View Short)
 end_refused a b c waiting waiting' kept log read short end more = record {
   batches = kept;
   next = waiting;

@@ -1,14 +1,13 @@
 -- What a refusal says of a stream: how many of its batches a copy took, and why it takes no more.
-use Rattle.std.specs.Prelude.{◌≡◌, ◌≢◌, ℕ, ◌<◌, ◌≤ℤ◌, List, ◌++◌, length, Option, ⊤}
+use Rattle.std.specs.Prelude.{◌≡◌, ◌≢◌, ℕ, ◌<◌, List, ◌++◌, length, Option, ⊤}
 use Rattle.std.specs.Io.KnownBytes.{Consumes}
 use Rattle.batch_codec.specs.declared.error.BatchError.TheVariants.{Short}
 use Rattle.batch_codec.specs.Values.{BatchValue}
 use Rattle.batch_codec.specs.Grammar.{Writable, batch_encoding}
-use Rattle.batch_codec.specs.Offsets.{IsWhole, HasKeys, first_offset}
 use Rattle.batch_codec.specs.Refusals.{FirstFault}
-use Rattle.partition_log.specs.declared.error.DeliverError.{DeliverError}
-use Rattle.partition_log.specs.declared.error.DeliverError.TheVariants.{NotWhole, NoKey, BadOffset, Overlap, OutOfMemory}
-use Rattle.partition_log.specs.Content.{IsInRange, IsEntire, IsLog, next_offset}
+use Rattle.content.specs.declared.delivery.DeliverError.TheVariants.{OutOfMemory}
+use Rattle.content.specs.Deliveries.{Refuses}
+use Rattle.content.specs.Logs.{IsLogPart}
 use Rattle.tcp_edge.specs.declared.error.Refusal.{Refusal}
 use Rattle.tcp_edge.specs.declared.error.Refusal.TheVariants.{View, Deliver}
 use Rattle.tcp_edge.specs.declared.error.TableError.{TableError}
@@ -17,20 +16,12 @@ use Rattle.tcp_edge.specs.Tables.{stream, ReadsAll}
 
 -- ---- one batch
 
--- Why a copy that took the batches bs doesn't take b: the first that holds, in the order of the
--- checks. Out of memory says nothing of b.
-abbrev pub Refuses : List BatchValue → BatchValue → DeliverError → Type 0
-Refuses bs b NotWhole = ¬ IsWhole b
-Refuses bs b NoKey = IsWhole b × ¬ HasKeys b
-Refuses bs b BadOffset = IsWhole b × HasKeys b × ¬ IsInRange b
-Refuses bs b Overlap = IsEntire b × ¬ (next_offset bs ≤ℤ first_offset b)
-Refuses bs b OutOfMemory = ⊥
-
 -- the bytes behind the batches bs begin with no batch, or with one that the copy doesn't take
 abbrev pub IsRefusedAs : List BatchValue → List ℕ → Refusal → Type 0
 IsRefusedAs bs next (View fault) = FirstFault fault next
 IsRefusedAs bs next (Deliver why) =
-    (b : BatchValue) × (rest : List ℕ) × Writable b × (next ≡ batch_encoding b ++ rest) × Refuses bs b why
+    (b : BatchValue) × (rest : List ℕ) × Writable b × (next ≡ batch_encoding b ++ rest)
+    × Refuses bs b why × (why ≢ OutOfMemory)
 
 -- Bytes behind the batches bs are refused, and would be whatever followed them.
 pub record RefusesNext (bs : List BatchValue) (next : List ℕ) (index : ℕ) (why : Refusal) : Type 0 where
@@ -45,7 +36,7 @@ pub record RefusesNext (bs : List BatchValue) (next : List ℕ) (index : ℕ) (w
 pub record RefusesStream (left left' : Option (List ℕ)) (index : ℕ) (why : Refusal) : Type 0 where
   pub batches : List BatchValue
   pub next : List ℕ
-  pub is_log : IsLog batches
+  pub is_log : IsLogPart batches
   pub index_is : index ≡ length batches
   pub is_some : 0 < length next
   pub consumes : Consumes left left' (stream batches ++ next)

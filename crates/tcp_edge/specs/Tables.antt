@@ -4,8 +4,9 @@ use Rattle.std.specs.List.{flat_map}
 use Rattle.std.specs.Io.KnownBytes.{Appends}
 use Rattle.batch_codec.specs.Values.{BatchValue}
 use Rattle.batch_codec.specs.Grammar.{batch_encoding}
-use Rattle.partition_log.specs.Content.{IsLog}
-use Rattle.partition_log.specs.Table.{placed, table_of, rows}
+use Rattle.content.specs.Logs.{IsLogPart}
+use Rattle.content.specs.Records.{log_records}
+use Rattle.content.specs.Table.{table_of, rows}
 use Rattle.tcp_edge.specs.Lines.{lines}
 use Rattle.tcp_edge.specs.Output.{AppendsFront}
 
@@ -15,7 +16,7 @@ stream bs = flat_map batch_encoding bs
 
 -- a line for each key that has a value after the last of the batches, by rising key bytes
 abbrev pub table_lines : List BatchValue → List ℕ
-table_lines bs = lines (rows (table_of (placed bs)))
+table_lines bs = lines (rows (table_of (log_records bs)))
 
 -- A reader had these bytes left, gave them all, and is at its end. Where its bytes are not known,
 -- nothing is said.
@@ -26,7 +27,7 @@ ReadsAll (Some left) (Some left') bytes = (left ≡ bytes) × (left' ≡ [])
 
 -- A reader had the batches bs of a log left, end to end, gave them all, and is at its end.
 abbrev pub ReadsLog : Option (List ℕ) → Option (List ℕ) → List BatchValue → Type 0
-ReadsLog left left' bs = IsLog bs × ReadsAll left left' (stream bs)
+ReadsLog left left' bs = IsLogPart bs × ReadsAll left left' (stream bs)
 
 -- The batches of a log were read to the reader's end, and the lines of their table were written.
 pub record PrintsTable (left left' held held' : Option (List ℕ)) : Type 0 where

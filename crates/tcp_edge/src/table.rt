@@ -6,7 +6,7 @@ ghost use Rattle.std.specs.Io.KnownBytes.{Appends};
 ghost use Rattle.batch_codec.specs.declared.error.BatchError.TheVariants.{Short};
 ghost use Rattle.batch_codec.specs.Refusals.{FirstFault};
 ghost use Rattle.batch_codec.specs.Values.{BatchValue};
-ghost use Rattle.partition_log.specs.Content.{IsLog};
+ghost use Rattle.content.specs.Logs.{IsLogPart};
 ghost use Rattle.tcp_edge.specs.declared.error.TableError.TheVariants.{Batch};
 ghost use Rattle.tcp_edge.specs.Input.{TakesBatches};
 ghost use Rattle.tcp_edge.specs.Output.{AppendsFront};
@@ -39,7 +39,7 @@ fn take_batch<A: Allocator + Copy>(
     log: &mut PartitionLog<A>,
     pending: &mut Pending<A>,
 ) -> Result<bool, TableError>
-    requires { IsLog log.old.kept }
+    requires { IsLogPart log.old.kept }
     ensures more { IfOk result (λ more. MatchBool more
         (TakesBatches pending.old pending.new log.old.kept log.new.kept)
         ((pending.new ≡ pending.old) × (log.new ≡ log.old))) }
@@ -47,7 +47,7 @@ fn take_batch<A: Allocator + Copy>(
         (length pending.new < length pending.old)
         (pending.new ≡ pending.old)) }
     ensures short { IfOk result (λ more. OnFalse more (FirstFault Short pending.old)) }
-    ensures log { OnOk result (IsLog log.new.kept) }
+    ensures log { OnOk result (IsLogPart log.new.kept) }
 
     ensures refused { IfErr result (λ e. IfBatch e (RefusesNext log.old.kept pending.old)) }
     ensures no_read { ¬ IsErrOf result TableError.Read }
@@ -72,9 +72,9 @@ fn take_batches<A: Allocator + Copy>(
     log: &mut PartitionLog<A>,
     pending: &mut Pending<A>,
 ) -> Result<(), TableError>
-    requires { IsLog log.old.kept }
+    requires { IsLogPart log.old.kept }
     ensures taken { TakesBatches pending.old pending.new log.old.kept log.new.kept }
-    ensures log { IsLog log.new.kept }
+    ensures log { IsLogPart log.new.kept }
     ensures short { OnOk result (FirstFault Short pending.new) }
     ensures refused { IfErr result (λ e. IfBatch e (RefusesNext log.new.kept pending.new)) }
     ensures no_write { ¬ IsErrOf result TableError.Write }
@@ -88,7 +88,7 @@ fn read_log<A: Allocator + Copy, R: Read>(
     alloc: A,
     reader: &mut R,
 ) -> Result<PartitionLog<A>, TableError>
-    ensures log { IfOk result (λ log. IsLog log.kept) }
+    ensures log { IfOk result (λ log. IsLogPart log.kept) }
     ensures read { IfOk result (λ log. ReadsAll
         (R.remaining reader.old) (R.remaining reader.new) (stream log.kept)) }
     ensures refused { IfErr result (λ e. IfBatch e

@@ -1,4 +1,4 @@
--- Reading a encoding at the front of bytes, and why there is none. A byte has the mark where it is 128 or
+-- Reading an encoding at the front of bytes, and why there is none. A byte has the mark where it is 128 or
 -- more: more digits follow. Kafka's protocol guide, "Protocol Primitive Types", VARINT and VARLONG.
 use Rattle.std.specs.Prelude.{◌≡◌, ℕ, zero, suc, ◌+◌, ◌-◌, ◌*◌, ◌/◌, ◌%◌, ◌^◌, ◌<◌, ◌≤◌, ℤ, pos, negsuc, List, [], ◌∷◌, length, drop, nat_lt, nat_le, ◌==◌, if◌then◌else◌, Result, Ok, Err, slice_index}
 use Rattle.varint.specs.declared.error.VarintError.{VarintError}

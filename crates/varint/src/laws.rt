@@ -8,10 +8,13 @@ ghost use Rattle.varint.specs.Encoding.{encoding, zigzag, digits_value, IsShorte
 ///
 /// The function does nothing: its clauses are laws about the definitions.
 pub fn one_encoding()
-    // A encoding is in the shortest form, and its digits are those of the zigzag number.
-    ensures shortest { (v : ℤ) → FitsSigned w64 v → IsShortest (encoding v) × (digits_value (encoding v) ≡ zigzag v) }
+    // An encoding is in the shortest form, and its digits are those of the zigzag number.
+    ensures is_shortest { (v : ℤ) → FitsSigned w64 v
+        → IsShortest (encoding v) × (digits_value (encoding v) ≡ zigzag v) }
     // No other bytes in the shortest form have these digits.
-    ensures only { (v : ℤ) (bytes : List ℕ) → FitsSigned w64 v → IsShortest bytes → digits_value bytes ≡ zigzag v → bytes ≡ encoding v }
+    ensures has_no_other { (v : ℤ) (bytes : List ℕ) → FitsSigned w64 v → IsShortest bytes
+        → digits_value bytes ≡ zigzag v → bytes ≡ encoding v }
     // No encoding begins another.
-    ensures apart { (v w : ℤ) (x y : List ℕ) → FitsSigned w64 v → FitsSigned w64 w → encoding v ++ x ≡ encoding w ++ y → (v ≡ w) × (x ≡ y) }
+    ensures begins_no_other { (v w : ℤ) (x y : List ℕ) → FitsSigned w64 v → FitsSigned w64 w
+        → encoding v ++ x ≡ encoding w ++ y → (v ≡ w) × (x ≡ y) }
 {}

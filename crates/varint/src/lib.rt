@@ -14,6 +14,3 @@ pub use error::VarintError;
 pub use laws::one_encoding;
 pub use reading::{read_i32, read_i64};
 pub use writing::{len_i32, len_i64, put_i32, put_i64};
-
-#[cfg(test)]
-mod tests;

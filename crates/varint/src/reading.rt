@@ -8,10 +8,10 @@ ghost use Rattle.varint.specs.Reading.{Gives, IsGreatest, IsShort, IsTooLong, Is
 use crate::error::VarintError;
 use crate::zigzag::number_of;
 
-/// The greatest place in 0, -1, 1, -2 and so on of a number of 32 bits.
+/// The greatest zigzag number of a number of 32 bits.
 const GREATEST_I32: u64 = 0xffff_ffff;
 
-/// The greatest place in 0, -1, 1, -2 and so on of a number of 64 bits.
+/// The greatest zigzag number of a number of 64 bits.
 const GREATEST_I64: u64 = 0xffff_ffff_ffff_ffff;
 
 /// The number at the front, of at most `limit`, and the bytes used.
@@ -43,7 +43,7 @@ fn read_number(bytes: &[u8], limit: u64) -> Result<(u64, usize), VarintError>
     Ok((digit - 128 + 128 * high, used + 1))
 }
 
-/// The signed number at the front, whose place in 0, -1, 1, -2 and so on is at most `limit`, and the bytes used.
+/// The signed number at the front, whose zigzag number is at most `limit`, and the bytes used.
 #[inline]
 #[tactic(auto, using(crate::proofs::Encodings::number_last, crate::proofs::Number::number_two), unfolding(crate::specs::Reading::number_at))]
 fn read_signed(bytes: &[u8], limit: u64) -> Result<(i64, usize), VarintError>
@@ -52,12 +52,12 @@ fn read_signed(bytes: &[u8], limit: u64) -> Result<(i64, usize), VarintError>
     ensures read { Gives bytes.now result (signed (number_at limit bytes.now)) }
     ensures below { IfOk result (λ read. zigzag read.0 ≤ limit) }
 {
-    let (place, used) = match bytes {
+    let (code, used) = match bytes {
         [digit, ..] if *digit < 128 => (*digit as u64, 1),
         [low, high, ..] if 0 < *high && *high < 128 => (*low as u64 - 128 + 128 * *high as u64, 2),
         _ => read_number(bytes, limit)?,
     };
-    Ok((number_of(place), used))
+    Ok((number_of(code), used))
 }
 
 /// The number of 32 bits at the front, and the bytes used.
@@ -79,7 +79,11 @@ fn number_i64(bytes: &[u8]) -> Result<(i64, usize), VarintError>
     read_signed(bytes, GREATEST_I64)
 }
 
-/// Reads a number of 32 bits at the front, and how many bytes it takes: 1 to 5. Bytes may follow it.
+/// Reads a number of 32 bits at the front, and how many bytes it takes: 1 to 5. Bytes may follow.
+///
+/// ```
+/// read_i32(&[0xd8, 0x04, 0x07]) == Ok((300, 2))
+/// ```
 ///
 /// # Errors
 ///
@@ -89,12 +93,14 @@ fn number_i64(bytes: &[u8]) -> Result<(i64, usize), VarintError>
 #[inline]
 pub fn read_i32(bytes: &[u8]) -> Result<(i32, usize), VarintError>
     // What is read, or why nothing is.
-    ensures read { Gives bytes.now result (varint_at bytes.now) }
+    ensures reads_varint { Gives bytes.now result (varint_at bytes.now) }
     // What is read is encoded so.
-    ensures found { IfOk result (λ read. (bytes.now ≡ encoding read.0 ++ drop read.1 bytes.now) × (read.1 ≡ length (encoding read.0))) }
-    ensures within { IfOk result (λ read. read.1 ≤ length bytes.now) }
+    ensures finds_number { IfOk result (λ read. (bytes.now ≡ encoding read.0 ++ drop read.1 bytes.now)
+        × (read.1 ≡ length (encoding read.0))) }
+    ensures used_are_there { IfOk result (λ read. read.1 ≤ length bytes.now) }
     // What is encoded so is read, whatever follows it.
-    ensures again { (v : ℤ) (rest : List ℕ) → FitsSigned w32 v → bytes.now ≡ encoding v ++ rest → result ≡ Ok (v, length (encoding v)) }
+    ensures accepts_every_encoding { (v : ℤ) (rest : List ℕ) → FitsSigned w32 v
+        → bytes.now ≡ encoding v ++ rest → result ≡ Ok (v, length (encoding v)) }
     ensures short { IsErrOf result VarintError.Short ↔ IsShort 5 bytes.now }
     ensures too_long { IsErrOf result VarintError.TooLong ↔ IsTooLong 5 0x0f bytes.now }
     ensures not_shortest { IsErrOf result VarintError.NotShortest ↔ IsNotShortest 5 0x0f bytes.now }
@@ -102,7 +108,7 @@ pub fn read_i32(bytes: &[u8]) -> Result<(i32, usize), VarintError>
     number_i32(bytes)
 }
 
-/// Reads a number of 64 bits at the front, and how many bytes it takes: 1 to 10. Bytes may follow it.
+/// Reads a number of 64 bits at the front, and how many bytes it takes: 1 to 10. Bytes may follow.
 ///
 /// # Errors
 ///
@@ -112,15 +118,18 @@ pub fn read_i32(bytes: &[u8]) -> Result<(i32, usize), VarintError>
 #[inline]
 pub fn read_i64(bytes: &[u8]) -> Result<(i64, usize), VarintError>
     // What is read, or why nothing is.
-    ensures read { Gives bytes.now result (varlong_at bytes.now) }
+    ensures reads_varlong { Gives bytes.now result (varlong_at bytes.now) }
     // What is read is encoded so.
-    ensures found { IfOk result (λ read. (bytes.now ≡ encoding read.0 ++ drop read.1 bytes.now) × (read.1 ≡ length (encoding read.0))) }
-    ensures within { IfOk result (λ read. read.1 ≤ length bytes.now) }
+    ensures finds_number { IfOk result (λ read. (bytes.now ≡ encoding read.0 ++ drop read.1 bytes.now)
+        × (read.1 ≡ length (encoding read.0))) }
+    ensures used_are_there { IfOk result (λ read. read.1 ≤ length bytes.now) }
     // What is encoded so is read, whatever follows it.
-    ensures again { (v : ℤ) (rest : List ℕ) → FitsSigned w64 v → bytes.now ≡ encoding v ++ rest → result ≡ Ok (v, length (encoding v)) }
+    ensures accepts_every_encoding { (v : ℤ) (rest : List ℕ) → FitsSigned w64 v
+        → bytes.now ≡ encoding v ++ rest → result ≡ Ok (v, length (encoding v)) }
     ensures short { IsErrOf result VarintError.Short ↔ IsShort 10 bytes.now }
     ensures too_long { IsErrOf result VarintError.TooLong ↔ IsTooLong 10 0x01 bytes.now }
-    ensures not_shortest { IsErrOf result VarintError.NotShortest ↔ IsNotShortest 10 0x01 bytes.now }
+    ensures not_shortest { IsErrOf result VarintError.NotShortest
+        ↔ IsNotShortest 10 0x01 bytes.now }
 {
     number_i64(bytes)
 }

@@ -36,25 +36,29 @@ fn digit_count(number: u64) -> usize
     others + 1
 }
 
-/// Writes a number of 64 bits at the end, in 1 to 10 bytes. Where memory runs out nothing is written.
+/// Writes a number of 64 bits at the end, in 1 to 10 bytes. Without memory nothing is written.
 #[tactic(auto, using(crate::proofs::Encodings::digits_last), unfolding(crate::specs::Encoding::encoding))]
 pub fn put_i64<A: Allocator + Copy>(out: &mut Vec<u8, A>, value: i64) -> Result<(), AllocError>
-    ensures ok { OnOk result (out.new.items ≡ out.old.items ++ encoding value) }
-    ensures err { OnErr result (out.new.items ≡ out.old.items) }
+    ensures appends_encoding { OnOk result (out.new.items ≡ out.old.items ++ encoding value) }
+    ensures unchanged_on_error { OnErr result (out.new.items ≡ out.old.items) }
 {
-    let place = zigzag_of(value);
-    if place < 128 {
-        out.push(place as u8)?;
+    let code = zigzag_of(value);
+    if code < 128 {
+        out.push(code as u8)?;
         return Ok(());
     }
-    let (bytes, used) = digits_of(place);
+    let (bytes, used) = digits_of(code);
     out.extend_from_slice(&bytes[..used])
 }
 
-/// Writes a number of 32 bits at the end, in 1 to 5 bytes. Where memory runs out nothing is written.
+/// Writes a number of 32 bits at the end, in 1 to 5 bytes. Without memory nothing is written.
+///
+/// ```
+/// put_i32(&mut out, 300)?; // appends 0xd8, 0x04
+/// ```
 pub fn put_i32<A: Allocator + Copy>(out: &mut Vec<u8, A>, value: i32) -> Result<(), AllocError>
-    ensures ok { OnOk result (out.new.items ≡ out.old.items ++ encoding value) }
-    ensures err { OnErr result (out.new.items ≡ out.old.items) }
+    ensures appends_encoding { OnOk result (out.new.items ≡ out.old.items ++ encoding value) }
+    ensures unchanged_on_error { OnErr result (out.new.items ≡ out.old.items) }
 {
     put_i64(out, i64::from(value))
 }
@@ -62,8 +66,8 @@ pub fn put_i32<A: Allocator + Copy>(out: &mut Vec<u8, A>, value: i32) -> Result<
 /// How many bytes a number of 64 bits takes: 1 to 10.
 #[tactic(auto, using(crate::proofs::Digits::most), unfolding(crate::specs::Encoding::encoding))]
 pub fn len_i64(value: i64) -> usize
-    ensures len { result ≡ length (encoding value) }
-    ensures bound { result ≤ 10 }
+    ensures counts_encoding { result ≡ length (encoding value) }
+    ensures at_most_10 { result ≤ 10 }
 {
     digit_count(zigzag_of(value))
 }
@@ -71,8 +75,8 @@ pub fn len_i64(value: i64) -> usize
 /// How many bytes a number of 32 bits takes: 1 to 5.
 #[tactic(auto, using(crate::proofs::Digits::most_of_32_bits))]
 pub fn len_i32(value: i32) -> usize
-    ensures len { result ≡ length (encoding value) }
-    ensures bound { result ≤ 5 }
+    ensures counts_encoding { result ≡ length (encoding value) }
+    ensures at_most_5 { result ≤ 5 }
 {
     len_i64(i64::from(value))
 }

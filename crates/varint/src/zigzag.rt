@@ -1,10 +1,10 @@
-//! Signed numbers as numbers from 0 on, those near 0 first.
+//! Zigzag numbers: 0, -1, 1, -2 and so on are 0, 1, 2, 3 and so on.
 
 ghost use Rattle.std.specs.Prelude.{◌≡◌};
 ghost use Rattle.varint.specs.Encoding.{zigzag};
 ghost use Rattle.varint.specs.Reading.{unzigzag};
 
-/// The place of a number in 0, -1, 1, -2 and so on.
+/// The zigzag number of a signed number.
 #[inline]
 pub fn zigzag_of(value: i64) -> u64
     ensures { result ≡ zigzag value }
@@ -16,14 +16,14 @@ pub fn zigzag_of(value: i64) -> u64
     }
 }
 
-/// The number at a place in 0, -1, 1, -2 and so on.
+/// The signed number of a zigzag number.
 #[inline]
-pub fn number_of(place: u64) -> i64
-    ensures { result ≡ unzigzag place }
+pub fn number_of(code: u64) -> i64
+    ensures { result ≡ unzigzag code }
 {
-    if place % 2 == 0 {
-        (place / 2) as i64
+    if code % 2 == 0 {
+        (code / 2) as i64
     } else {
-        -((place / 2) as i64) - 1
+        -((code / 2) as i64) - 1
     }
 }

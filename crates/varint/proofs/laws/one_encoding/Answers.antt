@@ -2,4 +2,4 @@ use Rattle.varint.proofs.Encodings.{encoding_shortest, encoding_only, encoding_a
 use Rattle.varint.proofs.laws.one_encoding.Goals as goal
 
 pub returns : goal.returns
-returns c = record { shortest = encoding_shortest; only = encoding_only; apart = encoding_apart }
+returns c = record { is_shortest = encoding_shortest; has_no_other = encoding_only; begins_no_other = encoding_apart }

@@ -9,10 +9,10 @@ returns c =
     let fits : IsBytes c.args.bytes.now = λ i. omega (arith, c.type_inv.bytes i) in
     let refused = refusals32 c.args.bytes.now c.number_i32.result given in
     record {
-      read = given;
-      found = is_found32 c.args.bytes.now c.number_i32.result fits given;
-      within = is_within c.args.bytes.now c.number_i32.result _ given;
-      again = is_again32 c.args.bytes.now c.number_i32.result given;
+      reads_varint = given;
+      finds_number = is_found32 c.args.bytes.now c.number_i32.result fits given;
+      used_are_there = is_within c.args.bytes.now c.number_i32.result _ given;
+      accepts_every_encoding = is_again32 c.args.bytes.now c.number_i32.result given;
       short = refused.0;
       too_long = refused.1;
       not_shortest = refused.2;

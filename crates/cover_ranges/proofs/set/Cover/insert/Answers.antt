@@ -2,9 +2,10 @@ use Rattle.std.proofs.Common.{w64, ap}
 use Rattle.std.specs.Prelude.{is_ok}
 use Rattle.std.proofs.lemmas.Int.{to_z-of_z}
 use mir.Val.{SFits}
-use Rattle.cover_ranges.specs.Held.{Held}
-use Rattle.cover_ranges.specs.Place.{Reaches}
+use Rattle.cover_ranges.specs.CoverValue.{CoverValue}
+use Rattle.cover_ranges.specs.Insertion.{Reaches}
 use Rattle.cover_ranges.proofs.Splice.{inserted_canonical, inserted_added}
+use Rattle.cover_ranges.proofs.RunSets.{range_only_ok}
 use Rattle.cover_ranges.proofs.set.Cover.insert.Goals as goal
 
 pub invariant_of-self : goal.invariant_of-self
@@ -19,11 +20,16 @@ returns-clause-canonical g c =
     inserted_canonical (is_ok c.replace.result) c.deref.result.now c.self.inside.ranges.items c.replace.new.ranges.items plan.start plan.end _ _ plan.range c.deref.ensures.value c.self.invariant
     c.plan_insertion-plan.ensures c.replace.ensures.items
 
-pub returns-clause-added : goal.returns-clause-added
-returns-clause-added g c =
+pub returns-clause-adds_offsets : goal.returns-clause-adds_offsets
+returns-clause-adds_offsets g c =
     let fits_first : SFits w64 c.args.first = c.ranges.first in
     let fits_last : SFits w64 c.args.last = c.ranges.last in
     let plan = c.plan_insertion-plan.result in
     let reached : Reaches c.deref.result.now plan.start plan.end c.args.first c.args.last plan.range = simp to_z-of_z at c.plan_insertion-plan.ensures in
     inserted_added c.replace.result c.deref.result.now c.self.inside.ranges.items c.args.self.now.runs c.replace.new.ranges.items plan.start plan.end c.args.first c.args.last plan.range c.deref.ensures.value
-    (ap (λ (h : Held). h.runs) c.self.view_is) reached c.replace.ensures.items
+    (ap (λ (h : CoverValue). h.runs) c.self.view_is) reached c.replace.ensures.items
+
+pub returns-clause-adds_range : goal.returns-clause-adds_range
+returns-clause-adds_range g c =
+    range_only_ok c.replace.result c.args.first c.args.last c.self.inside.ranges.items c.args.self.now.runs c.replace.new.ranges.items (ap (λ (h : CoverValue). h.runs) c.self.view_is)
+    c.requires.not_negative c.requires.not_empty c.requires.in_bounds c.self.invariant (returns-clause-canonical g c) (returns-clause-adds_offsets g c)

@@ -1,0 +1,32 @@
+//! `crc32c` on the vectors of RFC 3720, appendix B.4, and the usual one of a CRC, the digits 1 to 9.
+
+use checksum::crc32c;
+
+#[test]
+fn published_checksums(rt: HostRuntime) {
+    let rows: [(&str, &[u8], u32); 6] = [
+        ("no bytes", &[], 0),
+        ("the digits", b"123456789", 0xe306_9283),
+        ("32 bytes of zeros", &[0; 32], 0x8a91_36aa),
+        ("32 bytes of ones", &[0xff; 32], 0x62a8_ab43),
+        (
+            "32 rising bytes",
+            &[
+                0, 1, 2, 3, 4, 5, 6, 7, 8, 9, 10, 11, 12, 13, 14, 15, 16, 17, 18, 19, 20, 21, 22,
+                23, 24, 25, 26, 27, 28, 29, 30, 31,
+            ],
+            0x46dd_794e,
+        ),
+        (
+            "an iSCSI read command",
+            &[
+                0x01, 0xc0, 0, 0, 0, 0, 0, 0, 0, 0, 0, 0, 0, 0, 0, 0, 0x14, 0, 0, 0, 0, 0, 0x04, 0,
+                0, 0, 0, 0x14, 0, 0, 0, 0x18, 0x28, 0, 0, 0, 0, 0, 0, 0, 0x02, 0, 0, 0, 0, 0, 0, 0,
+            ],
+            0xd996_3a56,
+        ),
+    ];
+    for (name, bytes, wanted) in rows {
+        assert_eq!(rt; crc32c(bytes), wanted, "{name}");
+    }
+}

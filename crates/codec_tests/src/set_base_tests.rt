@@ -1,0 +1,48 @@
+//! `set_base` on the batch of one record: the two fields have other bytes, and all else stays.
+
+use crate::batches::{A_IS_1, changed};
+use batch_codec::{set_base, view};
+use std::test::Fail;
+
+#[test]
+fn two_fields_change(rt: HostRuntime) -> Result<(), Fail> {
+    // the base, the epoch, and the bytes that differ from the old ones
+    let rows: [(&str, i64, i32, &[(usize, u8)]); 4] = [
+        ("what it was", 0, 0, &[]),
+        ("small numbers", 258, 3, &[(6, 1), (7, 2), (15, 3)]),
+        (
+            "the last base of a log",
+            4_611_686_018_427_387_903,
+            7,
+            &[
+                (0, 0x3f),
+                (1, 0xff),
+                (2, 0xff),
+                (3, 0xff),
+                (4, 0xff),
+                (5, 0xff),
+                (6, 0xff),
+                (7, 0xff),
+                (15, 7),
+            ],
+        ),
+        (
+            "negative ones",
+            i64::MIN,
+            -1,
+            &[(0, 0x80), (12, 0xff), (13, 0xff), (14, 0xff), (15, 0xff)],
+        ),
+    ];
+    for (name, base, leader_epoch, changes) in rows {
+        let mut batch = view(&A_IS_1)?.bytes().to_vec(rt.alloc())?;
+        set_base(&mut batch, base, leader_epoch);
+        assert_eq!(rt; batch.as_slice(), changed(changes).as_slice(), "{name}");
+        let head = view(&batch)?.head();
+        assert_eq!(rt;
+            (head.base, head.leader_epoch),
+            (base, leader_epoch),
+            "{name}"
+        );
+    }
+    Ok(())
+}

@@ -1,0 +1,10 @@
+pub mod ByOffset
+pub mod Batches
+pub mod BatchParts
+pub mod Windows
+pub mod WindowPush
+pub mod WindowPart
+pub mod Epochs
+pub mod Legal
+pub mod Tables
+pub mod PlainLogs
