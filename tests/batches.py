@@ -1,6 +1,6 @@
-"""Record batches by Kafka's public documentation of the format ("Record Batch", magic 2), written apart from the program.
+"""Record batches by Kafka's public documentation of the format ("Record Batch", magic 2).
 
-It shares nothing with the code that it tests, and what a row expects is never computed by the program.
+It shares nothing with the program that is tested on them.
 """
 import functools
 import os
@@ -55,8 +55,8 @@ FIELDS = "base length leader magic crc attributes last time maxtime producer epo
 
 
 def batch(records, fields):
-    """The batch of these encoded records. `fields` may set each field, also the length and the crc; `tail` is how many
-    zeros stand behind the records."""
+    """The batch of these encoded records. `fields` may set each field, also the length and the crc, and `tail`, the
+    number of zeros behind the records."""
     body = struct.pack(
         ">hiqqqhii",
         fields.get("attributes", 0),
@@ -71,7 +71,8 @@ def batch(records, fields):
     body += b"".join(records) + bytes(fields.get("tail", 0))
     length = fields.get("length", len(body) + 9)
     crc = fields.get("crc", crc32c(body))
-    return struct.pack(">qiibI", fields.get("base", 0), length, fields.get("leader", 0), fields.get("magic", 2), crc) + body
+    leader, magic = fields.get("leader", 0), fields.get("magic", 2)
+    return struct.pack(">qiibI", fields.get("base", 0), length, leader, magic, crc) + body
 
 
 # ---- what stands in rows

@@ -1,5 +1,5 @@
--- The merge of contents: idempotent, commutative where both are alike, associative. A content is its
--- slots, so each of these is a law of slots.
+-- The merge of contents: idempotent, associative, and commutative where both are alike. A content
+-- is its slots, so each of these is a law of slots.
 use Rattle.std.proofs.Common.{◌≡◌, ◌^◌, ℤ, pos, ◌+ℤ◌, ◌-ℤ◌, Bool, true, false, ◌&&◌, ◌||◌, ◌⊎◌, inl, inr, [], ◌∷◌, Option, Some, None, refl, sym, ap, subst, ◌∙◌, arith}
 use Rattle.std.specs.Prelude.{◌≤ℤ◌, ◌<ℤ◌, int_lt, int_le, IsSome, if◌then◌else◌}
 use Rattle.std.specs.List.{cons_option}
@@ -19,9 +19,9 @@ use Rattle.content_laws.proofs.ByOffset.{look_up-filter_offset, rises-filter, sa
 use Rattle.content_laws.proofs.Batches.{record_in, record_from, HasRecord}
 use Rattle.content_laws.proofs.BatchParts.{part_head, part_record, common_comm}
 use Rattle.content_laws.proofs.Slots.{is_below, is_seen, bases_rise, kept_keepable, kept_covered, slot_batch, slot_seen, slot_below, slot_kept, same_content, cut_slots, join_kept, join_start, join_covers, join_slots, slot_join_self, slot_join_assoc, slot_join_comm}
-use Rattle.content_laws.proofs.ContentSteps.{IsFrom, join_from, join_side, join_above, end_of_part, content_cut, content_join}
+use Rattle.content_laws.proofs.ContentSteps.{both_bools, IsFrom, join_from, join_side, join_above, end_of_part, content_cut, content_join}
 
--- ---- idempotent, associative
+-- ---- idempotent, associative: at each base offset the merge of slots is
 
 pub join_self : (c : Content) → IsContent c → join c c ≡ c
 join_self c is = same_content (join c c) c (content_join c c is is) is (λ o. join_slots c c o is is ∙ slot_join_self (slot_at c o))
@@ -37,7 +37,8 @@ join_assoc a b c is_a is_b is_c =
     ∙ sym (ap (slot_join (slot_at a o)) (join_slots b c o is_b is_c))
     ∙ sym (join_slots a (join b c) o is_a is_bc))
 
--- ---- commutative, where batches that both keep at a base have one head and equal records at equal offsets
+-- ---- commutative, where batches that both keep are alike: then either's common records are the
+-- other's, and all else in a merge of slots treats both sides alike
 
 from_start : (c : Content) (o : ℤ) (b : BatchValue) → slot_at c o ≡ Kept b → c.start ≤ℤ o
 from_start c o b e = let below : int_lt o c.start ≡ false = slot_below c o ∙ ap is_below e in grind (arith, ints, below)
@@ -58,7 +59,7 @@ join_comm a b is_a is_b alike = same_content (join a b) (join b a) (content_join
 pub join_comm_agree : (a b : Content) → IsContent a → IsContent b → Agree a b → join a b ≡ join b a
 join_comm_agree a b is_a is_b agree = join_comm a b is_a is_b (λ o. (agree o).2)
 
--- ---- a merge of two contents cut is their merge cut
+-- ---- a merge of two contents cut is their merge cut: a cut makes slots Below, which wins over all
 
 pub cut_start : (c : Content) → IsContent c → cut c.start c ≡ c
 cut_start c is = same_content (cut c.start c) c (content_cut c c.start is (omega (arith, ints)) is.in_range.1) is (λ o. cut_slots c c.start o (omega (arith, ints)) ∙ low (slot_at c o) (int_lt o c.start) (slot_below c o))
@@ -127,7 +128,8 @@ agree_sym a b agree o =
     subst (λ (s : ℤ). FitsAt s b a o × FitsAt s a b o × AreAlikeAt s b a o) (max_comm a.start b.start)
     (both.1, both.0, λ x y from e f. let same = both.2 y x from f e in (sym same.0, λ d r s p q. sym (same.1 d s r q p)))
 
--- ---- a merge agrees with what both agree with
+-- ---- a merge agrees with what both agree with: each of its batches is a part of a side's, with
+-- the same span, and what is constant on a span for both sides is constant for the merge
 
 pub join_agrees : (a b c : Content) → IsContent a → IsContent b → IsContent c → Agree a c → Agree b c → Agree (join a b) c
 join_agrees a b c is_a is_b is_c agree_a agree_b o = (fits, back, alike)
@@ -189,10 +191,8 @@ join_agrees a b c is_a is_b is_c agree_a agree_b o = (fits, back, alike)
         by (inl p) = side a is_a (omega (arith, ints, clamps, start, from)) p (agree_a o).2
         by (inr p) = side b is_b (omega (arith, ints, clamps, start, from)) p (agree_b o).2
 
--- ---- what a merge of two that agree holds, each side holds that has seen the offset
-
-both_bools : (b : Bool) → b ≡ true → b ≡ false → ⊥
-both_bools b p q = cc
+-- ---- what a merge of two that agree holds, each side holds that has seen the offset: such a side
+-- has seen the batch's base too, so it keeps the batch, or the merge would have dropped it
 
 pub held_in_left : (a b : Content) (o : ℤ) (r : RecordValue) → IsContent a → IsContent b → Agree a b → record_at (join a b).kept o ≡ Some r → covers a.cover o ≡ true → record_at a.kept o ≡ Some r
 held_in_left a b o r is_a is_b agree e seen = by (join_from a b base z is_a is_b of.there)
@@ -225,7 +225,8 @@ held_in_join a b o r is_a is_b agree e = (
   held_in_left b a o r is_b is_a (agree_sym a b agree) (ap (λ (c : Content). record_at c.kept o) (sym (join_comm_agree a b is_a is_b agree)) ∙ e),
 )
 
--- ---- a kept batch stays, unless it lies below the later start or the other side dropped it
+-- ---- a kept batch stays, unless it lies below the later start or the other side dropped it: these
+-- are the cases of its slot
 
 pub join_keeps : (a b : Content) (base : ℤ) (x : BatchValue) → IsContent a → IsContent b → Agree a b → look_up first_offset base a.kept ≡ Some x
     → IsSome (look_up first_offset base (join a b).kept) ⊎ ((last_offset x <ℤ (join a b).start) ⊎ (slot_at b base ≡ Gone))

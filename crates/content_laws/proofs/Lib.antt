@@ -18,3 +18,4 @@ pub mod CopyGrow
 pub mod CopyCut
 pub mod CopyClean
 pub mod CopyStarts
+pub mod CopyJoin

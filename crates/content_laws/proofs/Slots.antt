@@ -19,7 +19,8 @@ use Rattle.content_laws.proofs.ByOffset.{look_up-offset, look_up-low, look_up-fi
 use Rattle.content_laws.proofs.Batches.{spans_bases, spans_apart}
 use Rattle.content_laws.proofs.BatchParts.{common_self, common_assoc}
 
--- ---- a slot says whether a batch is kept, whether the offset was seen, and whether it is below the start
+-- ---- a slot says whether a batch is kept, whether the offset was seen, and whether it is below
+-- the start: in a content a kept batch's base was seen, and nothing below the start was
 
 abbrev pub is_seen : Slot → Bool
 is_seen Unknown = false
@@ -111,7 +112,8 @@ span_gone c o i b is e less within =
     by None true apart seen = refl
     by None false apart seen = absurd cc
 
--- ---- equal slots make equal contents: they say the start, the runs' members and the batch at each base
+-- ---- equal slots make equal contents: they say the start, the members of the runs, and the batch
+-- at each base offset
 
 same_start : (s t : ℤ) → ((o : ℤ) → int_lt o s ≡ int_lt o t) → s ≡ t
 same_start s t same = let at_s = same s in let at_t = same t in grind (arith, ints, at_s, at_t)
@@ -137,7 +139,8 @@ cut_slots c start o later = by (int_lt o start) refl
         let above : start ≤ℤ o = grind (arith, ints, from) in
         (λ i. slot_from (kept i) (seen i)) ∙ sym (slot_is c o (omega (arith, ints, above, later)))
 
--- ---- a merge's slots are the merges of the two contents' slots
+-- ---- a merge's slots are the merges of the two contents' slots: its kept batches, its runs and
+-- its start are each read from them, case by case
 
 pub merged_base : (b : Content) (x z : BatchValue) → merged_batch b x ≡ Some z → first_offset z ≡ first_offset x
 merged_base b x z e = by (slot_at b (first_offset x)) e
@@ -148,7 +151,8 @@ merged_base b x z e = by (slot_at b (first_offset x)) e
     by Gone f = absurd cc
     by Below f = absurd cc
 
--- the left one's batches as the right one leaves them, and the right one's where the left one is Unknown
+-- the left one's batches as the right one leaves them, and the right one's where the left one is
+-- Unknown
 kept_table : (u v : Slot) → option_or (if is_unknown u then batch_of_slot v else None) (option_and_then (λ x. batch_of_slot (slot_join (Kept x) v)) (batch_of_slot u)) ≡ batch_of_slot (slot_join u v)
 kept_table u v = grind arith
 
@@ -195,7 +199,7 @@ join_slots a b o is_a is_b =
     = join_covers a b o ∙ (λ i. (slot_seen a o is_a i || slot_seen b o is_b i) && (from_both (greater_start a b) o ∙ ap not below) i) in
     (λ i. if under i then Below else slot_from (join_kept a b o is_a is_b i) (seen i)) ∙ slot_table (slot_at a o) (slot_at b o)
 
--- ---- the merge of slots
+-- ---- the merge of slots: all cases, and of two Kept the records that both have
 
 pub slot_join_self : (u : Slot) → slot_join u u ≡ u
 slot_join_self Unknown = refl

@@ -6,6 +6,7 @@ ghost use Rattle.batch_codec.specs.Offsets.{first_offset};
 ghost use Rattle.content.specs.ByOffset.{look_up};
 ghost use Rattle.content.specs.Content.{Content, IsContent, IsAcceptedStart, empty, add, cut};
 ghost use Rattle.content.specs.Cleaning.{clean};
+ghost use Rattle.content.specs.Joins.{join, Agree};
 ghost use Rattle.content.specs.Logs.{IsPlainLog, IsBoundary};
 ghost use Rattle.content.specs.Copies.{IsCopy};
 
@@ -43,4 +44,16 @@ pub fn cutting_leaves_a_copy()
 pub fn a_growing_log_keeps_its_copies()
     ensures { (c : Content) (log : List BatchValue) (b : BatchValue)
         → IsContent c → IsPlainLog (log ++ b ∷ []) → IsCopy c log → IsCopy c (log ++ b ∷ []) }
+{}
+
+/// Two copies of one log can be merged: they agree.
+pub fn copies_of_one_log_agree()
+    ensures { (a b : Content) (log : List BatchValue) → IsContent a → IsContent b → IsPlainLog log
+        → IsCopy a log → IsCopy b log → Agree a b }
+{}
+
+/// The merge of two copies of a log is a copy of that log.
+pub fn merging_leaves_a_copy()
+    ensures { (a b : Content) (log : List BatchValue) → IsContent a → IsContent b → IsPlainLog log
+        → IsCopy a log → IsCopy b log → IsCopy (join a b) log }
 {}

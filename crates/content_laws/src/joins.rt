@@ -9,8 +9,8 @@ pub fn merging_is_idempotent()
     ensures { (c : Content) → IsContent c → join c c ≡ c }
 {}
 
-/// The order of two contents makes no difference if they agree. It is enough that batches which both
-/// keep at one base offset are alike.
+/// The order of two contents makes no difference if they agree. It is enough that the batches that
+/// both keep at one base offset are alike.
 pub fn merging_is_commutative()
     ensures alike { (a b : Content) → IsContent a → IsContent b
         → ((base : ℤ) → AreAlikeAt (greater_start a b) a b base) → join a b ≡ join b a }

@@ -156,8 +156,8 @@ fn failing_streams(rt: HostRuntime) -> std::result::Result<(), Fail> {
         };
         let mut err = Vec::new(rt.alloc());
         let arguments = ["kbroker", "table"];
-        let told = run_line(rt.alloc(), &arguments, &mut source, &mut sink, &mut err);
-        assert_eq!(rt; told, status, "{name}");
+        let answered = run_line(rt.alloc(), &arguments, &mut source, &mut sink, &mut err);
+        assert_eq!(rt; answered, status, "{name}");
         assert_eq!(rt; sink.taken, taken, "{name}");
         assert_eq!(rt; err.as_slice(), line.as_bytes(), "{name}");
     }

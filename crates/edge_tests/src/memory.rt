@@ -1,4 +1,4 @@
-//! The table under each allocation failing in turn: nothing is printed, and a run with memory prints it.
+//! A table under each allocation failing in turn: nothing is printed, and a run with memory prints it.
 use crate::batches::THREE;
 use refusing_alloc::Refusing;
 use std::test::Fail;

@@ -1,4 +1,4 @@
-//! The allocator that the tests below an edge rest on: the allocation of its number fails, and no other.
+//! The allocator that the tests of failing allocations rest on: one allocation fails, and no other.
 use refusing_alloc::Refusing;
 use std::test::Fail;
 

@@ -1,7 +1,7 @@
 //! An allocator for tests, which refuses one allocation and serves all others.
 //!
-//! Out of memory is an ordinary answer, and this makes it happen: a test lets the first allocation fail, then the second,
-//! and so on, until a run passes.
+//! Out of memory is an ordinary answer, and this makes it happen: a test lets the first allocation
+//! fail, then the second, and so on, until a run passes.
 #![tactic(auto)]
 
 ghost use Rattle.std.specs.Prelude.{◌≡◌, MatchOption};
@@ -9,8 +9,8 @@ ghost use Rattle.std.specs.Prelude.{◌≡◌, MatchOption};
 use std::alloc::{AllocError, Allocator};
 use std::cell::Cell;
 
-/// An allocator over another one. Its allocation number `refused`, counted from 1, fails, and all other calls are passed on.
-/// A `&` to it is an allocator that may be copied.
+/// An allocator over another one. Its allocation number `refused`, counted from 1, fails, and all
+/// other calls are passed on. A `&` to it is an allocator that may be copied.
 #[derive(Drop)]
 pub struct Refusing<B> {
     inner: B,

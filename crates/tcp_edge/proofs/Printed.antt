@@ -46,9 +46,9 @@ escaped_there bytes k some = not-true _ (position-Some is_escaped bytes k 0 some
 pub printed_split : (bytes : List ℕ) (k : ℕ) → position is_escaped bytes ≡ Some k → printed bytes ≡ take k bytes ++ (printed_byte (get_or bytes k 0) ++ printed (drop (k + 1) bytes))
 printed_split bytes k some =
     let there = (position-Some is_escaped bytes k 0 some).0 in
-    let place = chosen_some _ _ k some in
+    let index = chosen_some _ _ k some in
     let next : k + 1 ≡ suc k = add-one k in
-    printed_run bytes ∙ rw (place, next, drop-cons bytes k 0 there) refl
+    printed_run bytes ∙ rw (index, next, drop-cons bytes k 0 there) refl
 
 -- bytes that are all unescaped, once they are pushed
 pub pushed_all : (old new bytes : List ℕ) → position is_escaped bytes ≡ None → new ≡ old ++ bytes → new ++ printed (take (length bytes - length bytes) (drop (length bytes) bytes)) ≡ old ++ printed bytes

@@ -42,25 +42,25 @@ refused_some kept next (Deliver why) refused settled = subst (λ (t : List ℕ).
 -- behind the batches that were taken waits one that is refused
 pub next_refused : (a b : Option (List ℕ)) (waiting : List ℕ) (kept : List BatchValue) → IsLogPart kept → Consumes a b (stream kept ++ waiting) → (index : ℕ) (why : Refusal) → RefusesNext kept waiting index why → RefusesStream a b index why
 next_refused a b waiting kept log read index why r = record {
-  taken = kept;
+  batches = kept;
   next = waiting;
-  log = log;
-  number = r.number;
-  some = refused_some kept waiting why r.refused r.settled;
-  read = read;
-  refused = r.refused;
-  whole = λ short. absurd (r.settled short);
+  is_log = log;
+  index_is = r.index_is;
+  is_some = refused_some kept waiting why r.is_refused r.not_short;
+  consumes = read;
+  is_refused = r.is_refused;
+  short_at_end = λ short. absurd (r.not_short short);
 }
 
 -- the reader's end comes within a batch
 pub end_refused : (a b c : Option (List ℕ)) (waiting waiting' : List ℕ) (kept : List BatchValue) → IsLogPart kept → Consumes a b (stream kept ++ waiting) → FirstFault Short waiting → FindsEnd b c waiting waiting' → length waiting' ≢ 0 → RefusesStream a c (length kept) (View Short)
 end_refused a b c waiting waiting' kept log read short end more = record {
-  taken = kept;
+  batches = kept;
   next = waiting;
-  log = log;
-  number = refl;
-  some = omega (arith, ap (λ (t : List ℕ). length t) end.unchanged);
-  read = Consumes-kept a b c (stream kept ++ waiting) read end.stays;
-  refused = short;
-  whole = λ _. consumes_all a b c (stream kept ++ waiting) read end.at_end end.stays;
+  is_log = log;
+  index_is = refl;
+  is_some = omega (arith, ap (λ (t : List ℕ). length t) end.unchanged);
+  consumes = Consumes-kept a b c (stream kept ++ waiting) read end.stays;
+  is_refused = short;
+  short_at_end = λ _. consumes_all a b c (stream kept ++ waiting) read end.at_end end.stays;
 }

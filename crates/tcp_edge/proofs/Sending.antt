@@ -11,29 +11,29 @@ use Rattle.tcp_edge.specs.Output.{Sends, AppendsFront}
 
 -- all waits
 pub sends_later : (a : Option (List ℕ)) (waited waiting more : List ℕ) → waiting ≡ waited ++ more → Sends a a waited waiting more
-sends_later a waited waiting more grown = record { sent = []; written = Appends-nil a; kept = grown }
+sends_later a waited waiting more grown = record { sent = []; appends = Appends-nil a; waits = grown }
 
 -- all went to the writer
 pub sends_now : (a b : Option (List ℕ)) (waited all waiting more : List ℕ) → all ≡ waited ++ more → Appends a b all → waiting ≡ [] → Sends a b waited waiting more
 sends_now a b waited all waiting more grown written none = record {
   sent = all;
-  written = written;
-  kept = ap (λ (t : List ℕ). all ++ t) none ∙ append-nil all ∙ grown;
+  appends = written;
+  waits = ap (λ (t : List ℕ). all ++ t) none ∙ append-nil all ∙ grown;
 }
 
 pub sends_then : (a b c : Option (List ℕ)) (u v w x y : List ℕ) → Sends a b u v x → Sends b c v w y → Sends a c u w (x ++ y)
 sends_then a b c u v w x y p q = record {
   sent = p.sent ++ q.sent;
-  written = Appends-trans a b c p.sent q.sent p.written q.written;
-  kept =
-      append_assoc p.sent q.sent w ∙ ap (λ (t : List ℕ). p.sent ++ t) q.kept ∙ sym (append_assoc p.sent v y)
-      ∙ ap (λ (t : List ℕ). t ++ y) p.kept ∙ append_assoc u x y;
+  appends = Appends-trans a b c p.sent q.sent p.appends q.appends;
+  waits =
+      append_assoc p.sent q.sent w ∙ ap (λ (t : List ℕ). p.sent ++ t) q.waits ∙ sym (append_assoc p.sent v y)
+      ∙ ap (λ (t : List ℕ). t ++ y) p.waits ∙ append_assoc u x y;
 }
 
 -- what waited went to the writer too
 pub sends_end : (a b c d : Option (List ℕ)) (waiting all : List ℕ) → Sends a b [] waiting all → Appends b c waiting → Keeps c d → Appends a d all
 sends_end a b c d waiting all s written kept =
-    Appends-kept a c d all (subst (Appends a c) s.kept (Appends-trans a b c s.sent waiting s.written written)) kept
+    Appends-kept a c d all (subst (Appends a c) s.waits (Appends-trans a b c s.sent waiting s.appends written)) kept
 
 starts_with_front : (bytes front rest : List ℕ) → bytes ≡ front ++ rest → StartsWith bytes front
 starts_with_front bytes front rest parts = ap (λ (t : List ℕ). take (length front) t) parts ∙ take-append_seam front rest
@@ -63,6 +63,6 @@ module _ {T : Type 0} (row : T → List ℕ × List ℕ) where
   sent_front a b waiting k rows s = record {
     front = s.sent;
     is_front = starts_with_front _ s.sent (waiting ++ lines (map row (drop k rows)))
-        (lines_split k rows ∙ ap (λ (t : List ℕ). t ++ lines (map row (drop k rows))) (sym s.kept) ∙ append_assoc s.sent waiting _);
-    written = s.written;
+        (lines_split k rows ∙ ap (λ (t : List ℕ). t ++ lines (map row (drop k rows))) (sym s.waits) ∙ append_assoc s.sent waiting _);
+    appends = s.appends;
   }

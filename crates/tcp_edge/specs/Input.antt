@@ -12,7 +12,7 @@ pub record TakesPiece (left left' : Option (List ℕ)) (waiting waiting' : List 
   pub consumed : Consumes left left' piece
   pub appended : waiting' ≡ waiting ++ piece
 
--- the reader has told its end, and the bytes that wait are those that waited
+-- the reader is at its end, and the bytes that wait are those that waited
 pub record FindsEnd (left left' : Option (List ℕ)) (waiting waiting' : List ℕ) : Type 0 where
   pub at_end : IsAtEnd left
   pub stays : Keeps left left'

@@ -1,4 +1,4 @@
--- What a refusal says of a stream: how many of its batches a copy took, and why it takes nothing more.
+-- What a refusal says of a stream: how many of its batches a copy took, and why it takes no more.
 use Rattle.std.specs.Prelude.{◌≡◌, ◌≢◌, ℕ, ◌<◌, List, ◌++◌, length, Option, ⊤}
 use Rattle.std.specs.Io.KnownBytes.{Consumes}
 use Rattle.batch_codec.specs.declared.error.BatchError.TheVariants.{Short}
@@ -25,22 +25,23 @@ IsRefusedAs bs next (Deliver why) =
 
 -- Bytes behind the batches bs are refused, and would be whatever followed them.
 pub record RefusesNext (bs : List BatchValue) (next : List ℕ) (index : ℕ) (why : Refusal) : Type 0 where
-  pub number : index ≡ length bs
-  pub refused : IsRefusedAs bs next why
-  pub settled : why ≢ View Short
+  pub index_is : index ≡ length bs
+  pub is_refused : IsRefusedAs bs next why
+  pub not_short : why ≢ View Short
 
 -- ---- a stream
 
--- What left a reader is as many batches as the index says, all taken, and then some bytes that are refused; that they are too few is said only of all that the reader had.
+-- The reader gave as many batches as the index says, which are taken, and then some bytes that are
+-- refused. That they are too few is said only of all that the reader had.
 pub record RefusesStream (left left' : Option (List ℕ)) (index : ℕ) (why : Refusal) : Type 0 where
-  pub taken : List BatchValue
+  pub batches : List BatchValue
   pub next : List ℕ
-  pub log : IsLogPart taken
-  pub number : index ≡ length taken
-  pub some : 0 < length next
-  pub read : Consumes left left' (stream taken ++ next)
-  pub refused : IsRefusedAs taken next why
-  pub whole : why ≡ View Short → ReadsAll left left' (stream taken ++ next)
+  pub is_log : IsLogPart batches
+  pub index_is : index ≡ length batches
+  pub is_some : 0 < length next
+  pub consumes : Consumes left left' (stream batches ++ next)
+  pub is_refused : IsRefusedAs batches next why
+  pub short_at_end : why ≡ View Short → ReadsAll left left' (stream batches ++ next)
 
 -- ---- answers
 

@@ -18,24 +18,25 @@ stream bs = flat_map batch_encoding bs
 abbrev pub table_lines : List BatchValue → List ℕ
 table_lines bs = lines (rows (table_of (log_records bs)))
 
--- What a reader had left was these bytes, and it has told its end; where its bytes are not known, nothing is said.
+-- A reader had these bytes left, gave them all, and is at its end. Where its bytes are not known,
+-- nothing is said.
 abbrev pub ReadsAll : Option (List ℕ) → Option (List ℕ) → List ℕ → Type 0
 ReadsAll None left' bytes = ⊤
 ReadsAll (Some left) None bytes = ⊥
 ReadsAll (Some left) (Some left') bytes = (left ≡ bytes) × (left' ≡ [])
 
--- What a reader had left, to its end, was the batches bs of a log, end to end.
+-- A reader had the batches bs of a log left, end to end, gave them all, and is at its end.
 abbrev pub ReadsLog : Option (List ℕ) → Option (List ℕ) → List BatchValue → Type 0
 ReadsLog left left' bs = IsLogPart bs × ReadsAll left left' (stream bs)
 
 -- The batches of a log were read to the reader's end, and the lines of their table were written.
 pub record PrintsTable (left left' held held' : Option (List ℕ)) : Type 0 where
   pub batches : List BatchValue
-  pub read : ReadsLog left left' batches
-  pub written : Appends held held' (table_lines batches)
+  pub reads : ReadsLog left left' batches
+  pub appends : Appends held held' (table_lines batches)
 
--- The batches of a log were read to the reader's end, and a front of the lines of their table was written.
+-- The batches of a log were read to the reader's end, and a front of their table's lines was written.
 pub record PrintsFront (left left' held held' : Option (List ℕ)) : Type 0 where
   pub batches : List BatchValue
-  pub read : ReadsLog left left' batches
-  pub written : AppendsFront held held' (table_lines batches)
+  pub reads : ReadsLog left left' batches
+  pub appends : AppendsFront held held' (table_lines batches)

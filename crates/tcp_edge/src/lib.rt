@@ -10,5 +10,6 @@ mod table;
 
 pub use command_line::run_line;
 pub use error::{Refusal, TableError};
+pub use lines::line_ends_once;
 pub use subcommand::{DONE, FAILED, FAULTY, NO_MEMORY, REFUSED, run_subcommand};
 pub use table::run_table;

@@ -96,9 +96,10 @@ pub(crate) fn push_line<A: Allocator>(
     Ok(())
 }
 
-/// A law: whatever the key and the value, a line has no line feed but its last byte.
-pub(crate) fn lines_end_once(key: &[u8], value: &[u8])
-    ensures { EndsOnce (line (key.now, value.now)) }
+/// A law, which does nothing: whatever the key and the value, a line has no line feed but its last
+/// byte, so the lines of a table can be told apart.
+pub fn line_ends_once(key: &[u8], value: &[u8])
+    ensures ends_once { EndsOnce (line (key.now, value.now)) }
 {}
 
 /// Hands what was collected to the writer, and empties the buffer.
@@ -127,7 +128,8 @@ fn write_line<A: Allocator, W: Write>(
 ) -> Result<(), WriteFailed>
     ensures sends_line { OnOk result (Sends (W.contents writer.old) (W.contents writer.new)
         buffer.old.items buffer.new.items (line (key.now, value.now))) }
-    ensures out_of_memory_writes_nothing { IsErrOf result WriteFailed.OutOfMemory → writer.new ≡ writer.old }
+    ensures out_of_memory_writes_nothing { IsErrOf result WriteFailed.OutOfMemory →
+        writer.new ≡ writer.old }
 {
     if push_line(buffer, key, value).is_err() {
         return Err(WriteFailed::OutOfMemory);

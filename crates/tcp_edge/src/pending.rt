@@ -35,7 +35,8 @@ impl<A: Allocator + Copy> Model for Pending<A> {
 
     ghost view = { λ fields. drop fields.start (take fields.end fields.buffer.items) };
 
-    ghost invariant = { λ fields. (fields.start ≤ fields.end) × (fields.end ≤ vec_len fields.buffer) };
+    ghost invariant = { λ fields.
+        (fields.start ≤ fields.end) × (fields.end ≤ vec_len fields.buffer) };
 }
 
 impl<A: Allocator + Copy> Pending<A> {

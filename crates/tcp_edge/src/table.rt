@@ -156,7 +156,8 @@ pub fn run_table<A: Allocator + Copy, R: Read, W: Write>(
     // refused for the reason given; bytes are too few for a batch only at the reader's end.
     ensures names_first_refused { IfErr result (λ e. IfBatch e
         (RefusesStream (R.remaining reader.old) (R.remaining reader.new))) }
-    ensures refusal_prints_nothing { IfErr result (λ e. IfBatch e (λ index why. writer.new ≡ writer.old)) }
+    ensures refusal_prints_nothing { IfErr result (λ e. IfBatch e
+        (λ index why. writer.new ≡ writer.old)) }
 
     ensures read_error_prints_nothing { IsErrOf result TableError.Read → writer.new ≡ writer.old }
     ensures write_error_after_whole_input { IsErrOf result TableError.Write →
