@@ -26,12 +26,12 @@ use Rattle.content_laws.proofs.CopyParts.{record_of_log}
 
 -- ---- the log without its last batch
 
-plain_front : (n : ℕ) (log : Batches) (b : BatchValue) → IsPlainFrom n (log ++ b ∷ []) → IsPlainFrom n log
+pub plain_front : (n : ℕ) (log : Batches) (b : BatchValue) → IsPlainFrom n (log ++ b ∷ []) → IsPlainFrom n log
 plain_front n [] b plain = tt
 plain_front n (y ∷ ys) b plain = (plain.0, plain.1, plain_front (n + length y.recs) ys b plain.2)
 
 -- the last batch begins at the end of those before it
-last_base : (n : ℕ) (log : Batches) (b : BatchValue) → IsPlainFrom n (log ++ b ∷ []) → first_offset b ≡ end_from (pos n) log
+pub last_base : (n : ℕ) (log : Batches) (b : BatchValue) → IsPlainFrom n (log ++ b ∷ []) → first_offset b ≡ end_from (pos n) log
 last_base n [] b plain = plain.1
 last_base n (y ∷ ys) b plain =
     let next : last_offset y +ℤ pos 1 ≡ first_offset y +ℤ pos (length y.recs) = (span_of y plain.0).1 in
