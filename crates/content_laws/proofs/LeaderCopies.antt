@@ -1,8 +1,8 @@
 -- Windows of copies. Where a producer's epochs never fall, the batches that a copy keeps have the
 -- window of all that it has seen; a leader's copy has seen its log from the start on.
-use Rattle.std.proofs.Common.{◌≡◌, ℕ, ◌+◌, ℤ, pos, ◌+ℤ◌, Bool, true, false, cond, not, ◌&&◌, ◌||◌, ◌⊎◌, inl, inr, List, [], ◌∷◌, ◌++◌, map, Option, Some, None, refl, sym, ap, subst, ◌∙◌, true≢false, arith}
+use Rattle.std.proofs.Common.{◌≡◌, ℤ, pos, ◌+ℤ◌, Bool, true, false, cond, ◌&&◌, ◌||◌, inl, inr, [], ◌∷◌, ◌++◌, Option, Some, None, refl, sym, ap, subst, ◌∙◌, true≢false, arith}
 use Rattle.std.specs.Prelude.{◌≤ℤ◌, ◌<ℤ◌, int_lt, int_le, is_some, IsSome, if◌then◌else◌}
-use Rattle.std.specs.List.{find, fold, filter, list_all, AllByRecursion}
+use Rattle.std.specs.List.{filter, list_all}
 use Rattle.std.specs.Option.{option_map, option_and_then, option_or}
 use Rattle.std.specs.Ordering.{int_eq}
 use Rattle.std.specs.Int.{int_max}
@@ -21,10 +21,9 @@ use Rattle.content.specs.Windows.{heads, is_in_window, window, heads_from, Epoch
 use Rattle.content.specs.Content.{Content, IsContent, has_seen_all, with_batch, HasSeenNone, add}
 use Rattle.content.specs.Cleaning.{clean}
 use Rattle.content.specs.Logs.{IsPlainLog, IsBoundary, next_offset, is_inside, heads_inside}
-use Rattle.content.specs.LegalLogs.{IsNew, IsLegalAfter, IsLegalLog, EpochsNeverFallFrom, IsLeaderCopy}
+use Rattle.content.specs.LegalLogs.{IsNew, IsLegalAfter, IsLeaderCopy}
 use Rattle.content.specs.Copies.{IsCopy}
-use Rattle.content_laws.proofs.ByOffset.{look_up-offset, look_up-low, look_up-filter, rises-filter, all_from_at}
-use Rattle.content_laws.proofs.Slots.{bases_rise}
+use Rattle.content_laws.proofs.ByOffset.{look_up-low, look_up-filter, rises-filter, all_from_at}
 use Rattle.content_laws.proofs.Windows.{Heads, base_of, from, filter_same, window_is}
 use Rattle.content_laws.proofs.WindowPart.{newest_part}
 use Rattle.content_laws.proofs.Epochs.{never_falls_is}
