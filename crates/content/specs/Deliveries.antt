@@ -1,5 +1,5 @@
 -- Why a copy refuses a batch that is delivered to it. The order of the checks is this project's own.
-use Rattle.std.specs.Prelude.{ℤ, ◌≤ℤ◌, List}
+use Rattle.std.specs.Prelude.{◌≤ℤ◌, List}
 use Rattle.batch_codec.specs.Values.{BatchValue}
 use Rattle.batch_codec.specs.Offsets.{IsWhole, HasKeys, first_offset}
 use Rattle.content.specs.declared.delivery.DeliverError.{DeliverError}

@@ -54,6 +54,7 @@ pub fn a_thinned_batch()
     ensures latest_record_stays { cleaned_twice_a.kept ≡ thin_a ∷ [] }
     ensures cannot_be_delivered { ¬ IsWhole thin_a }
     ensures merge_carries_it { join empty cleaned_twice_a ≡ cleaned_twice_a }
+    ensures whole_copy_brings_nothing_back { join (add empty twice_a) cleaned_twice_a ≡ cleaned_twice_a }
     ensures a_is_2 { get (shown_table cleaned_twice_a) key_a ≡ two }
 {}
 

@@ -1,17 +1,16 @@
 -- A batch of the log more: a copy of the log stays one. The batch's span was wholly unseen, so that
 -- what the batch holds is the log's, and all else is as it was.
-use Rattle.std.proofs.Common.{◌≡◌, ℕ, ℤ, pos, ◌+ℤ◌, ◌-ℤ◌, Bool, true, false, cond, not, ◌&&◌, ◌||◌, ◌⊎◌, inl, inr, List, [], ◌∷◌, Option, Some, None, refl, sym, ap, subst, ◌∙◌, true≢false, arith}
-use Rattle.std.specs.Prelude.{◌≤ℤ◌, ◌<ℤ◌, int_lt, int_le, IsSome, if◌then◌else◌}
-use Rattle.std.specs.List.{AllByRecursion}
+use Rattle.std.proofs.Common.{◌≡◌, ℤ, pos, ◌-ℤ◌, Bool, true, false, cond, ◌||◌, ◌⊎◌, inl, inr, Some, refl, sym, ap, subst, ◌∙◌, true≢false, arith}
+use Rattle.std.specs.Prelude.{◌≤ℤ◌, IsSome, if◌then◌else◌}
 use Rattle.std.specs.Option.{option_and_then}
 use Rattle.std.specs.Ordering.{int_eq}
 use Rattle.std.proofs.lemmas.Int.{ints}
 use Rattle.batch_codec.specs.Values.{RecordValue, BatchValue}
 use Rattle.batch_codec.specs.Offsets.{first_offset, last_offset}
-use Rattle.cover_ranges.specs.Runs.{covers, with_range, is_within, IsCanonical, CoversAll}
+use Rattle.cover_ranges.specs.Runs.{covers, with_range, is_within}
 use Rattle.cover_ranges.proofs.RunSets.{range_covers}
 use Rattle.cover_ranges.proofs.RunEnds.{has_all_covers, covers_has_all}
-use Rattle.content.specs.ByOffset.{look_up, put}
+use Rattle.content.specs.ByOffset.{look_up}
 use Rattle.content.specs.Records.{record_at, record_at_delta, same_key}
 use Rattle.content.specs.Windows.{is_in_window}
 use Rattle.content.specs.Content.{Content, IsContent, with_batch, HasSeenNone}
@@ -21,7 +20,7 @@ use Rattle.content_laws.proofs.ByOffset.{look_up-put}
 use Rattle.content_laws.proofs.Batches.{HasRecord, record_from, record_in}
 use Rattle.content_laws.proofs.PlainLogs.{Batches, IsIn, IsOver, log_one, log_batch, at_base, span_of}
 use Rattle.content_laws.proofs.CopyFacts.{covered_whole, held_covered}
-use Rattle.content_laws.proofs.CopyParts.{same_some, record_of_part, record_of_log, own_heads, more_cover, inside_more}
+use Rattle.content_laws.proofs.CopyParts.{record_of_part, record_of_log, more_cover, inside_more}
 
 module _ (c : Content) (b : BatchValue) (log : Batches) (content : IsContent c) (plain : IsPlainLog log) (copy : IsCopy c log)
     (in_log : look_up first_offset (first_offset b) log ≡ Some b) (none : HasSeenNone c b) (new : IsContent (with_batch c b)) where

@@ -1,26 +1,25 @@
 -- A later start: a copy cut where its log may start stays a copy, since no batch lies across it.
-use Rattle.std.proofs.Common.{◌≡◌, ℕ, ◌+◌, ◌<◌, ◌≤◌, ℤ, pos, ◌+ℤ◌, ◌-ℤ◌, Bool, true, false, cond, not, ◌&&◌, ◌||◌, ◌⊎◌, inl, inr, List, [], ◌∷◌, ◌++◌, length, Option, Some, None, refl, sym, ap, subst, ◌∙◌, true≢false, arith}
-use Rattle.std.specs.Prelude.{◌≤ℤ◌, ◌<ℤ◌, int_lt, int_le, nat_lt, count_by, IsSome, if◌then◌else◌}
-use Rattle.std.specs.List.{find, filter, list_all, AllByRecursion}
+use Rattle.std.proofs.Common.{◌≡◌, ℤ, pos, ◌+ℤ◌, Bool, true, false, cond, not, ◌&&◌, ◌||◌, ◌⊎◌, inl, inr, List, [], ◌∷◌, Some, None, refl, sym, ap, subst, ◌∙◌, true≢false, arith}
+use Rattle.std.specs.Prelude.{◌≤ℤ◌, ◌<ℤ◌, int_lt, int_le, count_by, IsSome}
+use Rattle.std.specs.List.{filter, list_all}
 use Rattle.std.specs.Ordering.{int_eq}
 use Rattle.std.proofs.lemmas.Int.{ints}
 use Rattle.batch_codec.specs.declared.head.BatchHead.{BatchHead}
 use Rattle.batch_codec.specs.Values.{RecordValue, BatchValue}
 use Rattle.batch_codec.specs.Offsets.{first_offset, last_offset}
-use Rattle.cover_ranges.specs.Runs.{Runs, covers, cut_below, CoversAll}
+use Rattle.cover_ranges.specs.Runs.{covers, cut_below}
 use Rattle.cover_ranges.proofs.RunSets.{cut_covers}
 use Rattle.cover_ranges.proofs.RunEnds.{has_all_covers, covers_has_all}
 use Rattle.content.specs.ByOffset.{look_up}
-use Rattle.content.specs.Records.{record_at, record_at_delta, same_key}
+use Rattle.content.specs.Records.{record_at}
 use Rattle.content.specs.Windows.{heads, is_later, is_in_window}
 use Rattle.content.specs.Content.{Content, IsContent, cut}
 use Rattle.content.specs.Logs.{IsPlainLog, IsBoundary, is_inside, heads_inside, IsLatest}
 use Rattle.content.specs.Copies.{IsSeenBatch, IsCopy, IsDeadTombstone}
 use Rattle.content_laws.proofs.ByOffset.{look_up-filter_offset, all_from_at}
-use Rattle.content_laws.proofs.Batches.{HasRecord, record_from, record_in}
+use Rattle.content_laws.proofs.Batches.{record_from, record_in}
 use Rattle.content_laws.proofs.Windows.{count-cons, filter_same}
-use Rattle.content_laws.proofs.PlainLogs.{Batches, IsIn, IsOver, plain-rises, log_batch, at_base, span_of, boundary_apart}
-use Rattle.content_laws.proofs.CopyFacts.{held_covered}
+use Rattle.content_laws.proofs.PlainLogs.{Batches, IsIn, plain-rises, log_batch, at_base, span_of, boundary_apart}
 
 -- ---- the window of a batch from the start on doesn't ask for those before it
 

@@ -1,25 +1,24 @@
 -- What follows of a copy of a log: it has seen whole batches, and its records are the log's.
-use Rattle.std.proofs.Common.{◌≡◌, ℕ, ◌+◌, ◌<◌, ◌≤◌, ℤ, pos, ◌+ℤ◌, ◌-ℤ◌, Bool, true, false, cond, ◌⊎◌, inl, inr, List, [], ◌∷◌, ◌++◌, length, Option, Some, None, refl, sym, ap, subst, ◌∙◌, true≢false, arith}
-use Rattle.std.specs.Prelude.{◌≤ℤ◌, ◌<ℤ◌, int_lt, int_le, IsSome, IsTrue, if◌then◌else◌}
-use Rattle.std.specs.List.{find, filter, AllByRecursion}
-use Rattle.std.specs.Option.{option_map, option_and_then}
+use Rattle.std.proofs.Common.{◌≡◌, ℕ, ◌+◌, ℤ, pos, ◌+ℤ◌, Bool, true, false, cond, ◌⊎◌, inl, inr, List, [], ◌∷◌, length, Option, Some, None, refl, sym, ap, subst, ◌∙◌, arith}
+use Rattle.std.specs.Prelude.{◌≤ℤ◌, ◌<ℤ◌}
+use Rattle.std.specs.List.{filter, AllByRecursion}
+use Rattle.std.specs.Option.{option_map}
 use Rattle.std.specs.Int.{int_max}
-use Rattle.std.specs.Ordering.{int_eq}
 use Rattle.std.proofs.lemmas.Int.{ints, clamps}
 use Rattle.batch_codec.specs.Values.{RecordValue, BatchValue}
 use Rattle.batch_codec.specs.Offsets.{first_offset, last_offset, SpansRise}
 use Rattle.cover_ranges.specs.Runs.{covers, has_all}
-use Rattle.cover_ranges.proofs.RunEnds.{has_all_covers, covers_has_all}
-use Rattle.content.specs.ByOffset.{look_up, Rises}
-use Rattle.content.specs.Records.{LogRecord, log_records, record_at, record_at_delta, same_key, equal_keys, IsKeepable}
-use Rattle.content.specs.Table.{table_of, table_within}
+use Rattle.cover_ranges.proofs.RunEnds.{has_all_covers}
+use Rattle.content.specs.ByOffset.{look_up}
+use Rattle.content.specs.Records.{LogRecord, log_records, record_at, equal_keys, IsKeepable}
+use Rattle.content.specs.Table.{table_within}
 use Rattle.content.specs.Content.{Content, IsContent, HasSeenNone, has_seen_all, shown_table}
 use Rattle.content.specs.Logs.{IsPlainFrom, IsPlainLog, is_inside, IsLatest}
 use Rattle.content.specs.Copies.{IsCopy, IsDeadTombstone}
 use Rattle.content_laws.proofs.ByOffset.{look_up-offset, look_up-filter_offset, rises-filter}
-use Rattle.content_laws.proofs.Batches.{record_in, HasRecord, record_from, placed_rises}
-use Rattle.content_laws.proofs.Tables.{Bytes, offset_in_log, has_key, key_is, value_of, IsLatestIn, HasLatest, same_table}
-use Rattle.content_laws.proofs.PlainLogs.{Batches, IsIn, IsOver, span_of, log_one, log_batch, at_base, boundary_apart}
+use Rattle.content_laws.proofs.Batches.{record_from, placed_rises}
+use Rattle.content_laws.proofs.Tables.{Bytes, offset_in_log, has_key, key_is, value_of, IsLatestIn, same_table}
+use Rattle.content_laws.proofs.PlainLogs.{Batches, IsIn, IsOver, span_of, log_one, log_batch, boundary_apart}
 
 -- ---- a plain log as a list of batches
 

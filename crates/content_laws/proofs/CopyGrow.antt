@@ -1,7 +1,7 @@
 -- The log grows at its end: a copy of it stays one, since nothing from the old end on was seen.
-use Rattle.std.proofs.Common.{◌≡◌, ℕ, ◌+◌, ℤ, pos, ◌+ℤ◌, ◌-ℤ◌, Bool, true, false, cond, ◌⊎◌, inl, inr, List, [], ◌∷◌, ◌++◌, map, length, Option, Some, None, refl, sym, ap, subst, ◌∙◌, true≢false, arith}
-use Rattle.std.specs.Prelude.{◌≤ℤ◌, ◌<ℤ◌, int_lt, IsSome, if◌then◌else◌}
-use Rattle.std.specs.List.{find, filter, flat_map}
+use Rattle.std.proofs.Common.{◌≡◌, ℕ, ◌+◌, ℤ, pos, ◌+ℤ◌, Bool, true, false, cond, ◌⊎◌, inl, inr, List, [], ◌∷◌, ◌++◌, map, length, Option, Some, None, refl, sym, ap, subst, ◌∙◌, true≢false, arith}
+use Rattle.std.specs.Prelude.{◌≤ℤ◌, ◌<ℤ◌, IsSome}
+use Rattle.std.specs.List.{find, filter}
 use Rattle.std.specs.Option.{option_or, option_map}
 use Rattle.std.specs.Ordering.{int_eq}
 use Rattle.std.proofs.lemmas.Int.{ints}
@@ -15,23 +15,22 @@ use Rattle.batch_codec.specs.Offsets.{first_offset, last_offset, offset_of}
 use Rattle.cover_ranges.specs.Runs.{covers}
 use Rattle.cover_ranges.proofs.RunEnds.{has_all_covers}
 use Rattle.content.specs.ByOffset.{look_up}
-use Rattle.content.specs.Records.{LogRecord, log_records, record_at, same_key}
+use Rattle.content.specs.Records.{LogRecord, log_records, record_at}
 use Rattle.content.specs.Windows.{heads, is_in_window}
 use Rattle.content.specs.Content.{Content, IsContent}
 use Rattle.content.specs.Logs.{IsPlainFrom, IsPlainLog, next_offset, IsBoundary, is_inside, heads_inside, IsLatest}
 use Rattle.content.specs.Copies.{IsSeenBatch, IsCopy, IsDeadTombstone}
-use Rattle.content_laws.proofs.PlainLogs.{Batches, IsIn, IsOver, end_from, log_one, log_batch, at_base, span_of, below_end}
-use Rattle.content_laws.proofs.CopyFacts.{covered_whole}
+use Rattle.content_laws.proofs.PlainLogs.{Batches, IsOver, end_from, log_one, log_batch, at_base, span_of, below_end}
 use Rattle.content_laws.proofs.CopyParts.{record_of_log}
 
 -- ---- the log without its last batch
 
-plain_front : (n : ℕ) (log : Batches) (b : BatchValue) → IsPlainFrom n (log ++ b ∷ []) → IsPlainFrom n log
+pub plain_front : (n : ℕ) (log : Batches) (b : BatchValue) → IsPlainFrom n (log ++ b ∷ []) → IsPlainFrom n log
 plain_front n [] b plain = tt
 plain_front n (y ∷ ys) b plain = (plain.0, plain.1, plain_front (n + length y.recs) ys b plain.2)
 
 -- the last batch begins at the end of those before it
-last_base : (n : ℕ) (log : Batches) (b : BatchValue) → IsPlainFrom n (log ++ b ∷ []) → first_offset b ≡ end_from (pos n) log
+pub last_base : (n : ℕ) (log : Batches) (b : BatchValue) → IsPlainFrom n (log ++ b ∷ []) → first_offset b ≡ end_from (pos n) log
 last_base n [] b plain = plain.1
 last_base n (y ∷ ys) b plain =
     let next : last_offset y +ℤ pos 1 ≡ first_offset y +ℤ pos (length y.recs) = (span_of y plain.0).1 in

@@ -1,8 +1,7 @@
 -- Two copies of one log agree, and their merge is a copy of that log. A copy that lacks the log's
 -- latest record of a key has seen all from the start to it, so that the key is dead in the merge too.
-use Rattle.std.proofs.Common.{◌≡◌, ◌^◌, ℕ, ℤ, pos, ◌+ℤ◌, ◌-ℤ◌, Bool, true, false, cond, not, ◌&&◌, ◌||◌, ◌⊎◌, inl, inr, List, [], ◌∷◌, Option, Some, None, refl, sym, ap, subst, ◌∙◌, true≢false, arith}
+use Rattle.std.proofs.Common.{◌≡◌, ◌^◌, ℤ, pos, ◌+ℤ◌, ◌-ℤ◌, Bool, true, false, ◌&&◌, ◌||◌, ◌⊎◌, inl, inr, Option, Some, None, refl, sym, ap, subst, ◌∙◌, true≢false, arith}
 use Rattle.std.specs.Prelude.{◌≤ℤ◌, ◌<ℤ◌, int_lt, int_le, is_some, IsSome, if◌then◌else◌}
-use Rattle.std.specs.Int.{int_max}
 use Rattle.std.proofs.lemmas.Int.{ints, clamps, by_lt_z}
 use Rattle.batch_codec.specs.declared.head.BatchHead.{BatchHead}
 use Rattle.batch_codec.specs.Values.{RecordValue, BatchValue}
@@ -20,11 +19,11 @@ use Rattle.content.specs.Copies.{IsSeenBatch, IsCopy, IsDeadTombstone}
 use Rattle.content_laws.proofs.Batches.{rec_below, rec_above, record_in, HasRecord, record_from}
 use Rattle.content_laws.proofs.BatchParts.{part_head, rec_common}
 use Rattle.content_laws.proofs.ByOffset.{look_up-offset}
-use Rattle.content_laws.proofs.Slots.{is_seen, is_below, kept_keepable, kept_ends, kept_covered, slot_batch, slot_kept, slot_seen, slot_below, join_kept, join_start, join_covers}
+use Rattle.content_laws.proofs.Slots.{is_seen, is_below, kept_keepable, kept_covered, slot_batch, slot_kept, slot_seen, slot_below, join_kept, join_start, join_covers}
 use Rattle.content_laws.proofs.ContentSteps.{IsFrom, content_join, content_cut, join_side}
 use Rattle.content_laws.proofs.JoinLaws.{join_comm_agree, cut_start, join_cut, held_in_join}
 use Rattle.content_laws.proofs.PlainLogs.{Batches, IsIn, IsOver, log_one, log_batch, at_base, span_of, boundary_apart}
-use Rattle.content_laws.proofs.CopyFacts.{covered_whole, held_covered}
+use Rattle.content_laws.proofs.CopyFacts.{covered_whole}
 use Rattle.content_laws.proofs.CopyParts.{same_some, more_cover, inside_more}
 use Rattle.content_laws.proofs.CopyCut.{copy_of_cut}
 

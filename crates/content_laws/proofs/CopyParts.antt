@@ -1,21 +1,20 @@
 -- Batches of which each has the head of a log's batch: their records, by the log's batches.
-use Rattle.std.proofs.Common.{◌≡◌, ℕ, ◌+◌, ◌<◌, ◌≤◌, ℤ, pos, ◌+ℤ◌, ◌-ℤ◌, Bool, true, false, cond, not, ◌&&◌, ◌||◌, ◌⊎◌, inl, inr, List, [], ◌∷◌, ◌++◌, map, length, Option, Some, None, refl, sym, ap, subst, ◌∙◌, true≢false, arith}
-use Rattle.std.specs.Prelude.{◌≤ℤ◌, ◌<ℤ◌, int_lt, nat_lt, count_by, IsSome, if◌then◌else◌}
-use Rattle.std.specs.List.{find, filter, list_all, AllByRecursion}
+use Rattle.std.proofs.Common.{◌≡◌, ◌≤◌, ℤ, pos, ◌+ℤ◌, ◌-ℤ◌, Bool, true, false, cond, not, ◌||◌, [], ◌∷◌, Option, Some, None, refl, sym, ap, subst, ◌∙◌, true≢false, arith}
+use Rattle.std.specs.Prelude.{◌≤ℤ◌, count_by}
+use Rattle.std.specs.List.{filter, list_all, AllByRecursion}
 use Rattle.std.specs.Option.{option_and_then}
 use Rattle.std.specs.Ordering.{int_eq}
 use Rattle.std.proofs.lemmas.Int.{ints}
 use Rattle.batch_codec.specs.declared.head.BatchHead.{BatchHead}
 use Rattle.batch_codec.specs.Values.{RecordValue, BatchValue}
 use Rattle.batch_codec.specs.Offsets.{first_offset, last_offset, SpansRise}
-use Rattle.cover_ranges.specs.Runs.{Runs, covers, IsCanonical, has_all, CoversAll}
+use Rattle.cover_ranges.specs.Runs.{Runs, covers, IsCanonical}
 use Rattle.cover_ranges.proofs.RunEnds.{has_all_covers, covers_has_all}
 use Rattle.content.specs.ByOffset.{look_up}
 use Rattle.content.specs.Records.{record_at, record_at_delta, IsKeepable}
 use Rattle.content.specs.Windows.{heads, is_later, is_in_window}
 use Rattle.content.specs.Logs.{IsPlainLog, is_inside, heads_inside}
-use Rattle.content_laws.proofs.ByOffset.{look_up-offset}
-use Rattle.content_laws.proofs.Batches.{record_in, HasRecord, record_from}
+use Rattle.content_laws.proofs.Batches.{record_in, record_from}
 use Rattle.content_laws.proofs.Windows.{count-cons}
 use Rattle.content_laws.proofs.PlainLogs.{Batches, IsIn, IsOver, log_one, at_base}
 use Rattle.content_laws.proofs.CopyFacts.{plain_spans, plain_keepable}

@@ -19,3 +19,4 @@ pub mod CopyCut
 pub mod CopyClean
 pub mod CopyStarts
 pub mod CopyJoin
+pub mod LeaderCopies

@@ -4,8 +4,15 @@ ghost use Rattle.std.specs.Prelude.{◌≡◌, ℤ, pos, ◌+ℤ◌, ◌≤ℤ�
 ghost use Rattle.std.specs.List.{filter, fold, list_all};
 ghost use Rattle.std.specs.Ordering.{int_eq};
 ghost use Rattle.batch_codec.specs.declared.head.BatchHead.{BatchHead};
+ghost use Rattle.batch_codec.specs.Values.{BatchValue};
+ghost use Rattle.cover_ranges.specs.Runs.{Runs, covers, IsCanonical};
 ghost use Rattle.content.specs.ByOffset.{Rises};
-ghost use Rattle.content.specs.Windows.{is_in_window, window, producer_window, entry_of, with_entry, EpochsNeverFall};
+ghost use Rattle.content.specs.Content.{Content, IsContent, add};
+ghost use Rattle.content.specs.Cleaning.{clean};
+ghost use Rattle.content.specs.Logs.{IsPlainLog, heads_inside};
+ghost use Rattle.content.specs.Copies.{IsCopy};
+ghost use Rattle.content.specs.LegalLogs.{IsNew, IsLeaderCopy};
+ghost use Rattle.content.specs.Windows.{heads, is_in_window, window, producer_window, entry_of, with_entry, heads_from, EpochsNeverFall};
 
 /// One batch more, behind all others, is one step of its producer's window, and none of another's.
 pub fn window_of_one_more()
@@ -28,4 +35,38 @@ pub fn window_of_a_part_that_has_it()
     ensures { (low p : ℤ) (hs : List BatchHead) (test : BatchHead → Bool)
         → Rises (λ x. x.base) low hs → EpochsNeverFall p hs → list_all test (window hs p) ≡ true
         → window (filter test hs) p ≡ window hs p }
+{}
+
+/// More cover only takes batches out of a log's window, and never brings an old one in: a batch of the
+/// window of what a larger set of offsets covers is in the window of what a smaller one covers.
+pub fn more_cover_brings_no_old_batch_in()
+    ensures { (less more : Runs) (log : List BatchValue) (h : BatchHead) → IsCanonical more
+        → ((o : ℤ) → covers less o ≡ true → covers more o ≡ true)
+        → is_in_window (heads_inside more log) h ≡ true
+        → is_in_window (heads_inside less log) h ≡ true }
+{}
+
+/// Where a producer's epochs never fall in what a copy has seen, the batches that the copy keeps have
+/// the window of what it has seen, however it was cleaned.
+pub fn a_copy_keeps_the_window()
+    ensures { (c : Content) (log : List BatchValue) (p : ℤ) → IsContent c → IsPlainLog log
+        → IsCopy c log → pos 0 ≤ℤ p → EpochsNeverFall p (heads_inside c.cover log)
+        → window (heads c.kept) p ≡ window (heads_inside c.cover log) p }
+{}
+
+/// The batches that a leader's copy keeps have the windows of its log from the start on. So the verdict
+/// over what is kept is the one over the log.
+pub fn a_leaders_copy_has_the_logs_window()
+    ensures { (c : Content) (log : List BatchValue) (p : ℤ) → IsContent c → IsPlainLog log
+        → IsLeaderCopy c log → pos 0 ≤ℤ p
+        → window (heads c.kept) p ≡ window (heads_from c.start (heads log)) p }
+{}
+
+/// A leader's copy stays one when a new batch is appended to its log and added, and when it is cleaned.
+pub fn a_leaders_copy_stays_one()
+    ensures appending { (c : Content) (b : BatchValue) (log : List BatchValue) → IsContent c
+        → IsPlainLog (log ++ b ∷ []) → IsLeaderCopy c log → IsNew (heads log) c.start b.head
+        → IsLeaderCopy (add c b) (log ++ b ∷ []) }
+    ensures cleaning { (upto tomb_before : ℤ) (c : Content) (log : List BatchValue) → IsContent c
+        → IsPlainLog log → IsLeaderCopy c log → IsLeaderCopy (clean upto tomb_before c) log }
 {}

@@ -1,4 +1,4 @@
-use Rattle.std.proofs.Common.{◌≡◌, ℕ, ℤ, pos, true, false, [], refl, ap, arith}
+use Rattle.std.proofs.Common.{◌≡◌, ℕ, pos, true, false, [], refl, ap, arith}
 use Rattle.std.specs.Prelude.{slice_index_or, unwrap_or}
 use Rattle.std.proofs.lemmas.Int.{ints}
 use Rattle.batch_codec.specs.Values.{RecordValue}

@@ -1,8 +1,8 @@
-use Rattle.std.proofs.Common.{◌≡◌, Bool, true, false, cond, ◌⊎◌, inl, inr, List, Some, refl, sym, ap, subst, ◌∙◌, true≢false}
+use Rattle.std.proofs.Common.{◌≡◌, Bool, true, false, cond, ◌⊎◌, inl, inr, List, Some, refl, sym, ◌∙◌, true≢false}
 use Rattle.batch_codec.specs.Values.{BatchValue}
 use Rattle.batch_codec.specs.Offsets.{first_offset}
 use Rattle.content.specs.ByOffset.{look_up}
-use Rattle.content.specs.Content.{Content, IsContent, HasSeenNone, has_seen_all, with_batch, add}
+use Rattle.content.specs.Content.{Content, IsContent, HasSeenNone, has_seen_all, with_batch}
 use Rattle.content.specs.Logs.{IsPlainLog}
 use Rattle.content.specs.Copies.{IsCopy}
 use Rattle.content_laws.proofs.ContentSteps.{content_with_batch}

@@ -1,13 +1,11 @@
-use Rattle.std.proofs.Common.{◌≡◌, ℤ, pos, ◌⊎◌, inl, inr, List, [], ◌∷◌, false, true, refl, true≢false, sym, subst, Some, ◌∙◌, arith}
-use Rattle.std.specs.Prelude.{◌≤ℤ◌, IsSome}
+use Rattle.std.proofs.Common.{◌≡◌, ℤ, pos, inl, inr, List, [], ◌∷◌, true, refl, true≢false, sym, Some, ◌∙◌, arith}
+use Rattle.std.specs.Prelude.{◌≤ℤ◌}
 use Rattle.std.proofs.lemmas.Int.{ints}
 use Rattle.batch_codec.specs.Values.{BatchValue}
 use Rattle.batch_codec.specs.Offsets.{first_offset, last_offset}
 use Rattle.cover_ranges.proofs.RunsFrom.{from_canonical}
 use Rattle.content.specs.ByOffset.{look_up}
-use Rattle.content.specs.Content.{IsContent, empty}
 use Rattle.content.specs.Logs.{IsPlainLog, IsBoundary, is_inside}
-use Rattle.content.specs.Copies.{IsCopy}
 use Rattle.content_laws.proofs.PlainLogs.{at_base, log_batch, span_of}
 use Rattle.content_laws.proofs.copies.an_empty_copy_is_a_copy.Goals as goal
 

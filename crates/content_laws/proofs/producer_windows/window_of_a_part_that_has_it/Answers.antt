@@ -1,4 +1,4 @@
-use Rattle.std.proofs.Common.{◌≡◌, sym, ap, ◌∙◌}
+use Rattle.std.proofs.Common.{sym, ap, ◌∙◌}
 use Rattle.std.specs.List.{filter, list_all}
 use Rattle.content_laws.proofs.ByOffset.{rises-filter}
 use Rattle.content_laws.proofs.Windows.{base_of, window_is}
