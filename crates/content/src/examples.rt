@@ -27,7 +27,8 @@ pub fn cleaning_with_a_gap()
     ensures tombstone_stays { clean (pos 4) (pos 4) (add empty batch_2) ≡ add empty batch_2 }
     ensures report { clean_report (pos 4) (pos 4) (add empty batch_2)
         ≡ record { records = 0; tombstones = 0; batches = 0 } }
-    ensures late_a_stays_deleted { get (shown_table (add (clean (pos 4) (pos 4) (add empty batch_2)) batch_0)) key_a ≡ None }
+    ensures late_a_stays_deleted { get
+        (shown_table (add (clean (pos 4) (pos 4) (add empty batch_2)) batch_0)) key_a ≡ None }
 {}
 
 /// A cleaned copy merged with one that holds what the cleaning took away.
@@ -54,19 +55,22 @@ pub fn a_thinned_batch()
     ensures latest_record_stays { cleaned_twice_a.kept ≡ thin_a ∷ [] }
     ensures cannot_be_delivered { ¬ IsWhole thin_a }
     ensures merge_carries_it { join empty cleaned_twice_a ≡ cleaned_twice_a }
-    ensures whole_copy_brings_nothing_back { join (add empty twice_a) cleaned_twice_a ≡ cleaned_twice_a }
+    ensures whole_copy_brings_nothing_back { join (add empty twice_a) cleaned_twice_a
+        ≡ cleaned_twice_a }
     ensures a_is_2 { get (shown_table cleaned_twice_a) key_a ≡ two }
 {}
 
 /// A batch is cleaned as a whole, or not at all.
 pub fn reach()
-    ensures bound_at_last_offset_cleans_nothing { clean (pos 3) (pos 0) (add empty a_b_a_b) ≡ add empty a_b_a_b }
+    ensures bound_at_last_offset_cleans_nothing { clean (pos 3) (pos 0) (add empty a_b_a_b)
+        ≡ add empty a_b_a_b }
     ensures reports_nothing { clean_report (pos 3) (pos 0) (add empty a_b_a_b)
         ≡ record { records = 0; tombstones = 0; batches = 0 } }
     ensures head_stays { (clean (pos 4) (pos 0) (add empty a_b_a_b)).kept ≡ latest_a_b ∷ [] }
     ensures report { clean_report (pos 4) (pos 0) (add empty a_b_a_b)
         ≡ record { records = 2; tombstones = 0; batches = 0 } }
-    ensures offsets_stay_seen { (clean (pos 4) (pos 0) (add empty a_b_a_b)).cover ≡ (pos 0, pos 3) ∷ [] }
+    ensures offsets_stay_seen { (clean (pos 4) (pos 0) (add empty a_b_a_b)).cover
+        ≡ (pos 0, pos 3) ∷ [] }
 {}
 
 /// A producer's newest five batches stay when they are empty, so that a retry is recognised.
@@ -74,14 +78,18 @@ pub fn retries()
     ensures report { clean_report (pos 6) (pos 0) five_and_one
         ≡ record { records = 5; tombstones = 0; batches = 0 } }
     // So these are also the heads of the cleaned copy, by which the verdicts below go.
-    ensures empty_batches_stay { heads (clean (pos 6) (pos 0) five_and_one).kept ≡ heads five_and_one.kept }
+    ensures empty_batches_stay { heads (clean (pos 6) (pos 0) five_and_one).kept
+        ≡ heads five_and_one.kept }
     // A batch of producer 7 and epoch 0 with sequence number 0 comes again.
-    ensures retry_is_recognised { verdict (producer_window (heads five_and_one.kept) (pos 7)) (pos 0) (pos 0) (pos 0)
+    ensures retry_is_recognised { verdict
+        (producer_window (heads five_and_one.kept) (pos 7)) (pos 0) (pos 0) (pos 0)
         ≡ Repeat (pos 0) }
-    ensures next_is_new { verdict (producer_window (heads five_and_one.kept) (pos 7)) (pos 0) (pos 5) (pos 0)
+    ensures next_is_new { verdict
+        (producer_window (heads five_and_one.kept) (pos 7)) (pos 0) (pos 5) (pos 0)
         ≡ New }
     // Sequence number 0 comes again after a sixth batch.
-    ensures too_old_is_out_of_order { verdict (producer_window (heads (add five_and_one sixth).kept) (pos 7))
+    ensures too_old_is_out_of_order { verdict
+        (producer_window (heads (add five_and_one sixth).kept) (pos 7))
         (pos 0) (pos 0) (pos 0) ≡ OutOfOrder }
 {}
 
@@ -89,11 +97,16 @@ pub fn retries()
 /// base, epoch and first sequence number; those of a verdict are its epoch, first sequence number
 /// and last offset delta.
 pub fn sequences()
-    ensures any_first_sequence { verdict [] (pos 0) (pos 2147483647) (pos 0) ≡ New }
-    ensures wraps_to_0 { verdict (entry (pos 0) (pos 0) (pos 2147483647) ∷ []) (pos 0) (pos 0) (pos 0) ≡ New }
-    ensures new_epoch_must_begin_with_0 { verdict (entry (pos 1) (pos 0) (pos 0) ∷ []) (pos 1) (pos 3) (pos 0) ≡ OutOfOrder }
-    ensures new_epoch { verdict (entry (pos 1) (pos 0) (pos 0) ∷ []) (pos 1) (pos 0) (pos 0) ≡ New }
-    ensures old_epoch { verdict (entry (pos 2) (pos 1) (pos 0) ∷ []) (pos 0) (pos 0) (pos 0) ≡ OldEpoch }
+    ensures any_first_sequence { verdict
+        [] (pos 0) (pos 2147483647) (pos 0) ≡ New }
+    ensures wraps_to_0 { verdict
+        (entry (pos 0) (pos 0) (pos 2147483647) ∷ []) (pos 0) (pos 0) (pos 0) ≡ New }
+    ensures new_epoch_must_begin_with_0 { verdict
+        (entry (pos 1) (pos 0) (pos 0) ∷ []) (pos 1) (pos 3) (pos 0) ≡ OutOfOrder }
+    ensures new_epoch { verdict
+        (entry (pos 1) (pos 0) (pos 0) ∷ []) (pos 1) (pos 0) (pos 0) ≡ New }
+    ensures old_epoch { verdict
+        (entry (pos 2) (pos 1) (pos 0) ∷ []) (pos 0) (pos 0) (pos 0) ≡ OldEpoch }
 {}
 
 /// Copies of different logs may disagree: in a record, or in a batch's span.
@@ -105,7 +118,8 @@ pub fn disagreement()
 /// Where a copy's start may move to: not into a batch, and to the end, also past the last offset.
 pub fn accepted_starts()
     ensures at_a_kept_batch { IsAcceptedStart (clean (pos 3) (pos 3) copy_of_four) (pos 3) }
-    ensures not_where_none_is_kept { ¬ IsAcceptedStart (clean (pos 3) (pos 3) copy_of_four) (pos 2) }
+    ensures not_where_none_is_kept { ¬ IsAcceptedStart
+        (clean (pos 3) (pos 3) copy_of_four) (pos 2) }
     ensures not_into_a_batch { ¬ IsAcceptedStart (add empty a_b_a_b) (pos 2) }
     ensures ends_after_the_last_offset { end (add empty last_possible) ≡ pos (2 ^ 62) }
 {}

@@ -7,7 +7,7 @@
 //! because every offset from the start to it was seen. It has still seen 0 to 2, so a merge with an
 //! older copy does not bring a=1 back. `examples` works this out, and more.
 //!
-//! Words: *copy*, a `Content`; *seen*, in `cover`; *span*, a batch's first to last offset; *whole*, with
+//! Terms: *copy*, a `Content`; *seen*, in `cover`; *span*, a batch's first to last offset; *whole*, with
 //! a record at each offset of its span; *head*, a batch without its records; *window*, a producer's
 //! newest batches, five at most.
 //!
