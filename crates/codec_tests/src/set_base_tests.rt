@@ -1,7 +1,8 @@
 //! `set_base` on the batch of one record: the two fields have other bytes, and all else stays.
 
-use crate::batches::{A_IS_1, changed};
+use crate::batches::changed;
 use batch_codec::{set_base, view};
+use outside_batches::A_IS_1;
 use std::test::Fail;
 
 /// The base, the epoch, and the bytes that differ from the old ones.

@@ -1,7 +1,8 @@
 //! `view`, and what a view says of its batch; `decode` refuses the same bytes for the same reason.
 
-use crate::batches::{A_IS_1, A_IS_NULL, ALL_FIELDS, EMPTIED, THREE, changed, with_crc};
+use crate::batches::{changed, with_crc};
 use batch_codec::{BatchError, decode, one_encoding, view};
+use outside_batches::{A_IS_1, A_IS_NULL, ALL_FIELDS, EMPTIED, THREE};
 use std::test::Fail;
 
 /// A batch, whether it is whole, and the last record's offset delta, key and value.

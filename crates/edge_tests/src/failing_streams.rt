@@ -1,5 +1,5 @@
 //! Readers and writers that fail, at once and in mid-stream.
-use crate::batches::THREE;
+use outside_batches::THREE;
 use std::io::{Error, ErrorKind, Read, Result, Write};
 use std::test::Fail;
 use tcp_edge::{TableError, run_line, run_table};

@@ -1,5 +1,5 @@
 //! A table under each allocation failing in turn: nothing is printed, and a run with memory prints it.
-use crate::batches::THREE;
+use outside_batches::THREE;
 use refusing_alloc::Refusing;
 use std::test::Fail;
 use tcp_edge::{TableError, run_subcommand, run_table};

@@ -1,6 +1,7 @@
 //! Deliveries to one copy, in order: the answer of each, and what the copy then shows.
-use crate::batches::{EMPTIED, NINE, NO_KEY, THREE, nine_at};
+use crate::batches::nine_at;
 use batch_codec::view;
+use outside_batches::{EMPTIED, NINE, NO_KEY, THREE};
 use partition_log::{DeliverError, Delivered, PartitionLog};
 use std::test::Fail;
 

@@ -1,6 +1,6 @@
 //! A copy under each allocation failing in turn: it is as it was, and the call succeeds later.
-use crate::batches::{NINE, THREE};
 use batch_codec::view;
+use outside_batches::{NINE, THREE};
 use partition_log::{DeliverError, Delivered, PartitionLog};
 use refusing_alloc::Refusing;
 use std::alloc::{AllocError, Allocator};
