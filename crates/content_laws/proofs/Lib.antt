@@ -9,6 +9,7 @@ pub mod WindowPush
 pub mod WindowPart
 pub mod Epochs
 pub mod Legal
+pub mod WindowPass
 pub mod Tables
 pub mod PlainLogs
 pub mod CopyFacts

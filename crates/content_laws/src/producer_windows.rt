@@ -23,6 +23,13 @@ pub fn window_of_one_more()
         else producer_window hs p) }
 {}
 
+/// One pass over a producer's batches by rising base offset, each one entry more, gives its window.
+pub fn one_pass_gives_the_window()
+    ensures { (low p : ℤ) (hs : List BatchHead) → Rises (λ x. x.base) low hs → pos 0 ≤ℤ p
+        → fold (λ w h. with_entry w (entry_of h)) [] (filter (λ h. int_eq h.producer p) hs)
+        ≡ producer_window hs p }
+{}
+
 /// A batch of a list's window is in the window of each part of the list that has it.
 pub fn window_of_a_part()
     ensures { (hs : List BatchHead) (h : BatchHead) (test : BatchHead → Bool)

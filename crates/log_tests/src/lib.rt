@@ -1,4 +1,4 @@
-//! Tests of the public calls of covered offsets and of logs, a file for each of them.
+//! Tests of the public calls of covered offsets, producers' windows and logs, a file for each.
 #![tactic(auto)]
 
 #[cfg(test)]
@@ -9,3 +9,5 @@ mod cover;
 mod delivery;
 #[cfg(test)]
 mod delivery_memory;
+#[cfg(test)]
+mod producer;
