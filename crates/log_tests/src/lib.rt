@@ -1,4 +1,5 @@
-//! Tests of the public calls of covered offsets and of logs, a file for each of them.
+//! Tests of the public calls of covered offsets, of lists of batches and of logs, a file for each of
+//! them.
 #![tactic(auto)]
 
 #[cfg(test)]
@@ -9,3 +10,5 @@ mod cover;
 mod delivery;
 #[cfg(test)]
 mod delivery_memory;
+#[cfg(test)]
+mod store;
