@@ -1,4 +1,5 @@
-//! Tests of the public calls of covered offsets, producers' windows and logs, a file for each.
+//! Tests of the public calls of covered offsets, lists of batches, producers' windows and logs, a file
+//! for each.
 #![tactic(auto)]
 
 #[cfg(test)]
@@ -11,3 +12,5 @@ mod delivery;
 mod delivery_memory;
 #[cfg(test)]
 mod producer;
+#[cfg(test)]
+mod store;
