@@ -23,7 +23,7 @@ pub enum DeliverError {
     /// An offset of the span is below 0 or above 2^62 - 1.
     #[error("BadOffset")]
     BadOffset,
-    /// The base offset is not above the last offset accepted so far.
+    /// Some of its offsets were seen, and some were not.
     #[error("Overlap")]
     Overlap,
     /// There is no memory to keep the batch.

@@ -1,7 +1,7 @@
 //! The laws of copies, over the definitions of `content` alone: what may happen to a copy of a log
 //! leaves it a copy of that log, and a copy shows the log's own table over what it has seen.
 //!
-//! The functions do nothing: each clause is a law. No code stands on them yet.
+//! The functions do nothing: each clause is a law.
 #![tactic(auto)]
 
 pub mod contents;

@@ -1,5 +1,5 @@
-//! Deliveries to one copy, in order: the answer of each, and what the copy then shows.
-use crate::batches::nine_at;
+//! Deliveries to one copy, in any order: the answer of each, and what the copy then shows.
+use crate::batches::{nine_at, three_at};
 use batch_codec::view;
 use outside_batches::{EMPTIED, NINE, NO_KEY, THREE};
 use partition_log::{DeliverError, Delivered, PartitionLog};
@@ -7,60 +7,35 @@ use std::test::Fail;
 
 #[test]
 fn deliveries(rt: HostRuntime) -> Result<(), Fail> {
+    let later = nine_at(20);
+    let last = nine_at(0x3fff_ffff_ffff_ffff);
     let below = nine_at(-1);
     let past = nine_at(0x4000_0000_0000_0000);
     let within = nine_at(2);
-    let last = nine_at(0x3fff_ffff_ffff_ffff);
+    let part = three_at(2);
+    let around = three_at(19);
     let added = Ok(Delivered::Added);
-    let two: &[(&[u8], &[u8])] = &[(b"b", b"2")];
-    let nine: &[(&[u8], &[u8])] = &[(b"a", b"9"), (b"b", b"2")];
+    let repeat = Ok(Delivered::Repeat);
+    let missing = Err(DeliverError::NotWhole);
+    let no_key = Err(DeliverError::NoKey);
+    let bad_offset = Err(DeliverError::BadOffset);
+    let overlap = Err(DeliverError::Overlap);
+    let nine: &[(&[u8], &[u8])] = &[(b"a", b"9")];
+    let both: &[(&[u8], &[u8])] = &[(b"a", b"9"), (b"b", b"2")];
     let rows = [
-        ("three records", THREE.as_slice(), added, 1, two),
-        (
-            "records missing",
-            &EMPTIED,
-            Err(DeliverError::NotWhole),
-            1,
-            two,
-        ),
-        ("a null key", &NO_KEY, Err(DeliverError::NoKey), 1, two),
-        (
-            "a base below 0",
-            &below,
-            Err(DeliverError::BadOffset),
-            1,
-            two,
-        ),
-        (
-            "a base of 2^62",
-            &past,
-            Err(DeliverError::BadOffset),
-            1,
-            two,
-        ),
-        (
-            "the same batch again",
-            &THREE,
-            Err(DeliverError::Overlap),
-            1,
-            two,
-        ),
-        (
-            "the last offset taken",
-            &within,
-            Err(DeliverError::Overlap),
-            1,
-            two,
-        ),
-        ("the next offset", &NINE, added, 2, nine),
-        ("the greatest offset", &last, added, 3, nine),
-        (
-            "after the greatest offset",
-            &last,
-            Err(DeliverError::Overlap),
-            3,
-            nine,
-        ),
+        ("a batch", later.as_slice(), added, 1, nine),
+        ("three records before it", &THREE, added, 2, both),
+        ("records missing", &EMPTIED, missing, 2, both),
+        ("a null key", &NO_KEY, no_key, 2, both),
+        ("a base below 0", &below, bad_offset, 2, both),
+        ("a base of 2^62", &past, bad_offset, 2, both),
+        ("the same batch again", &THREE, repeat, 2, both),
+        ("an offset of it again", &within, repeat, 2, both),
+        ("a part of it and more", &part, overlap, 2, both),
+        ("around a batch", &around, overlap, 2, both),
+        ("the greatest offset", &last, added, 3, both),
+        ("the greatest offset again", &last, repeat, 3, both),
+        ("the next offset", &NINE, added, 4, both),
     ];
     let mut log = PartitionLog::new(rt.alloc());
     assert!(rt; log.table()?.is_empty());

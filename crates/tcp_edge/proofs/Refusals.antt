@@ -1,18 +1,17 @@
 -- Lemmas on the answer that a stream is refused.
-use Rattle.std.proofs.Common.{◌≢◌, ℕ, ◌<◌, List, ◌++◌, length, Option, refl, sym, ap, subst, arith}
+use Rattle.std.proofs.Common.{◌≢◌, ℕ, ◌<◌, List, ◌++◌, length, Option, refl, sym, ap, subst, ◌∙◌, arith}
 use Rattle.std.proofs.KnownBytes.{Consumes-kept}
-use Rattle.std.specs.Io.KnownBytes.{Consumes}
 use Rattle.batch_codec.specs.declared.error.BatchError.{BatchError}
 use Rattle.batch_codec.specs.declared.error.BatchError.TheVariants.{Short}
 use Rattle.batch_codec.specs.Values.{BatchValue}
 use Rattle.batch_codec.specs.Grammar.{batch_encoding}
 use Rattle.batch_codec.specs.Refusals.{FirstFault}
-use Rattle.content.specs.Logs.{IsLogPart}
+use Rattle.content.specs.Content.{Content}
 use Rattle.tcp_edge.specs.declared.error.Refusal.{Refusal}
 use Rattle.tcp_edge.specs.declared.error.Refusal.TheVariants.{View, Deliver}
 use Rattle.tcp_edge.specs.declared.error.TableError.{TableError}
 use Rattle.tcp_edge.specs.declared.error.TableError.TheVariants.{Batch, Read, Write, OutOfMemory}
-use Rattle.tcp_edge.specs.Input.{FindsEnd}
+use Rattle.tcp_edge.specs.Input.{FindsEnd, HasTaken}
 use Rattle.tcp_edge.specs.Tables.{stream}
 use Rattle.tcp_edge.specs.Refused.{IsRefusedAs, RefusesNext, RefusesStream, IfBatch}
 use Rattle.tcp_edge.proofs.Streams.{consumes_all}
@@ -33,34 +32,34 @@ encoded_some : (b : BatchValue) (rest : List ℕ) → 0 < length (batch_encoding
 unfolding batch_encoding
 encoded_some b rest = omega arith
 
-refused_some : (kept : List BatchValue) (next : List ℕ) (why : Refusal) → IsRefusedAs kept next why → why ≢ View Short → 0 < length next
-refused_some kept next (View fault) refused settled = fault_some fault next refused (λ short. settled (ap View short))
-refused_some kept next (Deliver why) refused settled = subst (λ (t : List ℕ). 0 < length t) (sym refused.3) (encoded_some refused.0 refused.1)
+refused_some : (c : Content) (next : List ℕ) (why : Refusal) → IsRefusedAs c next why → why ≢ View Short → 0 < length next
+refused_some c next (View fault) refused settled = fault_some fault next refused (λ short. settled (ap View short))
+refused_some c next (Deliver why) refused settled = subst (λ (t : List ℕ). 0 < length t) (sym refused.3) (encoded_some refused.0 refused.1)
 
 -- ---- a stream
 
 -- behind the batches that were taken waits one that is refused
-pub next_refused : (a b : Option (List ℕ)) (waiting : List ℕ) (kept : List BatchValue) → IsLogPart kept → Consumes a b (stream kept ++ waiting) → (index : ℕ) (why : Refusal) → RefusesNext kept waiting index why → RefusesStream a b index why
-next_refused a b waiting kept log read index why r = record {
-  batches = kept;
+pub next_refused : (a b : Option (List ℕ)) (waiting : List ℕ) (c : Content) (count : ℕ) → HasTaken a b c count waiting → (index : ℕ) (why : Refusal) → RefusesNext c count waiting index why → RefusesStream a b index why
+next_refused a b waiting c count read index why r = record {
+  batches = read.batches;
   next = waiting;
-  is_log = log;
-  index_is = r.index_is;
-  is_some = refused_some kept waiting why r.is_refused r.not_short;
-  consumes = read;
-  is_refused = r.is_refused;
+  are_accepted = read.are_accepted;
+  index_is = r.index_is ∙ read.counts;
+  is_some = refused_some c waiting why r.is_refused r.not_short;
+  consumes = read.consumes;
+  is_refused = subst (λ (k : Content). IsRefusedAs k waiting why) read.delivers r.is_refused;
   short_at_end = λ short. absurd (r.not_short short);
 }
 
 -- the reader's end comes within a batch
-pub end_refused : (a b c : Option (List ℕ)) (waiting waiting' : List ℕ) (kept : List BatchValue) → IsLogPart kept → Consumes a b (stream kept ++ waiting) → FirstFault Short waiting → FindsEnd b c waiting waiting' → length waiting' ≢ 0 → RefusesStream a c (length kept) (View Short)
-end_refused a b c waiting waiting' kept log read short end more = record {
-  batches = kept;
+pub end_refused : (a b b' : Option (List ℕ)) (waiting waiting' : List ℕ) (c : Content) (count : ℕ) → HasTaken a b c count waiting → FirstFault Short waiting → FindsEnd b b' waiting waiting' → length waiting' ≢ 0 → RefusesStream a b' count (View Short)
+end_refused a b b' waiting waiting' c count read short end more = record {
+  batches = read.batches;
   next = waiting;
-  is_log = log;
-  index_is = refl;
+  are_accepted = read.are_accepted;
+  index_is = read.counts;
   is_some = omega (arith, ap (λ (t : List ℕ). length t) end.unchanged);
-  consumes = Consumes-kept a b c (stream kept ++ waiting) read end.stays;
+  consumes = Consumes-kept a b b' (stream read.batches ++ waiting) read.consumes end.stays;
   is_refused = short;
-  short_at_end = λ _. consumes_all a b c (stream kept ++ waiting) read end.at_end end.stays;
+  short_at_end = λ _. consumes_all a b b' (stream read.batches ++ waiting) read.consumes end.at_end end.stays;
 }

@@ -6,8 +6,8 @@ use Rattle.batch_codec.specs.Values.{BatchValue}
 use Rattle.batch_codec.specs.Grammar.{Writable, batch_encoding}
 use Rattle.batch_codec.specs.Refusals.{FirstFault}
 use Rattle.content.specs.declared.delivery.DeliverError.TheVariants.{OutOfMemory}
-use Rattle.content.specs.Deliveries.{Refuses}
-use Rattle.content.specs.Logs.{IsLogPart}
+use Rattle.content.specs.Content.{Content, empty}
+use Rattle.content.specs.Deliveries.{delivered, AreAccepted, Refuses}
 use Rattle.tcp_edge.specs.declared.error.Refusal.{Refusal}
 use Rattle.tcp_edge.specs.declared.error.Refusal.TheVariants.{View, Deliver}
 use Rattle.tcp_edge.specs.declared.error.TableError.{TableError}
@@ -16,31 +16,31 @@ use Rattle.tcp_edge.specs.Tables.{stream, ReadsAll}
 
 -- ---- one batch
 
--- the bytes behind the batches bs begin with no batch, or with one that the copy doesn't take
-abbrev pub IsRefusedAs : List BatchValue → List ℕ → Refusal → Type 0
-IsRefusedAs bs next (View fault) = FirstFault fault next
-IsRefusedAs bs next (Deliver why) =
+-- the bytes begin with no batch, or with one that the copy doesn't take
+abbrev pub IsRefusedAs : Content → List ℕ → Refusal → Type 0
+IsRefusedAs c next (View fault) = FirstFault fault next
+IsRefusedAs c next (Deliver why) =
     (b : BatchValue) × (rest : List ℕ) × Writable b × (next ≡ batch_encoding b ++ rest)
-    × Refuses bs b why × (why ≢ OutOfMemory)
+    × Refuses c b why × (why ≢ OutOfMemory)
 
--- Bytes behind the batches bs are refused, and would be whatever followed them.
-pub record RefusesNext (bs : List BatchValue) (next : List ℕ) (index : ℕ) (why : Refusal) : Type 0 where
-  pub index_is : index ≡ length bs
-  pub is_refused : IsRefusedAs bs next why
+-- The bytes after `count` batches are refused, and would be whatever followed them.
+pub record RefusesNext (c : Content) (count : ℕ) (next : List ℕ) (index : ℕ) (why : Refusal) : Type 0 where
+  pub index_is : index ≡ count
+  pub is_refused : IsRefusedAs c next why
   pub not_short : why ≢ View Short
 
 -- ---- a stream
 
--- The reader gave as many batches as the index says, which are taken, and then some bytes that are
+-- The reader gave as many batches as the index says, which are accepted, and then some bytes that are
 -- refused. That they are too few is said only of all that the reader had.
 pub record RefusesStream (left left' : Option (List ℕ)) (index : ℕ) (why : Refusal) : Type 0 where
   pub batches : List BatchValue
   pub next : List ℕ
-  pub is_log : IsLogPart batches
+  pub are_accepted : AreAccepted empty batches
   pub index_is : index ≡ length batches
   pub is_some : 0 < length next
   pub consumes : Consumes left left' (stream batches ++ next)
-  pub is_refused : IsRefusedAs batches next why
+  pub is_refused : IsRefusedAs (delivered empty batches) next why
   pub short_at_end : why ≡ View Short → ReadsAll left left' (stream batches ++ next)
 
 -- ---- answers

@@ -4,9 +4,9 @@ use Rattle.std.specs.List.{flat_map}
 use Rattle.std.specs.Io.KnownBytes.{Appends}
 use Rattle.batch_codec.specs.Values.{BatchValue}
 use Rattle.batch_codec.specs.Grammar.{batch_encoding}
-use Rattle.content.specs.Logs.{IsLogPart}
-use Rattle.content.specs.Records.{log_records}
-use Rattle.content.specs.Table.{table_of, rows}
+use Rattle.content.specs.Content.{Content, empty, shown_table}
+use Rattle.content.specs.Deliveries.{delivered, AreAccepted}
+use Rattle.content.specs.Table.{rows}
 use Rattle.tcp_edge.specs.Lines.{lines}
 use Rattle.tcp_edge.specs.Output.{AppendsFront}
 
@@ -14,9 +14,13 @@ use Rattle.tcp_edge.specs.Output.{AppendsFront}
 abbrev pub stream : List BatchValue → List ℕ
 stream bs = flat_map batch_encoding bs
 
--- a line for each key that has a value after the last of the batches, by rising key bytes
+-- a line for each key that has a value in what a copy holds, by rising key bytes
+abbrev pub content_lines : Content → List ℕ
+content_lines c = lines (rows (shown_table c))
+
+-- the lines of a copy that the batches were delivered to, one after the other
 abbrev pub table_lines : List BatchValue → List ℕ
-table_lines bs = lines (rows (table_of (log_records bs)))
+table_lines bs = content_lines (delivered empty bs)
 
 -- A reader had these bytes left, gave them all, and is at its end. Where its bytes are not known,
 -- nothing is said.
@@ -25,17 +29,18 @@ ReadsAll None left' bytes = ⊤
 ReadsAll (Some left) None bytes = ⊥
 ReadsAll (Some left) (Some left') bytes = (left ≡ bytes) × (left' ≡ [])
 
--- A reader had the batches bs of a log left, end to end, gave them all, and is at its end.
+-- A reader had the batches bs left, end to end, gave them all, and is at its end; a copy accepts each
+-- of them, in the order in which they came.
 abbrev pub ReadsLog : Option (List ℕ) → Option (List ℕ) → List BatchValue → Type 0
-ReadsLog left left' bs = IsLogPart bs × ReadsAll left left' (stream bs)
+ReadsLog left left' bs = AreAccepted empty bs × ReadsAll left left' (stream bs)
 
--- The batches of a log were read to the reader's end, and the lines of their table were written.
+-- Batches were read to the reader's end, and the lines of their table were written.
 pub record PrintsTable (left left' held held' : Option (List ℕ)) : Type 0 where
   pub batches : List BatchValue
   pub reads : ReadsLog left left' batches
   pub appends : Appends held held' (table_lines batches)
 
--- The batches of a log were read to the reader's end, and a front of their table's lines was written.
+-- Batches were read to the reader's end, and a front of their table's lines was written.
 pub record PrintsFront (left left' held held' : Option (List ℕ)) : Type 0 where
   pub batches : List BatchValue
   pub reads : ReadsLog left left' batches

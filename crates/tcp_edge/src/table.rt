@@ -1,16 +1,15 @@
 //! The table of a stream of batches.
 
-ghost use Rattle.std.specs.Prelude.{◌≡◌, ◌<◌, ◌⊎◌, List, length, IfOk, OnOk, IfErr, OnErr, IsErrOf, MatchBool};
+ghost use Rattle.std.specs.Prelude.{◌≡◌, ◌<◌, ◌⊎◌, List, length, IfOk, OnOk, IfErr, OnErr, IsErrOf, MatchBool, MatchResult};
 ghost use Rattle.std.specs.Bool.{OnFalse};
 ghost use Rattle.std.specs.Io.KnownBytes.{Appends};
 ghost use Rattle.batch_codec.specs.declared.error.BatchError.TheVariants.{Short};
 ghost use Rattle.batch_codec.specs.Refusals.{FirstFault};
 ghost use Rattle.batch_codec.specs.Values.{BatchValue};
-ghost use Rattle.content.specs.Logs.{IsLogPart};
 ghost use Rattle.tcp_edge.specs.declared.error.TableError.TheVariants.{Batch};
-ghost use Rattle.tcp_edge.specs.Input.{TakesBatches};
+ghost use Rattle.tcp_edge.specs.Input.{TakesBatches, DeliversNext, ReadsCopy};
 ghost use Rattle.tcp_edge.specs.Output.{AppendsFront};
-ghost use Rattle.tcp_edge.specs.Tables.{stream, table_lines, ReadsAll, ReadsLog, PrintsTable, PrintsFront};
+ghost use Rattle.tcp_edge.specs.Tables.{content_lines, ReadsLog, PrintsTable, PrintsFront};
 ghost use Rattle.tcp_edge.specs.Refused.{RefusesNext, RefusesStream, IfBatch};
 
 use crate::error::{Refusal, TableError};
@@ -24,44 +23,77 @@ use std::io::{Read, Write};
 /// How many reads an input may take.
 const MOST_READS: u64 = 1 << 32;
 
-/// The answer where what comes after the batches of a copy is refused.
-fn refused<A: Allocator + Copy>(log: &PartitionLog<A>, why: Refusal) -> TableError
-    ensures { result ≡ Batch (length log.now.kept) why }
+/// What was taken of the input: a copy, and how many batches were delivered to it.
+#[derive(Drop)]
+struct Intake<A: Allocator + Copy> {
+    log: PartitionLog<A>,
+    count: u64,
+}
+
+/// The answer where what comes after the batches that were taken is refused.
+fn refused<A: Allocator + Copy>(intake: &Intake<A>, why: Refusal) -> TableError
+    ensures { result ≡ Batch intake.now.count why }
 {
     TableError::Batch {
-        index: log.len() as u64,
+        index: intake.count,
         why,
     }
 }
 
+/// Delivers the batch at the front, if there is one, and gives the number of its bytes. More than
+/// 2^64 batches are not counted.
+fn deliver_next<A: Allocator + Copy>(
+    intake: &mut Intake<A>,
+    bytes: &[u8],
+) -> Result<Option<usize>, TableError>
+    ensures delivers_next { MatchResult result
+        (λ size. DeliversNext bytes.now size
+        intake.old.log intake.new.log intake.old.count intake.new.count)
+        (λ e. IfBatch e (RefusesNext intake.old.log intake.old.count bytes.now)) }
+    ensures unchanged { OnErr result
+        ((intake.new.log ≡ intake.old.log) × (intake.new.count ≡ intake.old.count)) }
+    ensures no_write { ¬ IsErrOf result TableError.Write }
+{
+    let batch = match view(bytes) {
+        Ok(batch) => batch,
+        Err(BatchError::Short) => return Ok(None),
+        Err(why) => return Err(refused(intake, Refusal::View(why))),
+    };
+    let Some(count) = intake.count.checked_add(1) else {
+        return Err(TableError::Read);
+    };
+    match intake.log.deliver(&batch) {
+        Ok(_) => {}
+        Err(DeliverError::OutOfMemory) => return Err(TableError::OutOfMemory),
+        Err(why) => return Err(refused(intake, Refusal::Deliver(why))),
+    }
+    intake.count = count;
+    Ok(Some(batch.bytes().len()))
+}
+
 /// Takes the batch at the front, and tells whether a whole one was there.
 fn take_batch<A: Allocator + Copy>(
-    log: &mut PartitionLog<A>,
+    intake: &mut Intake<A>,
     pending: &mut Pending<A>,
 ) -> Result<bool, TableError>
-    requires { IsLogPart log.old.kept }
     ensures more { IfOk result (λ more. MatchBool more
-        (TakesBatches pending.old pending.new log.old.kept log.new.kept)
-        ((pending.new ≡ pending.old) × (log.new ≡ log.old))) }
+        (TakesBatches pending.old pending.new
+        intake.old.log intake.new.log intake.old.count intake.new.count)
+        ((pending.new ≡ pending.old) × (intake.new.log ≡ intake.old.log)
+        × (intake.new.count ≡ intake.old.count))) }
     ensures fewer { IfOk result (λ more. MatchBool more
         (length pending.new < length pending.old)
         (pending.new ≡ pending.old)) }
     ensures short { IfOk result (λ more. OnFalse more (FirstFault Short pending.old)) }
-    ensures log { OnOk result (IsLogPart log.new.kept) }
 
-    ensures refused { IfErr result (λ e. IfBatch e (RefusesNext log.old.kept pending.old)) }
-    ensures no_read { ¬ IsErrOf result TableError.Read }
+    ensures refused { IfErr result (λ e. IfBatch e
+        (RefusesNext intake.old.log intake.old.count pending.old)) }
     ensures no_write { ¬ IsErrOf result TableError.Write }
-    ensures unchanged { OnErr result ((pending.new ≡ pending.old) × (log.new ≡ log.old)) }
+    ensures unchanged { OnErr result ((pending.new ≡ pending.old)
+        × (intake.new.log ≡ intake.old.log) × (intake.new.count ≡ intake.old.count)) }
 {
-    let size = match view(pending.bytes()) {
-        Ok(batch) => match log.deliver(&batch) {
-            Ok(_) => batch.bytes().len(),
-            Err(DeliverError::OutOfMemory) => return Err(TableError::OutOfMemory),
-            Err(why) => return Err(refused(log, Refusal::Deliver(why))),
-        },
-        Err(BatchError::Short) => return Ok(false),
-        Err(why) => return Err(refused(log, Refusal::View(why))),
+    let Some(size) = deliver_next(intake, pending.bytes())? else {
+        return Ok(false);
     };
     pending.advance(size);
     Ok(true)
@@ -69,40 +101,42 @@ fn take_batch<A: Allocator + Copy>(
 
 /// Takes each whole batch that waits.
 fn take_batches<A: Allocator + Copy>(
-    log: &mut PartitionLog<A>,
+    intake: &mut Intake<A>,
     pending: &mut Pending<A>,
 ) -> Result<(), TableError>
-    requires { IsLogPart log.old.kept }
-    ensures taken { TakesBatches pending.old pending.new log.old.kept log.new.kept }
-    ensures log { IsLogPart log.new.kept }
+    ensures taken { TakesBatches pending.old pending.new
+        intake.old.log intake.new.log intake.old.count intake.new.count }
     ensures short { OnOk result (FirstFault Short pending.new) }
-    ensures refused { IfErr result (λ e. IfBatch e (RefusesNext log.new.kept pending.new)) }
+    ensures refused { IfErr result (λ e. IfBatch e
+        (RefusesNext intake.new.log intake.new.count pending.new)) }
     ensures no_write { ¬ IsErrOf result TableError.Write }
 {
-    while take_batch(log, pending)? {}
+    while take_batch(intake, pending)? {}
     Ok(())
 }
 
-/// Reads batches to the end of the input.
+/// Reads batches to the end of the input, in any order.
 fn read_log<A: Allocator + Copy, R: Read>(
     alloc: A,
     reader: &mut R,
 ) -> Result<PartitionLog<A>, TableError>
-    ensures log { IfOk result (λ log. IsLogPart log.kept) }
-    ensures read { IfOk result (λ log. ReadsAll
-        (R.remaining reader.old) (R.remaining reader.new) (stream log.kept)) }
+    ensures read { IfOk result (λ log.
+        ReadsCopy (R.remaining reader.old) (R.remaining reader.new) log) }
     ensures refused { IfErr result (λ e. IfBatch e
         (RefusesStream (R.remaining reader.old) (R.remaining reader.new))) }
     ensures no_write { ¬ IsErrOf result TableError.Write }
 {
-    let mut log = PartitionLog::new(alloc);
+    let mut intake = Intake {
+        log: PartitionLog::new(alloc),
+        count: 0,
+    };
     let mut pending = Pending::new(alloc);
     for _ in 0..MOST_READS {
-        take_batches(&mut log, &mut pending)?;
+        take_batches(&mut intake, &mut pending)?;
         match pending.fill(reader) {
             Ok(true) => {}
-            Ok(false) if pending.len() == 0 => return Ok(log),
-            Ok(false) => return Err(refused(&log, Refusal::View(BatchError::Short))),
+            Ok(false) if pending.len() == 0 => return Ok(intake.log),
+            Ok(false) => return Err(refused(&intake, Refusal::View(BatchError::Short))),
             Err(FillFailed::Read) => return Err(TableError::Read),
             Err(FillFailed::OutOfMemory) => return Err(TableError::OutOfMemory),
         }
@@ -117,9 +151,9 @@ fn print_log<A: Allocator + Copy, W: Write>(
     writer: &mut W,
 ) -> Result<(), TableError>
     ensures writes_lines { OnOk result
-        (Appends (W.contents writer.old) (W.contents writer.new) (table_lines log.now.kept)) }
+        (Appends (W.contents writer.old) (W.contents writer.new) (content_lines log.now)) }
     ensures out_of_memory_writes_a_front { IsErrOf result TableError.OutOfMemory → AppendsFront
-        (W.contents writer.old) (W.contents writer.new) (table_lines log.now.kept) }
+        (W.contents writer.old) (W.contents writer.new) (content_lines log.now) }
     ensures no_batch { IfErr result (λ e. IfBatch e (λ index why. ⊥)) }
     ensures no_read { ¬ IsErrOf result TableError.Read }
 {
@@ -146,13 +180,13 @@ pub fn run_table<A: Allocator + Copy, R: Read, W: Write>(
     reader: &mut R,
     writer: &mut W,
 ) -> Result<(), TableError>
-    // What was read, to the reader's end, is whole batches with keys, end to end, whose spans rise
-    // and don't meet; what was written is the lines of the table of their records.
+    // What was read, to the reader's end, is batches end to end, each accepted by a copy that those
+    // before it were delivered to; what was written is the lines of that copy's table.
     ensures prints_table { OnOk result (PrintsTable
         (R.remaining reader.old) (R.remaining reader.new)
         (W.contents writer.old) (W.contents writer.new)) }
 
-    // What was read is as many batches as the index says, all taken, and then some bytes that are
+    // What was read is as many batches as the index says, all accepted, and then some bytes that are
     // refused for the reason given; bytes are too few for a batch only at the reader's end.
     ensures names_first_refused { IfErr result (λ e. IfBatch e
         (RefusesStream (R.remaining reader.old) (R.remaining reader.new))) }

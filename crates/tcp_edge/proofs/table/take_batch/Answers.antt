@@ -1,10 +1,14 @@
-use Rattle.std.proofs.Common.{length}
-use Rattle.tcp_edge.proofs.Streams.{advanced, front_within}
+use Rattle.std.proofs.Common.{subst}
+use Rattle.tcp_edge.specs.Input.{DeliversNext}
+use Rattle.tcp_edge.proofs.Streams.{takes_front, front_left}
 use Rattle.tcp_edge.proofs.table.take_batch.Goals as goal
+
+pub returns-clause-more : goal.returns-clause-more
+returns-clause-more g c =
+    let next = subst (λ s. DeliversNext c.bytes.result.now s c.args.intake.now.log c.deliver_next.new.intake.log c.args.intake.now.count c.deliver_next.new.intake.count) c.in-Some.is c.in_ok-size.ensures.delivers_next in
+    takes_front c.args.pending.now c.advance.new.self c.bytes.result.now c.in-Some.size c.args.intake.now.log c.deliver_next.new.intake.log c.args.intake.now.count c.deliver_next.new.intake.count c.bytes.ensures c.advance.ensures next
 
 pub returns-clause-fewer : goal.returns-clause-fewer
 returns-clause-fewer g c =
-    let front = c.bytes-in-Ok-deliver.result.now in
-    let found = c.in-Ok.ensures.finds_batch in
-    let within = front_within c.args.pending.now c.bytes.result.now front _ found.rest c.bytes.ensures found.encoded c.bytes-in-Ok-deliver.ensures.encoding in
-    advanced c.args.pending.now c.advance.new.self (length front) c.advance.ensures c.bytes-in-Ok-deliver.ensures.least within
+    let next = subst (λ s. DeliversNext c.bytes.result.now s c.args.intake.now.log c.deliver_next.new.intake.log c.args.intake.now.count c.deliver_next.new.intake.count) c.in-Some.is c.in_ok-size.ensures.delivers_next in
+    front_left c.args.pending.now c.advance.new.self c.bytes.result.now c.in-Some.size c.args.intake.now.log c.deliver_next.new.intake.log c.args.intake.now.count c.deliver_next.new.intake.count c.bytes.ensures c.advance.ensures next
