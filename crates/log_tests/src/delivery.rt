@@ -3,6 +3,7 @@ use crate::batches::{nine_at, three_at};
 use batch_codec::view;
 use outside_batches::{EMPTIED, NINE, NO_KEY, THREE};
 use partition_log::{DeliverError, Delivered, PartitionLog};
+use segment::VecStore;
 use std::test::Fail;
 
 #[test]
@@ -37,7 +38,7 @@ fn deliveries(rt: HostRuntime) -> Result<(), Fail> {
         ("the greatest offset again", &last, repeat, 3, both),
         ("the next offset", &NINE, added, 4, both),
     ];
-    let mut log = PartitionLog::new(rt.alloc());
+    let mut log = PartitionLog::<VecStore<_>>::new(rt.alloc());
     assert!(rt; log.table()?.is_empty());
     for (name, bytes, wanted, len, table) in rows {
         assert_eq!(rt; log.deliver(&view(bytes)?), wanted, "{name}");

@@ -3,6 +3,7 @@ use batch_codec::view;
 use outside_batches::{NINE, THREE};
 use partition_log::{DeliverError, Delivered, PartitionLog};
 use refusing_alloc::Refusing;
+use segment::VecStore;
 use std::alloc::{AllocError, Allocator};
 use std::test::Fail;
 
@@ -11,7 +12,7 @@ const MOST: u64 = 100;
 
 /// Whether the copy shows these rows.
 fn shows<A: Allocator + Copy>(
-    log: &PartitionLog<A>,
+    log: &PartitionLog<VecStore<A>>,
     rows: &[(&[u8], &[u8])],
 ) -> Result<bool, AllocError> {
     Ok(log.table()?.as_slice() == rows)
@@ -28,7 +29,7 @@ fn a_copy_is_as_before_an_allocation_that_fails(rt: HostRuntime) -> Result<(), F
     let mut passed = false;
     for refused in 1..MOST {
         let heap = Refusing::new(rt.alloc(), refused);
-        let mut log = PartitionLog::new(&heap);
+        let mut log = PartitionLog::<VecStore<_>>::new(&heap);
         for (name, bytes, wanted) in rows {
             let batch = view(bytes)?;
             let before = log.len();

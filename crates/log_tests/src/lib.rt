@@ -13,4 +13,6 @@ mod delivery_memory;
 #[cfg(test)]
 mod producer;
 #[cfg(test)]
+mod reads;
+#[cfg(test)]
 mod store;

@@ -17,6 +17,7 @@ use crate::lines::{WriteFailed, write_lines};
 use crate::pending::{FillFailed, Pending};
 use batch_codec::{BatchError, view};
 use partition_log::{DeliverError, PartitionLog};
+use segment::VecStore;
 use std::alloc::Allocator;
 use std::io::{Read, Write};
 
@@ -26,7 +27,7 @@ const MOST_READS: u64 = 1 << 32;
 /// What was taken of the input: a copy, and how many batches were delivered to it.
 #[derive(Drop)]
 struct Intake<A: Allocator + Copy> {
-    log: PartitionLog<A>,
+    log: PartitionLog<VecStore<A>>,
     count: u64,
 }
 
@@ -119,7 +120,7 @@ fn take_batches<A: Allocator + Copy>(
 fn read_log<A: Allocator + Copy, R: Read>(
     alloc: A,
     reader: &mut R,
-) -> Result<PartitionLog<A>, TableError>
+) -> Result<PartitionLog<VecStore<A>>, TableError>
     ensures read { IfOk result (λ log.
         ReadsCopy (R.remaining reader.old) (R.remaining reader.new) log) }
     ensures refused { IfErr result (λ e. IfBatch e
@@ -147,7 +148,7 @@ fn read_log<A: Allocator + Copy, R: Read>(
 /// Writes the table of what a copy holds.
 fn print_log<A: Allocator + Copy, W: Write>(
     alloc: A,
-    log: &PartitionLog<A>,
+    log: &PartitionLog<VecStore<A>>,
     writer: &mut W,
 ) -> Result<(), TableError>
     ensures writes_lines { OnOk result
