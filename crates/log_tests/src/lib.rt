@@ -11,6 +11,8 @@ mod delivery;
 #[cfg(test)]
 mod delivery_memory;
 #[cfg(test)]
+mod leader;
+#[cfg(test)]
 mod producer;
 #[cfg(test)]
 mod reads;
