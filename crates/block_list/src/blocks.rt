@@ -1,0 +1,203 @@
+//! The blocks, and where each starts.
+
+ghost use Rattle.std.specs.Prelude.{◌≡◌, ◌+◌, ◌-◌, ◌*◌, ◌<◌, ◌≤◌, ◌^◌, [], ◌∷◌, ◌++◌, length, take, drop, is_ok, if◌then◌else◌, slice_set, slice_index_or, vec_len, vec_capacity, IfOk, IfSome};
+ghost use Rattle.std.specs.List.{HoldsAt, insert};
+ghost use Rattle.block_list.specs.Blocks.{joined, divided, IsIn};
+ghost use Rattle.block_list.specs.declared.block.TheConstants.{LIMIT, HALF};
+
+use crate::block::{Block, HALF, LIMIT};
+use crate::starts::{block_at, count_one};
+use std::alloc::{AllocError, Allocator};
+use std::marker::Model;
+
+/// A block, and an index in it.
+#[derive(Clone, Copy)]
+pub(crate) struct Place {
+    pub(crate) block: usize,
+    pub(crate) index: usize,
+}
+
+/// Blocks in a row, and how many elements stand before each.
+#[derive(Drop)]
+pub(crate) struct Blocks<T, A: Allocator + Copy> {
+    blocks: Vec<Block<T, A>, A>,
+    starts: Vec<usize, A>,
+}
+
+impl<T, A: Allocator + Copy> Model for Blocks<T, A> {
+    ghost use Rattle.std.specs.Prelude.{◌≡◌, List};
+    ghost use Rattle.block_list.specs.Blocks.{starts_of};
+
+    ghost Value = { List (List T) };
+
+    ghost view = { λ b. b.blocks.items };
+
+    ghost invariant = { λ b. b.starts.items ≡ starts_of 0 b.blocks.items };
+}
+
+impl<T, A: Allocator + Copy> Blocks<T, A> {
+    /// No blocks. Takes no memory.
+    pub(crate) fn new(alloc: A) -> Blocks<T, A>
+        ensures { result ≡ [] }
+    {
+        Blocks {
+            blocks: Vec::new(alloc),
+            starts: Vec::new(alloc),
+        }
+    }
+
+    /// How many blocks there are.
+    pub(crate) fn count(&self) -> usize
+        ensures { result ≡ length self.now }
+    {
+        self.blocks.len()
+    }
+
+    /// The elements of a block.
+    pub(crate) fn items(&self, k: usize) -> &[T]
+        requires { k < length self.now }
+        ensures items { HoldsAt (λ b. result.now ≡ b) self.now k }
+        ensures not_empty { 0 < length result.now }
+        ensures limit { length result.now ≤ LIMIT }
+    {
+        self.blocks[k].items()
+    }
+
+    /// Where the element at an index stands.
+    pub(crate) fn locate(&self, i: usize) -> Place
+        requires { i < length (joined self.now) }
+        ensures { IsIn self.now result.block result.index i }
+    {
+        let block = block_at(&self.starts, i);
+        Place {
+            block,
+            index: i - self.starts[block],
+        }
+    }
+}
+
+/// Inserts an element where there is room for it, which can't fail.
+fn insert_reserved<T: Drop, A: Allocator + Copy>(items: &mut Vec<T, A>, i: usize, x: T)
+    requires within { i ≤ vec_len items.old }
+    requires room { vec_len items.old < vec_capacity items.old }
+    ensures { items.new.items ≡ insert items.old.items i x }
+{
+    let _ = items.insert(i, x);
+}
+
+impl<T: Drop, A: Allocator + Copy> Blocks<T, A> {
+    /// Inserts an element at a place, in a block that has room.
+    pub(crate) fn insert(&mut self, place: Place, x: T) -> Result<(), AllocError>
+        requires block { place.block < length self.old }
+        requires within { place.index ≤ length (slice_index_or self.old place.block []) }
+        requires room { length (slice_index_or self.old place.block []) < LIMIT }
+        requires fits { length (joined self.old) + 1 < 2 ^ 64 }
+        ensures { self.new ≡ (if is_ok result
+            then slice_set self.old place.block
+            (insert (slice_index_or self.old place.block []) place.index x)
+            else self.old) }
+    {
+        self.blocks[place.block].insert(place.index, x)?;
+        count_one(&mut self.starts, place.block + 1);
+        Ok(())
+    }
+
+    /// The last block, if it has room.
+    pub(crate) fn last_with_room(&self) -> Option<usize>
+        ensures last { IfSome result (λ k. length self.now ≡ k + 1) }
+        ensures room { IfSome result (λ k. length (slice_index_or self.now k []) < LIMIT) }
+    {
+        let k = self.blocks.len().checked_sub(1)?;
+        if self.blocks[k].len() < LIMIT {
+            Some(k)
+        } else {
+            None
+        }
+    }
+
+    /// Adds an element at the end of the last block, which has room.
+    pub(crate) fn push_in(&mut self, k: usize, x: T) -> Result<(), AllocError>
+        requires last { length self.old ≡ k + 1 }
+        requires room { length (slice_index_or self.old k []) < LIMIT }
+        ensures { self.new ≡ (if is_ok result
+            then slice_set self.old k (slice_index_or self.old k [] ++ x ∷ [])
+            else self.old) }
+    {
+        self.blocks[k].push(x)?;
+        Ok(())
+    }
+
+    /// Adds a block of one element, where `len` elements stand before it.
+    pub(crate) fn push_block(&mut self, alloc: A, len: usize, x: T) -> Result<(), AllocError>
+        requires { len ≡ length (joined self.old) }
+        ensures { self.new ≡ (if is_ok result then self.old ++ (x ∷ []) ∷ [] else self.old) }
+    {
+        self.starts.reserve(1)?;
+        self.blocks.push(Block::one(alloc, x)?)?;
+        self.starts.push_reserved(len);
+        Ok(())
+    }
+
+    /// Adds an element at the end, where `len` stand before it.
+    ///
+    /// # Errors
+    ///
+    /// Out of memory: the elements are as they were.
+    pub(crate) fn push(&mut self, alloc: A, len: usize, x: T) -> Result<(), AllocError>
+        requires { len ≡ length (joined self.old) }
+        ensures { joined self.new
+            ≡ (if is_ok result then joined self.old ++ x ∷ [] else joined self.old) }
+    {
+        if let Some(k) = self.last_with_room() {
+            return self.push_in(k, x);
+        }
+        self.push_block(alloc, len, x)
+    }
+
+    /// Splits a full block in two, its first [`HALF`] elements and the others, and answers which block
+    /// the others are.
+    pub(crate) fn split(&mut self, k: usize) -> Result<usize, AllocError>
+        requires block { k < length self.old }
+        requires full { LIMIT ≤ length (slice_index_or self.old k []) }
+        requires fits { length (joined self.old) < 2 ^ 64 }
+        ensures splits { self.new ≡ (if is_ok result
+            then divided HALF self.old k
+            else self.old) }
+        ensures next { IfOk result (λ back. back ≡ k + 1) }
+    {
+        self.starts.reserve(1)?;
+        self.blocks.reserve(1)?;
+        let back = self.blocks[k].split()?;
+        let start = self.starts[k] + HALF;
+        insert_reserved(&mut self.blocks, k + 1, back);
+        insert_reserved(&mut self.starts, k + 1, start);
+        Ok(k + 1)
+    }
+
+    /// Where an element goes at an index: a place in a block that has room, since a full one is split.
+    ///
+    /// # Errors
+    ///
+    /// Out of memory: the elements are as they were.
+    pub(crate) fn make_room(&mut self, i: usize) -> Result<Place, AllocError>
+        requires inside { i < length (joined self.old) }
+        requires fits { length (joined self.old) < 2 ^ 64 }
+        ensures same { joined self.new ≡ joined self.old }
+        ensures place { IfOk result (λ p. IsIn self.new p.block p.index i) }
+        ensures room { IfOk result
+            (λ p. length (slice_index_or self.new p.block []) < LIMIT) }
+    {
+        let place = self.locate(i);
+        if self.items(place.block).len() < LIMIT {
+            return Ok(place);
+        }
+        let back = self.split(place.block)?;
+        if place.index < HALF {
+            return Ok(place);
+        }
+        Ok(Place {
+            block: back,
+            index: place.index - HALF,
+        })
+    }
+}

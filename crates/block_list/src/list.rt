@@ -1,0 +1,94 @@
+//! The list.
+
+ghost use Rattle.std.specs.Prelude.{◌≡◌, ◌+◌, ◌<◌, ◌≤◌, [], ◌∷◌, ◌++◌, length, IfOk, OnOk, OnErr};
+ghost use Rattle.std.specs.List.{HoldsAt, insert};
+
+use crate::blocks::Blocks;
+use std::alloc::{AllocError, Allocator};
+use std::marker::Model;
+
+/// A list of elements in blocks.
+#[derive(Drop)]
+pub struct BlockList<T, A: Allocator + Copy> {
+    alloc: A,
+    blocks: Blocks<T, A>,
+    len: usize,
+}
+
+impl<T, A: Allocator + Copy> Model for BlockList<T, A> {
+    ghost use Rattle.std.specs.Prelude.{◌≡◌, List, length};
+    ghost use Rattle.block_list.specs.Blocks.{joined};
+
+    ghost Value = { List T };
+
+    ghost view = { λ list. joined list.blocks };
+
+    ghost invariant = { λ list. list.len ≡ length (joined list.blocks) };
+}
+
+impl<T, A: Allocator + Copy> BlockList<T, A> {
+    /// The empty list. Takes no memory.
+    pub fn new(alloc: A) -> BlockList<T, A>
+        ensures is_empty { result ≡ [] }
+    {
+        BlockList {
+            alloc,
+            blocks: Blocks::new(alloc),
+            len: 0,
+        }
+    }
+
+    /// How many elements there are.
+    pub fn len(&self) -> usize
+        ensures length { result ≡ length self.now }
+    {
+        self.len
+    }
+
+    /// The element at an index: a binary search over the blocks, or none where all blocks before its
+    /// own are full.
+    pub fn get(&self, i: usize) -> &T
+        requires { i < length self.now }
+        ensures is_there { HoldsAt (λ x. result.now ≡ x) self.now i }
+    {
+        let place = self.blocks.locate(i);
+        &self.blocks.items(place.block)[place.index]
+    }
+}
+
+impl<T: Drop, A: Allocator + Copy> BlockList<T, A> {
+    /// Adds an element at the end, at the cost of a push to a vector.
+    ///
+    /// # Errors
+    ///
+    /// Out of memory, or more elements than a usize counts: the list is as it was.
+    pub fn push(&mut self, x: T) -> Result<(), AllocError>
+        ensures pushes { OnOk result (self.new ≡ self.old ++ x ∷ []) }
+        ensures unchanged_on_error { OnErr result (self.new ≡ self.old) }
+    {
+        let len = self.len.checked_add(1).ok_or(AllocError)?;
+        self.blocks.push(self.alloc, self.len, x)?;
+        self.len = len;
+        Ok(())
+    }
+
+    /// Inserts an element at an index, and moves those behind it: at most as many as one block holds.
+    ///
+    /// # Errors
+    ///
+    /// Out of memory, or more elements than a usize counts: the list is as it was.
+    pub fn insert(&mut self, i: usize, x: T) -> Result<(), AllocError>
+        requires within { i ≤ length self.old }
+        ensures inserts { OnOk result (self.new ≡ insert self.old i x) }
+        ensures unchanged_on_error { OnErr result (self.new ≡ self.old) }
+    {
+        if i == self.len {
+            return self.push(x);
+        }
+        let len = self.len.checked_add(1).ok_or(AllocError)?;
+        let place = self.blocks.make_room(i)?;
+        self.blocks.insert(place, x)?;
+        self.len = len;
+        Ok(())
+    }
+}
