@@ -49,14 +49,6 @@ impl<T, A: Allocator + Copy> Block<T, A> {
     {
         &self.items
     }
-
-    /// The last element.
-    pub(crate) fn last(&self) -> &T
-        ensures last { HoldsAt (λ x. result.now ≡ x) self.now (length self.now - 1) }
-        ensures not_empty { 0 < length self.now }
-    {
-        &self.items[self.items.len() - 1]
-    }
 }
 
 impl<T: Drop, A: Allocator + Copy> Block<T, A> {

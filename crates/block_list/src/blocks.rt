@@ -46,13 +46,6 @@ impl<T, A: Allocator + Copy> Blocks<T, A> {
         }
     }
 
-    /// How many blocks there are.
-    pub(crate) fn count(&self) -> usize
-        ensures { result ≡ length self.now }
-    {
-        self.blocks.len()
-    }
-
     /// The elements of a block.
     pub(crate) fn items(&self, k: usize) -> &[T]
         requires { k < length self.now }
