@@ -1,5 +1,5 @@
 -- Lemmas on the printed form of bytes.
-use Rattle.std.proofs.Common.{◌≡◌, ℕ, ◌+◌, ◌≤◌, Bool, true, false, not, cond, None, Some, List, [], ◌∷◌, ◌++◌, length, take, drop, get_or, refl, ap, ◌∙◌, arith, append-nil, append_assoc, add-one, suc, ◌-◌, drop-cons}
+use Rattle.std.proofs.Common.{◌≡◌, ℕ, ◌+◌, ◌≤◌, Bool, true, false, not, cond, None, Some, List, [], ◌∷◌, ◌++◌, length, take, drop, get_or, refl, sym, ap, ◌∙◌, arith, append-nil, append_assoc, add-one, suc, ◌-◌, drop-cons}
 use Rattle.std.specs.List.{position, position_or_len}
 use Rattle.std.proofs.lemmas.Bool.{not-true}
 use Rattle.std.proofs.lemmas.Bool.Decides.{nat_tests}
@@ -50,13 +50,13 @@ printed_split bytes k some =
     let next : k + 1 ≡ suc k = add-one k in
     printed_run bytes ∙ rw (index, next, drop-cons bytes k 0 there) refl
 
--- bytes that are all unescaped, once they are pushed
-pub pushed_all : (old new bytes : List ℕ) → position is_escaped bytes ≡ None → new ≡ old ++ bytes → new ++ printed (take (length bytes - length bytes) (drop (length bytes) bytes)) ≡ old ++ printed bytes
-pushed_all old new bytes none pushed =
+-- bytes that are all unescaped, and nothing after them
+pub all_printed : (bytes : List ℕ) → position is_escaped bytes ≡ None → printed bytes ≡ bytes ++ printed (take (length bytes - length bytes) (drop (length bytes) bytes))
+all_printed bytes none =
     let long : length bytes ≤ length bytes = omega arith in
-    rw (take_rest bytes (length bytes), drop_all _ bytes long, printed_all bytes none) (append-nil new ∙ pushed)
+    rw (take_rest bytes (length bytes), drop_all _ bytes long) (printed_all bytes none ∙ sym (append-nil bytes))
 
--- the bytes up to the first that is escaped, once they are pushed with its escape
-pub pushed_run : (old run new bytes : List ℕ) (k : ℕ) → position is_escaped bytes ≡ Some k → run ≡ old ++ take k bytes → new ≡ run ++ printed_byte (get_or bytes k 0) → new ++ printed (take (length bytes - (k + 1)) (drop (k + 1) bytes)) ≡ old ++ printed bytes
-pushed_run old run new bytes k some before escaped =
-    rw (take_rest bytes (k + 1), printed_split bytes k some, escaped, before) (simp append_assoc)
+-- the bytes up to the first that is escaped, and its escape
+pub run_printed : (bytes : List ℕ) (k : ℕ) → position is_escaped bytes ≡ Some k → printed bytes ≡ (take k bytes ++ printed_byte (get_or bytes k 0)) ++ printed (take (length bytes - (k + 1)) (drop (k + 1) bytes))
+run_printed bytes k some =
+    rw (take_rest bytes (k + 1)) (printed_split bytes k some ∙ sym (append_assoc (take k bytes) (printed_byte (get_or bytes k 0)) (printed (drop (k + 1) bytes))))

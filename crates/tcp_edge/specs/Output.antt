@@ -1,6 +1,5 @@
 -- What writing does to the bytes that a writer holds, and to those that wait in a buffer before it.
 use Rattle.std.specs.Prelude.{◌≡◌, ℕ, List, ◌++◌, Option}
-use Rattle.std.specs.Io.{StartsWith}
 use Rattle.std.specs.Io.KnownBytes.{Appends}
 
 -- More bytes came behind those that waited, and a front of all these went to the writer.
@@ -9,8 +8,8 @@ pub record Sends (held held' : Option (List ℕ)) (waited waiting more : List �
   pub appends : Appends held held' sent
   pub waits : sent ++ waiting ≡ waited ++ more
 
--- A front of these bytes was written.
-pub record AppendsFront (held held' : Option (List ℕ)) (bytes : List ℕ) : Type 0 where
-  pub front : List ℕ
-  pub is_front : StartsWith bytes front
-  pub appends : Appends held held' front
+-- All of these bytes but those that are left came behind those that waited.
+pub record SendsAllBut (held held' : Option (List ℕ)) (waited waiting left all : List ℕ) : Type 0 where
+  pub more : List ℕ
+  pub sends : Sends held held' waited waiting more
+  pub parts : all ≡ more ++ left

@@ -8,7 +8,6 @@ use Rattle.content.specs.Content.{Content, empty, shown_table}
 use Rattle.content.specs.Deliveries.{delivered, AreAccepted}
 use Rattle.content.specs.Table.{rows}
 use Rattle.tcp_edge.specs.Lines.{lines}
-use Rattle.tcp_edge.specs.Output.{AppendsFront}
 
 -- batches end to end
 abbrev pub stream : List BatchValue → List ℕ
@@ -39,9 +38,3 @@ pub record PrintsTable (left left' held held' : Option (List ℕ)) : Type 0 wher
   pub batches : List BatchValue
   pub reads : ReadsLog left left' batches
   pub appends : Appends held held' (table_lines batches)
-
--- Batches were read to the reader's end, and a front of their table's lines was written.
-pub record PrintsFront (left left' held held' : Option (List ℕ)) : Type 0 where
-  pub batches : List BatchValue
-  pub reads : ReadsLog left left' batches
-  pub appends : AppendsFront held held' (table_lines batches)

@@ -6,7 +6,7 @@ ghost use Rattle.clap.specs.Words.{app_of, kind_of};
 ghost use Rattle.tcp_edge.specs.declared.error.Refusal.{Refusal};
 ghost use Rattle.tcp_edge.specs.CommandLine.{kbroker, AsksForTable};
 ghost use Rattle.tcp_edge.specs.Refused.{RefusesStream};
-ghost use Rattle.tcp_edge.specs.Tables.{ReadsLog, PrintsTable, PrintsFront};
+ghost use Rattle.tcp_edge.specs.Tables.{ReadsLog, PrintsTable};
 
 use crate::subcommand::{DONE, FAILED, FAULTY, NO_MEMORY, run_subcommand};
 use clap::error::ErrorKind;
@@ -93,9 +93,7 @@ pub fn run_line<S: AsStr, R: Read, W: Write, E: Write>(
     ensures faulty_prints_nothing { result ≡ 2 → out.new ≡ out.old }
     ensures faulty_reads_nothing { result ≡ 2 → reader.new ≡ reader.old }
 
-    ensures out_of_memory_prints_a_front { result ≡ 3 → (out.new ≡ out.old) ⊎ PrintsFront
-        (R.remaining reader.old) (R.remaining reader.new)
-        (W.contents out.old) (W.contents out.new) }
+    ensures out_of_memory_prints_nothing { result ≡ 3 → out.new ≡ out.old }
     ensures failed_prints_nothing_before_whole_input { AsksForTable (map S.text arguments.now)
         → result ≡ 4 → (out.new ≡ out.old) ⊎ ((bs : List BatchValue)
         × ReadsLog (R.remaining reader.old) (R.remaining reader.new) bs) }

@@ -4,7 +4,7 @@ ghost use Rattle.std.specs.Prelude.{◌≡◌, ◌≢◌, ◌≤◌, ◌⊎◌, 
 ghost use Rattle.batch_codec.specs.Values.{BatchValue};
 ghost use Rattle.tcp_edge.specs.declared.error.Refusal.{Refusal};
 ghost use Rattle.tcp_edge.specs.Status.{status_of};
-ghost use Rattle.tcp_edge.specs.Tables.{ReadsLog, PrintsTable, PrintsFront};
+ghost use Rattle.tcp_edge.specs.Tables.{ReadsLog, PrintsTable};
 ghost use Rattle.tcp_edge.specs.Refused.{RefusesStream};
 
 use crate::error::TableError;
@@ -54,9 +54,7 @@ pub fn run_subcommand<A: Allocator + Copy, R: Read, W: Write, E: Write>(
         × RefusesStream (R.remaining reader.old) (R.remaining reader.new) index why }
     ensures refused_prints_nothing { result ≡ 1 → out.new ≡ out.old }
 
-    ensures out_of_memory_prints_a_front { result ≡ 3 → (out.new ≡ out.old) ⊎ PrintsFront
-        (R.remaining reader.old) (R.remaining reader.new)
-        (W.contents out.old) (W.contents out.new) }
+    ensures out_of_memory_prints_nothing { result ≡ 3 → out.new ≡ out.old }
     ensures failed_prints_nothing_before_whole_input { result ≡ 4 → (out.new ≡ out.old) ⊎
         ((bs : List BatchValue) × ReadsLog (R.remaining reader.old) (R.remaining reader.new) bs) }
 {

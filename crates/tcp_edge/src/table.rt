@@ -1,6 +1,6 @@
 //! The table of a stream of batches.
 
-ghost use Rattle.std.specs.Prelude.{◌≡◌, ◌<◌, ◌⊎◌, List, length, IfOk, OnOk, IfErr, OnErr, IsErrOf, MatchBool, MatchResult};
+ghost use Rattle.std.specs.Prelude.{◌≡◌, ◌<◌, List, length, IfOk, OnOk, IfErr, OnErr, IsErrOf, MatchBool, MatchResult};
 ghost use Rattle.std.specs.Bool.{OnFalse};
 ghost use Rattle.std.specs.Io.KnownBytes.{Appends};
 ghost use Rattle.batch_codec.specs.declared.error.BatchError.TheVariants.{Short};
@@ -8,12 +8,11 @@ ghost use Rattle.batch_codec.specs.Refusals.{FirstFault};
 ghost use Rattle.batch_codec.specs.Values.{BatchValue};
 ghost use Rattle.tcp_edge.specs.declared.error.TableError.TheVariants.{Batch};
 ghost use Rattle.tcp_edge.specs.Input.{TakesBatches, DeliversNext, ReadsCopy};
-ghost use Rattle.tcp_edge.specs.Output.{AppendsFront};
-ghost use Rattle.tcp_edge.specs.Tables.{content_lines, ReadsLog, PrintsTable, PrintsFront};
+ghost use Rattle.tcp_edge.specs.Tables.{content_lines, ReadsLog, PrintsTable};
 ghost use Rattle.tcp_edge.specs.Refused.{RefusesNext, RefusesStream, IfBatch};
 
 use crate::error::{Refusal, TableError};
-use crate::lines::{WriteFailed, write_lines};
+use crate::lines::{BUFFER_SIZE, write_lines};
 use crate::pending::{FillFailed, Pending};
 use batch_codec::{BatchError, view};
 use partition_log::{DeliverError, PartitionLog};
@@ -145,7 +144,7 @@ fn read_log<A: Allocator + Copy, R: Read>(
     Err(TableError::Read)
 }
 
-/// Writes the table of what a copy holds.
+/// Writes the table of what a copy holds. All memory is taken before the first write.
 fn print_log<A: Allocator + Copy, W: Write>(
     alloc: A,
     log: &PartitionLog<VecStore<A>>,
@@ -153,25 +152,26 @@ fn print_log<A: Allocator + Copy, W: Write>(
 ) -> Result<(), TableError>
     ensures writes_lines { OnOk result
         (Appends (W.contents writer.old) (W.contents writer.new) (content_lines log.now)) }
-    ensures out_of_memory_writes_a_front { IsErrOf result TableError.OutOfMemory → AppendsFront
-        (W.contents writer.old) (W.contents writer.new) (content_lines log.now) }
+    ensures out_of_memory_writes_nothing { IsErrOf result TableError.OutOfMemory →
+        writer.new ≡ writer.old }
     ensures no_batch { IfErr result (λ e. IfBatch e (λ index why. ⊥)) }
     ensures no_read { ¬ IsErrOf result TableError.Read }
 {
-    let rows = match log.table() {
-        Ok(rows) => rows,
-        Err(_) => return Err(TableError::OutOfMemory),
+    let Ok(rows) = log.table() else {
+        return Err(TableError::OutOfMemory);
     };
-    match write_lines(alloc, writer, &rows) {
-        Ok(()) => Ok(()),
-        Err(WriteFailed::Write) => Err(TableError::Write),
-        Err(WriteFailed::OutOfMemory) => Err(TableError::OutOfMemory),
+    let Ok(mut buffer) = Vec::with_capacity(alloc, BUFFER_SIZE) else {
+        return Err(TableError::OutOfMemory);
+    };
+    if write_lines(&mut buffer, writer, &rows).is_err() {
+        return Err(TableError::Write);
     }
+    Ok(())
 }
 
 /// Reads record batches to the end of the input, and writes the table of their records: a line
 /// `KEY=VALUE` for each key that has a value, by rising key bytes. Nothing is written before the
-/// input was accepted whole. The input is held once, as the log.
+/// input was accepted whole, and all memory was taken. The input is held once, as the log.
 ///
 /// # Errors
 ///
@@ -197,11 +197,8 @@ pub fn run_table<A: Allocator + Copy, R: Read, W: Write>(
     ensures read_error_prints_nothing { IsErrOf result TableError.Read → writer.new ≡ writer.old }
     ensures write_error_after_whole_input { IsErrOf result TableError.Write →
         (bs : List BatchValue) × ReadsLog (R.remaining reader.old) (R.remaining reader.new) bs }
-    // Without memory nothing was written, or only lines of the table, from the front.
-    ensures out_of_memory_prints_a_front { IsErrOf result TableError.OutOfMemory →
-        (writer.new ≡ writer.old) ⊎ PrintsFront
-        (R.remaining reader.old) (R.remaining reader.new)
-        (W.contents writer.old) (W.contents writer.new) }
+    ensures out_of_memory_prints_nothing { IsErrOf result TableError.OutOfMemory →
+        writer.new ≡ writer.old }
 {
     let log = read_log(alloc, reader)?;
     print_log(alloc, &log, writer)
