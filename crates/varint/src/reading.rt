@@ -45,7 +45,7 @@ fn read_number(bytes: &[u8], limit: u64) -> Result<(u64, usize), VarintError>
 }
 
 /// The signed number at the front, whose zigzag number is at most `limit`, and the bytes used.
-#[inline]
+#[inline(always)]
 #[tactic(auto, using(crate::proofs::Encodings::number_last, crate::proofs::Number::number_two), unfolding(crate::specs::Reading::number_at))]
 fn read_signed(bytes: &[u8], limit: u64) -> Result<(i64, usize), VarintError>
     requires large { 16384 ≤ limit }
@@ -62,7 +62,7 @@ fn read_signed(bytes: &[u8], limit: u64) -> Result<(i64, usize), VarintError>
 }
 
 /// The number of 32 bits at the front, and the bytes used.
-#[inline]
+#[inline(always)]
 #[tactic(auto, using(crate::proofs::Encodings::narrowed), unfolding(crate::specs::Reading::varint_at))]
 fn number_i32(bytes: &[u8]) -> Result<(i32, usize), VarintError>
     ensures { Gives bytes.now result (varint_at bytes.now) }
@@ -72,7 +72,7 @@ fn number_i32(bytes: &[u8]) -> Result<(i32, usize), VarintError>
 }
 
 /// The number of 64 bits at the front, and the bytes used.
-#[inline]
+#[inline(always)]
 #[tactic(auto, unfolding(crate::specs::Reading::varlong_at))]
 fn number_i64(bytes: &[u8]) -> Result<(i64, usize), VarintError>
     ensures { Gives bytes.now result (varlong_at bytes.now) }
@@ -91,7 +91,7 @@ fn number_i64(bytes: &[u8]) -> Result<(i64, usize), VarintError>
 /// - `Short` where every byte has its high bit set, and there are fewer than 5.
 /// - `TooLong` where the fifth byte is reached and is above 0x0f.
 /// - `NotShortest` where the number takes several bytes, and the last of these is 0.
-#[inline]
+#[inline(always)]
 pub fn read_i32(bytes: &[u8]) -> Result<(i32, usize), VarintError>
     // What is read, or why nothing is.
     ensures reads_varint { Gives bytes.now result (varint_at bytes.now) }
@@ -116,7 +116,7 @@ pub fn read_i32(bytes: &[u8]) -> Result<(i32, usize), VarintError>
 /// - `Short` where every byte has its high bit set, and there are fewer than 10.
 /// - `TooLong` where the tenth byte is reached and is above 0x01.
 /// - `NotShortest` where the number takes several bytes, and the last of these is 0.
-#[inline]
+#[inline(always)]
 pub fn read_i64(bytes: &[u8]) -> Result<(i64, usize), VarintError>
     // What is read, or why nothing is.
     ensures reads_varlong { Gives bytes.now result (varlong_at bytes.now) }

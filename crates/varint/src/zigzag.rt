@@ -17,7 +17,7 @@ pub fn zigzag_of(value: i64) -> u64
 }
 
 /// The signed number of a zigzag number.
-#[inline]
+#[inline(always)]
 pub fn number_of(code: u64) -> i64
     ensures { result ≡ unzigzag code }
 {
