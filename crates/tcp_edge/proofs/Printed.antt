@@ -1,9 +1,10 @@
 -- Lemmas on the printed form of bytes.
-use Rattle.std.proofs.Common.{◌≡◌, ℕ, ◌+◌, ◌≤◌, Bool, true, false, not, cond, None, Some, List, [], ◌∷◌, ◌++◌, length, take, drop, get_or, refl, sym, ap, ◌∙◌, arith, append-nil, append_assoc, add-one, suc, ◌-◌, drop-cons}
-use Rattle.std.specs.List.{position, position_or_len}
-use Rattle.std.proofs.lemmas.Bool.{not-true}
+use Rattle.std.proofs.Common.{◌≡◌, ℕ, ◌+◌, ◌<◌, ◌≤◌, Bool, true, false, not, ◌&&◌, cond, None, Some, List, [], ◌∷◌, ◌++◌, length, take, drop, get_or, refl, sym, ap, ◌∙◌, arith, append-nil, append_assoc, add-one, suc, ◌-◌, drop-cons}
+use Rattle.std.specs.List.{position, position_or_len, list_all}
+use Rattle.std.proofs.lemmas.Bool.{not-true, and_parts}
 use Rattle.std.proofs.lemmas.Bool.Decides.{nat_tests}
-use Rattle.std.proofs.lemmas.List.{take_all, take_rest, drop_all}
+use Rattle.std.proofs.lemmas.List.{take_more, take_all, take_rest, drop_all}
+use Rattle.std.proofs.lemmas.List.Folds.{list_all-append}
 use Rattle.std.proofs.lemmas.List.Quantifiers.{position-Some}
 use Rattle.tcp_edge.specs.Lines.{is_unescaped, printed, printed_byte}
 
@@ -37,6 +38,23 @@ printed_all bytes none =
     let over = chosen_none _ _ none in
     let long : length bytes ≤ position_or_len is_escaped bytes = grind (arith, nat_tests, over) in
     printed_run bytes ∙ rw (take_all _ bytes long, drop_all _ bytes long) (append-nil bytes)
+
+and_true : (b : Bool) → (b && true) ≡ b
+and_true true = refl
+and_true false = refl
+
+-- one byte more was tested
+pub all_next : (bytes : List ℕ) (k d : ℕ) → k < length bytes → list_all is_unescaped (take (k + 1) bytes) ≡ (list_all is_unescaped (take k bytes) && is_unescaped (get_or bytes k d))
+all_next bytes k d within =
+    ap (λ (xs : List ℕ). list_all is_unescaped xs) (take_more bytes k d within) ∙ list_all-append is_unescaped (take k bytes) (get_or bytes k d ∷ [])
+    ∙ ap (λ (b : Bool). list_all is_unescaped (take k bytes) && b) (and_true (is_unescaped (get_or bytes k d)))
+
+-- bytes that are all printed as they are
+pub printed_same : (bytes : List ℕ) → list_all is_unescaped bytes ≡ true → printed bytes ≡ bytes
+printed_same [] all = refl
+printed_same (byte ∷ bytes) all =
+    let both = and_parts (is_unescaped byte) (list_all is_unescaped bytes) all in
+    rw both.0 (ap (λ (xs : List ℕ). byte ∷ xs) (printed_same bytes both.1))
 
 -- the first byte that is escaped
 pub escaped_there : (bytes : List ℕ) (k : ℕ) → position is_escaped bytes ≡ Some k → is_unescaped (get_or bytes k 0) ≡ false

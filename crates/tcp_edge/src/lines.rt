@@ -1,6 +1,7 @@
 //! The lines that a table is printed as.
 
 ghost use Rattle.std.specs.Prelude.{◌≡◌, ◌+◌, ◌<◌, ◌≤◌, ◌++◌, false, [], not, length, map, position, IfOk, OnOk};
+ghost use Rattle.std.specs.List.{list_all};
 ghost use Rattle.std.specs.Vec.{vec_len, vec_capacity};
 ghost use Rattle.std.specs.Io.KnownBytes.{Appends};
 ghost use Rattle.tcp_edge.specs.Lines.{is_unescaped, hex_digit, printed_byte, printed, line, lines, EndsOnce};
@@ -13,6 +14,7 @@ use std::io::{Result, Write};
 pub(crate) const BUFFER_SIZE: usize = 65536;
 
 /// Whether a byte is printed as it is.
+#[inline(always)]
 fn is_unescaped(byte: u8) -> bool
     ensures { result ≡ is_unescaped byte }
 {
@@ -29,6 +31,18 @@ fn hex_digit(digit: u8) -> u8
     } else {
         b'A' - 10 + digit
     }
+}
+
+/// Whether all of the bytes are printed as they are.
+fn are_unescaped(bytes: &[u8]) -> bool
+    ensures { result ≡ list_all is_unescaped bytes.now }
+{
+    let mut so_far = true;
+    // It doesn't end early, so that the processor tests many bytes at once.
+    for byte in bytes {
+        so_far &= is_unescaped(*byte);
+    }
+    so_far
 }
 
 /// The index of the first byte that is escaped.
@@ -124,6 +138,9 @@ fn put_printed<A: Allocator, W: Write>(
     ensures { OnOk result (Sends (W.contents writer.old) (W.contents writer.new)
         buffer.old.items buffer.new.items (printed bytes.now)) }
 {
+    if are_unescaped(bytes) {
+        return put(buffer, writer, bytes);
+    }
     let mut rest = bytes;
     while !rest.is_empty() {
         rest = put_run(buffer, writer, rest)?;
