@@ -17,4 +17,6 @@ mod producer;
 #[cfg(test)]
 mod reads;
 #[cfg(test)]
+mod steps;
+#[cfg(test)]
 mod store;
