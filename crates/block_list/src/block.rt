@@ -1,7 +1,7 @@
 //! One block.
 
-ghost use Rattle.std.specs.Prelude.{◌≡◌, ◌<◌, ◌≤◌, ◌-◌, [], ◌∷◌, ◌++◌, length, take, drop, IfOk, OnOk, OnErr, is_ok, if◌then◌else◌};
-ghost use Rattle.std.specs.List.{HoldsAt, insert};
+ghost use Rattle.std.specs.Prelude.{◌≡◌, ◌<◌, ◌≤◌, [], ◌∷◌, ◌++◌, length, take, drop, IfOk, is_ok, if◌then◌else◌};
+ghost use Rattle.std.specs.List.{insert};
 ghost use Rattle.block_list.specs.declared.block.TheConstants.{LIMIT, HALF};
 
 use std::alloc::{AllocError, Allocator};

@@ -1,6 +1,6 @@
 //! The blocks, and where each starts.
 
-ghost use Rattle.std.specs.Prelude.{◌≡◌, ◌+◌, ◌-◌, ◌*◌, ◌<◌, ◌≤◌, ◌^◌, [], ◌∷◌, ◌++◌, length, take, drop, is_ok, if◌then◌else◌, slice_set, slice_index_or, vec_len, vec_capacity, IfOk, IfSome};
+ghost use Rattle.std.specs.Prelude.{◌≡◌, ◌+◌, ◌<◌, ◌≤◌, ◌^◌, [], ◌∷◌, ◌++◌, length, is_ok, if◌then◌else◌, slice_set, slice_index_or, vec_len, vec_capacity, IfOk, IfSome};
 ghost use Rattle.std.specs.List.{HoldsAt, insert};
 ghost use Rattle.block_list.specs.Blocks.{joined, divided, IsIn};
 ghost use Rattle.block_list.specs.declared.block.TheConstants.{LIMIT, HALF};
@@ -80,6 +80,10 @@ fn insert_reserved<T: Drop, A: Allocator + Copy>(items: &mut Vec<T, A>, i: usize
 
 impl<T: Drop, A: Allocator + Copy> Blocks<T, A> {
     /// Inserts an element at a place, in a block that has room.
+    ///
+    /// # Errors
+    ///
+    /// Out of memory: the blocks are as they were.
     pub(crate) fn insert(&mut self, place: Place, x: T) -> Result<(), AllocError>
         requires block { place.block < length self.old }
         requires within { place.index ≤ length (slice_index_or self.old place.block []) }
@@ -96,7 +100,7 @@ impl<T: Drop, A: Allocator + Copy> Blocks<T, A> {
     }
 
     /// The last block, if it has room.
-    pub(crate) fn last_with_room(&self) -> Option<usize>
+    fn last_with_room(&self) -> Option<usize>
         ensures last { IfSome result (λ k. length self.now ≡ k + 1) }
         ensures room { IfSome result (λ k. length (slice_index_or self.now k []) < LIMIT) }
     {
@@ -109,7 +113,7 @@ impl<T: Drop, A: Allocator + Copy> Blocks<T, A> {
     }
 
     /// Adds an element at the end of the last block, which has room.
-    pub(crate) fn push_in(&mut self, k: usize, x: T) -> Result<(), AllocError>
+    fn push_in(&mut self, k: usize, x: T) -> Result<(), AllocError>
         requires last { length self.old ≡ k + 1 }
         requires room { length (slice_index_or self.old k []) < LIMIT }
         ensures { self.new ≡ (if is_ok result
@@ -121,7 +125,7 @@ impl<T: Drop, A: Allocator + Copy> Blocks<T, A> {
     }
 
     /// Adds a block of one element, where `len` elements stand before it.
-    pub(crate) fn push_block(&mut self, alloc: A, len: usize, x: T) -> Result<(), AllocError>
+    fn push_block(&mut self, alloc: A, len: usize, x: T) -> Result<(), AllocError>
         requires { len ≡ length (joined self.old) }
         ensures { self.new ≡ (if is_ok result then self.old ++ (x ∷ []) ∷ [] else self.old) }
     {
@@ -149,7 +153,7 @@ impl<T: Drop, A: Allocator + Copy> Blocks<T, A> {
 
     /// Splits a full block in two, its first [`HALF`] elements and the others, and answers which block
     /// the others are.
-    pub(crate) fn split(&mut self, k: usize) -> Result<usize, AllocError>
+    fn split(&mut self, k: usize) -> Result<usize, AllocError>
         requires block { k < length self.old }
         requires full { LIMIT ≤ length (slice_index_or self.old k []) }
         requires fits { length (joined self.old) < 2 ^ 64 }
