@@ -4,9 +4,8 @@
 ghost use Rattle.std.specs.Prelude.{◌≡◌, IfOk};
 ghost use Rattle.segment.specs.BatchLists.{IsBatchList};
 
-use crate::batches::nine_at;
 use batch_codec::{Batch, BatchView, view};
-use outside_batches::{EMPTIED, THREE};
+use outside_batches::{EMPTIED, THREE, nine_at};
 use refusing_alloc::Refusing;
 use segment::{BatchStore, VecStore, can_insert};
 use std::alloc::{AllocError, Allocator};

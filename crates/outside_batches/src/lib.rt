@@ -2,6 +2,10 @@
 //! bytes of those that it has a form for, and the same crc of each.
 #![tactic(auto)]
 
+mod changed;
+
+pub use changed::{nine_at, null_at, one, sent, set_producer, three_at};
+
 /// One record at offset 0, key `a`, value `1`.
 pub const A_IS_1: [u8; 70] = [
     0x00, 0x00, 0x00, 0x00, 0x00, 0x00, 0x00, 0x00, 0x00, 0x00, 0x00, 0x3a, 0x00, 0x00, 0x00, 0x00,

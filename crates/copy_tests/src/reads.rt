@@ -1,6 +1,6 @@
 //! What a copy answers from the batches that it keeps.
-use crate::batches::{null_at, one};
 use batch_codec::view;
+use outside_batches::{null_at, one};
 use partition_log::{Delivered, OutOfRange, PartitionLog};
 use segment::VecStore;
 use std::ops::Range;

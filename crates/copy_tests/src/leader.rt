@@ -1,7 +1,6 @@
 //! Batches that are sent to a leader: the answer of each, and what its log then holds.
-use crate::batches::{one, sent};
 use batch_codec::view;
-use outside_batches::{EMPTIED, NO_KEY, THREE};
+use outside_batches::{EMPTIED, NO_KEY, THREE, one, sent};
 use partition_log::{AppendError, Appended, LeaderLog, PartitionLog};
 use segment::VecStore;
 use std::alloc::{AllocError, Allocator};

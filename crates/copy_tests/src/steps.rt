@@ -1,9 +1,8 @@
 //! Generated steps over a leader and three copies: after each, every table is that of one pass over the
 //! plain log within what the copy has seen. The numbers are the same everywhere.
-use crate::batches::set_producer;
 use batch_codec::view;
 use cover_ranges::Cover;
-use outside_batches::{A_IS_1, A_IS_NULL, NINE, THREE};
+use outside_batches::{A_IS_1, A_IS_NULL, NINE, THREE, set_producer};
 use partition_log::{AppendError, Appended, Delivered, LeaderLog, PartitionLog};
 use segment::VecStore;
 use std::alloc::{AllocError, Allocator};

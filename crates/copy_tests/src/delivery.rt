@@ -1,7 +1,6 @@
 //! Deliveries to one copy, in any order: the answer of each, and what the copy then shows.
-use crate::batches::{nine_at, three_at};
 use batch_codec::view;
-use outside_batches::{EMPTIED, NINE, NO_KEY, THREE};
+use outside_batches::{EMPTIED, NINE, NO_KEY, THREE, nine_at, three_at};
 use partition_log::{DeliverError, Delivered, PartitionLog};
 use segment::VecStore;
 use std::test::Fail;

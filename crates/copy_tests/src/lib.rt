@@ -1,0 +1,13 @@
+//! Tests of the public calls of copies and of a leader's log, a file for each subject.
+#![tactic(auto)]
+
+#[cfg(test)]
+mod delivery;
+#[cfg(test)]
+mod delivery_memory;
+#[cfg(test)]
+mod leader;
+#[cfg(test)]
+mod reads;
+#[cfg(test)]
+mod steps;
