@@ -54,6 +54,26 @@ pub(crate) fn plan_insertion(ranges: &[(i64, i64)], first: i64, last: i64) -> Pl
     Plan { start, end, range }
 }
 
+/// Removes the ranges from `start` to before `end`. A range that grows takes none away, and one that
+/// closes a gap takes one away.
+fn remove_between<A: Allocator + Copy>(ranges: &mut Vec<(i64, i64), A>, start: usize, end: usize)
+    requires ordered { start ≤ end }
+    requires within { end ≤ vec_len ranges.old }
+    ensures items { ranges.new.items ≡ take start ranges.old.items ++ drop end ranges.old.items }
+    ensures fewer { vec_len ranges.new ≤ vec_len ranges.old }
+    ensures keeps_memory { vec_capacity ranges.new ≡ vec_capacity ranges.old }
+{
+    if start == end {
+        return;
+    }
+    if start + 1 == end {
+        ranges.remove(start);
+        return;
+    }
+    ranges.copy_within(end.., start);
+    ranges.truncate(ranges.len() - (end - start));
+}
+
 /// Puts `range` in place of those from `start` to before `end`, with one move of what stands behind
 /// them. It takes memory only where there is none to replace and no room.
 pub(crate) fn replace<A: Allocator + Copy>(
@@ -76,7 +96,6 @@ pub(crate) fn replace<A: Allocator + Copy>(
         return Ok(());
     }
     ranges[start] = range;
-    ranges.copy_within(end.., start + 1);
-    ranges.truncate(ranges.len() - (end - start - 1));
+    remove_between(ranges, start + 1, end);
     Ok(())
 }
