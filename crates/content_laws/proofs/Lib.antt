@@ -21,3 +21,4 @@ pub mod CopyClean
 pub mod CopyStarts
 pub mod CopyJoin
 pub mod LeaderCopies
+pub mod LeaderVerdicts

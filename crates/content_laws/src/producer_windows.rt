@@ -11,6 +11,7 @@ ghost use Rattle.content.specs.Content.{Content, IsContent, add};
 ghost use Rattle.content.specs.Cleaning.{clean};
 ghost use Rattle.content.specs.Logs.{IsPlainLog, heads_inside};
 ghost use Rattle.content.specs.Copies.{IsCopy};
+ghost use Rattle.content.specs.Verdicts.{verdict_on};
 ghost use Rattle.content.specs.LegalLogs.{IsNew, IsLeaderCopy};
 ghost use Rattle.content.specs.Windows.{heads, is_in_window, window, producer_window, entry_of, with_entry, heads_from, EpochsNeverFall};
 
@@ -61,12 +62,18 @@ pub fn a_copy_keeps_the_window()
         → window (heads c.kept) p ≡ window (heads_inside c.cover log) p }
 {}
 
-/// The batches that a leader's copy keeps have the windows of its log from the start on. So the verdict
-/// over what is kept is the one over the log.
+/// The batches that a leader's copy keeps have the windows of its log from the start on.
 pub fn a_leaders_copy_has_the_logs_window()
     ensures { (c : Content) (log : List BatchValue) (p : ℤ) → IsContent c → IsPlainLog log
         → IsLeaderCopy c log → pos 0 ≤ℤ p
         → window (heads c.kept) p ≡ window (heads_from c.start (heads log)) p }
+{}
+
+/// So the verdict over what a leader's copy keeps is the one over its log from the start on.
+pub fn a_leaders_verdict_is_its_logs()
+    ensures { (c : Content) (log : List BatchValue) (h : BatchHead) → IsContent c → IsPlainLog log
+        → IsLeaderCopy c log
+        → verdict_on (heads c.kept) h ≡ verdict_on (heads_from c.start (heads log)) h }
 {}
 
 /// A leader's copy stays one when a new batch is appended to its log and added, and when it is cleaned.
