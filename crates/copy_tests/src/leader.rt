@@ -97,7 +97,7 @@ fn appends(rt: HostRuntime) -> Result<(), Fail> {
     if log.copy().len() == 13 {
         let head = log.copy().at(5).head();
         assert!(rt; head.base == 5 && head.leader_epoch == 0);
-        assert_eq!(rt; log.copy().bytes_of(5)[8..], one(99, 0, b'k', b'v')[8..]);
+        assert_eq!(rt; log.copy().bytes_of(5), one(5, 0, b'k', b'v').as_slice());
     }
     Ok(())
 }

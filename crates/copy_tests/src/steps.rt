@@ -73,7 +73,7 @@ fn shows_the_log<A: Allocator + Copy>(
         if is_shown != (value != 0) {
             return Ok(false);
         }
-        shown += usize::from(is_shown);
+        shown = usize::from(is_shown).saturating_add(shown);
     }
     Ok(table.len() == shown)
 }
@@ -185,8 +185,8 @@ impl<A: Allocator + Copy> World<A> {
             producer.base = base;
             if producer.id >= 0 {
                 producer.epoch = epoch;
-                let count = self.end().saturating_sub(base);
-                producer.next = sequence.wrapping_add(count as i32) & i32::MAX;
+                let count = i32::try_from(self.end().saturating_sub(base)).unwrap_or(0);
+                producer.next = sequence.wrapping_add(count) & i32::MAX;
             }
         }
         Ok(true)
