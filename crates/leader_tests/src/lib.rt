@@ -1,0 +1,5 @@
+//! Tests of the public calls of a leader's log, a file for each subject.
+#![tactic(auto)]
+
+#[cfg(test)]
+mod memory;
