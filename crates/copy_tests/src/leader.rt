@@ -1,7 +1,7 @@
 //! Batches that are sent to a leader: the answer of each, and what its log then holds.
 use batch_codec::view;
-use outside_batches::{EMPTIED, NO_KEY, THREE, one, sent};
-use partition_log::{AppendError, Appended, LeaderLog, PartitionLog};
+use outside_batches::{EMPTIED, NINE, NO_KEY, THREE, nine_at, one, sent};
+use partition_log::{AppendError, LeaderLog, PartitionLog};
 use segment::VecStore;
 use std::alloc::{AllocError, Allocator};
 use std::test::Fail;
@@ -11,94 +11,90 @@ fn empty_log<A: Allocator + Copy>(alloc: A) -> Result<LeaderLog<VecStore<A>>, Al
     LeaderLog::from_copy(PartitionLog::new(alloc)).map_err(|_| AllocError)
 }
 
-/// The answer to a batch that is new.
-fn at(base: i64) -> Result<Appended, AppendError> {
-    Ok(Appended {
-        base,
-        repeat: false,
-    })
+/// A batch that is sent: a producer's, with its epoch and its sequence number, or one of another
+/// program.
+#[derive(Clone, Copy)]
+enum Sent {
+    Of(i64, i16, i32),
+    Other(&'static [u8]),
 }
 
-/// The answer to a batch that was appended before.
-fn again(base: i64) -> Result<Appended, AppendError> {
-    Ok(Appended { base, repeat: true })
+/// The base offset that the leader answers, and whether it had appended the batch before.
+type Answer = Result<(i64, bool), AppendError>;
+
+/// Sends a batch, and tells whether the leader answers so, and gives out offsets only where it is new.
+fn is_answered<A: Allocator + Copy>(
+    log: &mut LeaderLog<VecStore<A>>,
+    bytes: &[u8],
+    wanted: Answer,
+) -> Result<bool, Fail> {
+    let end = log.copy().end();
+    let answer = match log.append(&view(bytes)?) {
+        Ok(appended) => Ok((appended.base, appended.repeat)),
+        Err(why) => Err(why),
+    };
+    let is_new = matches!(answer, Ok((_, false)));
+    Ok(answer == wanted && is_new == (log.copy().end() != end))
+}
+
+/// Sends a batch of the table.
+fn is_right<A: Allocator + Copy>(
+    log: &mut LeaderLog<VecStore<A>>,
+    batch: Sent,
+    wanted: Answer,
+) -> Result<bool, Fail> {
+    match batch {
+        Sent::Of(id, epoch, sequence) => is_answered(log, &sent(id, epoch, sequence), wanted),
+        Sent::Other(bytes) => is_answered(log, bytes, wanted),
+    }
+}
+
+/// Whether the log has the batch of another base at its own.
+fn has_nine<A: Allocator + Copy>(log: &PartitionLog<VecStore<A>>) -> bool {
+    log.len() > 5 && log.at(5).head().base == 5 && log.bytes_of(5) == nine_at(5).as_slice()
 }
 
 #[test]
 fn appends(rt: HostRuntime) -> Result<(), Fail> {
-    let rows: [(&str, &[u8], Result<Appended, AppendError>); 26] = [
-        ("records missing", &EMPTIED, Err(AppendError::NotWhole)),
-        ("a null key", &NO_KEY, Err(AppendError::NoKey)),
-        (
-            "an id of -2",
-            &sent(-2, 0, 0),
-            Err(AppendError::BadProducer),
-        ),
-        ("no epoch", &sent(7, -1, 0), Err(AppendError::BadProducer)),
-        (
-            "no sequence number",
-            &sent(7, 0, -1),
-            Err(AppendError::BadProducer),
-        ),
-        ("the first of 7", &sent(7, 0, 0), at(0)),
-        ("the second", &sent(7, 0, 1), at(1)),
-        ("the third", &sent(7, 0, 2), at(2)),
-        ("the fourth", &sent(7, 0, 3), at(3)),
-        ("the fifth", &sent(7, 0, 4), at(4)),
-        (
-            "of no producer, with another base",
-            &one(99, 0, b'k', b'v'),
-            at(5),
-        ),
-        ("the first again", &sent(7, 0, 0), again(0)),
-        ("the fifth again", &sent(7, 0, 4), again(4)),
-        ("the sixth", &sent(7, 0, 5), at(6)),
-        (
-            "the first once more",
-            &sent(7, 0, 0),
-            Err(AppendError::OutOfOrder),
-        ),
-        ("the second again", &sent(7, 0, 1), again(1)),
-        ("one left out", &sent(7, 0, 7), Err(AppendError::OutOfOrder)),
-        ("three records", &THREE, at(7)),
-        ("the last number of 8", &sent(8, 0, i32::MAX), at(10)),
-        ("numbers begin anew", &sent(8, 0, 0), at(11)),
-        (
-            "a later epoch, not from 0",
-            &sent(8, 1, 3),
-            Err(AppendError::OutOfOrder),
-        ),
-        ("a later epoch", &sent(8, 1, 0), at(12)),
-        (
-            "the epoch before it",
-            &sent(8, 0, 1),
-            Err(AppendError::OldEpoch),
-        ),
-        ("the later epoch again", &sent(8, 1, 0), again(12)),
-        ("7 goes on", &sent(7, 0, 6), at(13)),
-        ("of producer 0", &sent(0, 0, 3), at(14)),
+    let not_whole = Err(AppendError::NotWhole);
+    let no_key = Err(AppendError::NoKey);
+    let bad_producer = Err(AppendError::BadProducer);
+    let out_of_order = Err(AppendError::OutOfOrder);
+    let old_epoch = Err(AppendError::OldEpoch);
+    let rows: [(&str, Sent, Answer); 26] = [
+        ("records missing", Sent::Other(&EMPTIED), not_whole),
+        ("a null key", Sent::Other(&NO_KEY), no_key),
+        ("an id of -2", Sent::Of(-2, 0, 0), bad_producer),
+        ("no epoch", Sent::Of(7, -1, 0), bad_producer),
+        ("no sequence number", Sent::Of(7, 0, -1), bad_producer),
+        ("the first of 7", Sent::Of(7, 0, 0), Ok((0, false))),
+        ("the second", Sent::Of(7, 0, 1), Ok((1, false))),
+        ("the third", Sent::Of(7, 0, 2), Ok((2, false))),
+        ("the fourth", Sent::Of(7, 0, 3), Ok((3, false))),
+        ("the fifth", Sent::Of(7, 0, 4), Ok((4, false))),
+        ("of no producer", Sent::Other(&NINE), Ok((5, false))),
+        ("the first again", Sent::Of(7, 0, 0), Ok((0, true))),
+        ("the fifth again", Sent::Of(7, 0, 4), Ok((4, true))),
+        ("the sixth", Sent::Of(7, 0, 5), Ok((6, false))),
+        ("the first once more", Sent::Of(7, 0, 0), out_of_order),
+        ("the second again", Sent::Of(7, 0, 1), Ok((1, true))),
+        ("one left out", Sent::Of(7, 0, 7), out_of_order),
+        ("three records", Sent::Other(&THREE), Ok((7, false))),
+        ("the last of 8", Sent::Of(8, 0, i32::MAX), Ok((10, false))),
+        ("from 0 again", Sent::Of(8, 0, 0), Ok((11, false))),
+        ("an epoch, not from 0", Sent::Of(8, 1, 3), out_of_order),
+        ("a later epoch", Sent::Of(8, 1, 0), Ok((12, false))),
+        ("the epoch before it", Sent::Of(8, 0, 1), old_epoch),
+        ("that epoch again", Sent::Of(8, 1, 0), Ok((12, true))),
+        ("7 goes on", Sent::Of(7, 0, 6), Ok((13, false))),
+        ("of producer 0", Sent::Of(0, 0, 3), Ok((14, false))),
     ];
     let mut log = empty_log(rt.alloc())?;
-    for (name, bytes, wanted) in rows {
-        let end = log.copy().end();
-        assert_eq!(rt; log.append(&view(bytes)?), wanted, "{name}");
-        if !matches!(
-            wanted,
-            Ok(Appended {
-                base: _,
-                repeat: false
-            })
-        ) {
-            assert_eq!(rt; log.copy().end(), end, "{name}");
-        }
+    for (name, batch, wanted) in rows {
+        assert!(rt; is_right(&mut log, batch, wanted)?, "{name}");
     }
-    assert!(rt; log.copy().end() == 15 && log.copy().len() == 13);
+    assert!(rt; log.copy().end() == 15 && log.copy().len() == 13 && has_nine(log.copy()));
     assert_eq!(rt; log.copy().cover().ranges(), [(0, 14)].as_slice());
-    if log.copy().len() == 13 {
-        let head = log.copy().at(5).head();
-        assert!(rt; head.base == 5 && head.leader_epoch == 0);
-        assert_eq!(rt; log.copy().bytes_of(5), one(5, 0, b'k', b'v').as_slice());
-    }
     Ok(())
 }
 

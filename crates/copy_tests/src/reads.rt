@@ -3,29 +3,62 @@ use batch_codec::view;
 use outside_batches::{null_at, one};
 use partition_log::{Delivered, OutOfRange, PartitionLog};
 use segment::VecStore;
+use std::alloc::Allocator;
 use std::ops::Range;
 use std::test::Fail;
 
+/// A copy to which these batches were delivered, each of them new.
+fn copy_of<A: Allocator + Copy>(
+    alloc: A,
+    batches: &[&[u8]],
+) -> Result<PartitionLog<VecStore<A>>, Fail> {
+    let mut log = PartitionLog::new(alloc);
+    for bytes in batches {
+        if log.deliver(&view(bytes)?)? != Delivered::Added {
+            return Err(Fail::new("it was there"));
+        }
+    }
+    Ok(log)
+}
+
+/// A copy that has seen the offset 3 and then the offset 1.
+fn with_gaps<A: Allocator + Copy>(alloc: A) -> Result<PartitionLog<VecStore<A>>, Fail> {
+    copy_of(
+        alloc,
+        &[&one(3, 3000, b'b', b'3'), &one(1, 1000, b'b', b'2')],
+    )
+}
+
+/// Whether a copy that has seen nothing answers so.
+fn is_empty<A: Allocator + Copy>(log: &PartitionLog<VecStore<A>>) -> bool {
+    (log.start(), log.end(), log.len()) == (0, 0, 0)
+        && log.get(b"b").is_none()
+        && log.fetch(0, 100, true) == Ok(0..0)
+        && log.by_time(i64::MIN).is_none()
+}
+
+/// Whether the batches of a copy with gaps are those that came.
+fn has_both<A: Allocator + Copy>(log: &PartitionLog<VecStore<A>>) -> bool {
+    log.len() == 2
+        && log.at(0).head().base == 1
+        && log.bytes_of(1) == one(3, 3000, b'b', b'3').as_slice()
+}
+
 #[test]
 fn a_copy_with_gaps(rt: HostRuntime) -> Result<(), Fail> {
-    let later = one(3, 3000, b'b', b'3');
-    let earlier = one(1, 1000, b'b', b'2');
-    let mut log = PartitionLog::<VecStore<_>>::new(rt.alloc());
-    assert!(rt; log.start() == 0 && log.end() == 0 && log.get(b"b").is_none());
-    assert_eq!(rt; log.fetch(0, 100, true), Ok(0..0));
-    assert_eq!(rt; log.by_time(i64::MIN), None);
-    for (bytes, wanted) in [
-        (&later, Delivered::Added),
-        (&earlier, Delivered::Added),
-        (&later, Delivered::Repeat),
-    ] {
-        assert_eq!(rt; log.deliver(&view(bytes)?), Ok(wanted));
-    }
-    assert!(rt; log.start() == 0 && log.end() == 4 && log.len() == 2);
+    assert!(rt; is_empty(&PartitionLog::new(rt.alloc())));
+    let log = with_gaps(rt.alloc())?;
+    assert!(rt; has_both(&log) && (log.start(), log.end()) == (0, 4));
     assert_eq!(rt; log.cover().ranges(), [(1, 1), (3, 3)].as_slice());
     assert_eq!(rt; log.cover().first_gap(0), 0);
     assert_eq!(rt; log.get(b"b"), Some(b"3".as_slice()));
-    let fetches: [(i64, usize, bool, Result<Range<usize>, OutOfRange>); 9] = [
+    Ok(())
+}
+
+#[test]
+fn fetches(rt: HostRuntime) -> Result<(), Fail> {
+    let log = with_gaps(rt.alloc())?;
+    let rows: [(i64, usize, bool, Result<Range<usize>, OutOfRange>); 9] = [
         (0, 140, false, Ok(0..2)),
         (0, 139, false, Ok(0..1)),
         (0, 69, false, Ok(0..0)),
@@ -36,13 +69,19 @@ fn a_copy_with_gaps(rt: HostRuntime) -> Result<(), Fail> {
         (5, 0, true, Err(OutOfRange)),
         (-1, 0, true, Err(OutOfRange)),
     ];
-    for (offset, limit, force, wanted) in fetches {
+    for (offset, limit, force, wanted) in rows {
         assert_eq!(rt;
             log.fetch(offset, limit, force),
             wanted,
             "{offset} {limit} {force}"
         );
     }
+    Ok(())
+}
+
+#[test]
+fn times(rt: HostRuntime) -> Result<(), Fail> {
+    let log = with_gaps(rt.alloc())?;
     for (time, wanted) in [
         (i64::MIN, Some((1000, 1))),
         (1000, Some((1000, 1))),
@@ -52,32 +91,19 @@ fn a_copy_with_gaps(rt: HostRuntime) -> Result<(), Fail> {
     ] {
         assert_eq!(rt; log.by_time(time), wanted, "{time}");
     }
-    if log.len() == 2 {
-        assert_eq!(rt; log.at(0).head().base, 1);
-        assert_eq!(rt; log.bytes_of(1), later.as_slice());
-    }
     Ok(())
 }
 
 #[test]
 fn a_deleted_key_stays_deleted(rt: HostRuntime) -> Result<(), Fail> {
-    let mut log = PartitionLog::<VecStore<_>>::new(rt.alloc());
-    for bytes in [
-        null_at(2).as_slice(),
-        &one(0, 0, b'a', b'1'),
-        &one(1, 0, b'b', b'2'),
-    ] {
-        assert_eq!(rt; log.deliver(&view(bytes)?), Ok(Delivered::Added));
-    }
+    let batches: [&[u8]; 3] = [&null_at(2), &one(0, 0, b'a', b'1'), &one(1, 0, b'b', b'2')];
+    let mut log = copy_of(rt.alloc(), &batches)?;
     let copy = log.try_clone()?;
-    assert_eq!(rt;
-        log.deliver(&view(&one(3, 0, b'a', b'4'))?),
-        Ok(Delivered::Added)
-    );
+    log.deliver(&view(&one(3, 0, b'a', b'4'))?)?;
     assert_eq!(rt; log.get(b"a"), Some(b"4".as_slice()));
     assert_eq!(rt; copy.get(b"a"), None);
     assert_eq!(rt; copy.get(b"b"), Some(b"2".as_slice()));
-    assert!(rt; copy.end() == 3 && copy.len() == 3);
+    assert_eq!(rt; (copy.start(), copy.end(), copy.len()), (0, 3, 3));
     assert_eq!(rt; copy.cover().ranges(), [(0, 2)].as_slice());
     Ok(())
 }
