@@ -2,9 +2,11 @@
 //! in turn.
 
 ghost use Rattle.std.specs.Prelude.{◌≡◌, IfOk};
+ghost use Rattle.batch_codec.specs.Reading.{IsEncoding, batch_of};
+ghost use Rattle.batch_codec.specs.Rebase.{with_base};
 ghost use Rattle.segment.specs.BatchLists.{IsBatchList};
 
-use batch_codec::{Batch, BatchView, view};
+use batch_codec::{Batch, BatchView, set_base, view};
 use outside_batches::{EMPTIED, THREE, nine_at};
 use refusing_alloc::Refusing;
 use segment::{BatchStore, VecStore, can_insert};
@@ -28,6 +30,37 @@ fn insert<S: BatchStore>(
     Ok(Some(store.insert(batch)?))
 }
 
+/// The bytes of a batch with another base offset and leader epoch.
+fn rebased<A: Allocator + Copy>(
+    alloc: A,
+    batch: &BatchView<'_>,
+    base: i64,
+    leader_epoch: i32,
+) -> Result<Vec<u8, A>, AllocError>
+    ensures encoding { IfOk result (λ bytes. IsEncoding bytes.items) }
+    ensures batch { IfOk result
+        (λ bytes. batch_of bytes.items ≡ with_base base leader_epoch batch.now) }
+{
+    let mut bytes = Vec::from_slice(alloc, batch.bytes())?;
+    set_base(&mut bytes, base, leader_epoch);
+    Ok(bytes)
+}
+
+/// Inserts a batch with another base offset and leader epoch, where it may be inserted.
+fn insert_rebased<S: BatchStore, A: Allocator + Copy>(
+    alloc: A,
+    store: &mut S,
+    batch: &BatchView<'_>,
+    base: i64,
+    leader_epoch: i32,
+) -> Result<Option<usize>, AllocError> {
+    let bytes = rebased(alloc, batch, base, leader_epoch)?;
+    if !can_insert(store, &BatchView::open(&bytes)) {
+        return Ok(None);
+    }
+    Ok(Some(store.insert_rebased(batch, base, leader_epoch)?))
+}
+
 /// Whether the batches have these base offsets, and the bytes that are at each index are those of
 /// the batch there.
 fn has_bases<S: BatchStore>(store: &S, bases: &[i64]) -> bool {
@@ -42,6 +75,35 @@ fn has_bases<S: BatchStore>(store: &S, bases: &[i64]) -> bool {
         }
     }
     true
+}
+
+/// Inserts a batch at another base offset, a second time where an allocation failed, and answers
+/// whether the store was then as it had been.
+fn rebases_again<S: BatchStore, A: Allocator + Copy>(
+    alloc: A,
+    store: &mut S,
+    batch: &BatchView<'_>,
+    base: i64,
+) -> Result<bool, AllocError> {
+    let bases = read_bases(alloc, store)?;
+    if insert_rebased(alloc, store, batch, base, 1).is_ok() {
+        return Ok(true);
+    }
+    let same = has_bases(store, &bases);
+    insert_rebased(alloc, store, batch, base, 1)?;
+    Ok(same)
+}
+
+/// The base offsets of a store's batches.
+fn read_bases<S: BatchStore, A: Allocator + Copy>(
+    alloc: A,
+    store: &S,
+) -> Result<Vec<i64, A>, AllocError> {
+    let mut bases = Vec::new(alloc);
+    for i in 0..store.len() {
+        bases.push(store.at(i).head().base)?;
+    }
+    Ok(bases)
 }
 
 /// The batches of a store, read into memory.
@@ -117,6 +179,34 @@ fn batches_go_in_order(rt: HostRuntime) -> Result<(), Fail> {
 }
 
 #[test]
+fn a_batch_takes_another_base(rt: HostRuntime) -> Result<(), Fail> {
+    let alloc = rt.alloc();
+    let mut store = VecStore::new(alloc);
+    let batch = view(&THREE)?;
+    let rows: [(&str, i64, i32, Option<usize>, &[i64]); 6] = [
+        ("the first", 5, 7, Some(0), &[5]),
+        ("after all", 11, -1, Some(1), &[5, 11]),
+        ("between", 8, i32::MAX, Some(1), &[5, 8, 11]),
+        ("its own base", 0, 0, Some(0), &[0, 5, 8, 11]),
+        ("inside a span", 3, 7, None, &[0, 5, 8, 11]),
+        ("below 0", -1, 7, None, &[0, 5, 8, 11]),
+    ];
+    for (name, base, epoch, wanted, bases) in rows {
+        let found = insert_rebased(alloc, &mut store, &batch, base, epoch)?;
+        assert_eq!(rt; found, wanted, "{name}");
+        assert!(rt; has_bases(&store, bases), "{name}");
+        if let Some(i) = found {
+            let bytes = rebased(alloc, &batch, base, epoch)?;
+            assert!(rt;
+                i < store.len() && store.bytes_of(i) == bytes.as_slice(),
+                "{name}"
+            );
+        }
+    }
+    Ok(())
+}
+
+#[test]
 fn a_list_is_as_before_an_allocation_that_fails(rt: HostRuntime) -> Result<(), Fail> {
     let rows: [(&str, &[u8], usize, &[i64], &[i64]); 3] = [
         ("the first", &nine_at(5), 0, &[], &[5]),
@@ -138,11 +228,14 @@ fn a_list_is_as_before_an_allocation_that_fails(rt: HostRuntime) -> Result<(), F
             }
             assert!(rt; has_bases(&store, after), "{name}");
         }
+        let three = view(&THREE)?;
+        assert!(rt; rebases_again(rt.alloc(), &mut store, &three, 6)?);
+        assert!(rt; has_bases(&store, &[0, 3, 5, 6]));
         let copy = match store.try_clone() {
             Ok(copy) => copy,
             Err(_) => store.try_clone()?,
         };
-        assert!(rt; has_bases(&copy, &[0, 3, 5]));
+        assert!(rt; has_bases(&copy, &[0, 3, 5, 6]));
         let mut other = VecStore::new(&heap);
         let batch = view(&EMPTIED)?;
         if insert(&mut other, &batch).is_err() {
@@ -152,13 +245,95 @@ fn a_list_is_as_before_an_allocation_that_fails(rt: HostRuntime) -> Result<(), F
             assert!(rt; has_bases(&other, &[0]));
             other.replace(read_all(rt.alloc(), &store)?)?;
         }
-        assert!(rt; has_bases(&other, &[0, 3, 5]));
-        assert!(rt; has_bases(&store, &[0, 3, 5]));
+        assert!(rt; has_bases(&other, &[0, 3, 5, 6]));
+        assert!(rt; has_bases(&store, &[0, 3, 5, 6]));
         passed = heap.calls() < refused;
         if passed {
             break;
         }
     }
     assert!(rt; passed);
+    Ok(())
+}
+
+/// More batches than one block of a store takes.
+const MANY: u16 = 140;
+
+/// Each batch asks for an allocation at least, so this one comes before the first block is full.
+const FIRST_FOR_MANY: u64 = 120;
+
+/// More allocations than so many batches ask for.
+const MOST_FOR_MANY: u64 = 500;
+
+/// The order in which batches with the base offsets from 0 to below [`MANY`] come.
+#[derive(Clone, Copy, Debug)]
+enum Order {
+    Rising,
+    Falling,
+    FromTheMiddle,
+}
+
+impl Order {
+    /// The base offset of the batch that comes at an index below [`MANY`].
+    fn base(self, i: u16) -> i64 {
+        let i = i64::from(i);
+        let many = i64::from(MANY);
+        match self {
+            Order::Rising => i,
+            Order::Falling => many - 1 - i,
+            Order::FromTheMiddle if i % 2 == 0 => many / 2 + i / 2,
+            Order::FromTheMiddle => many / 2 - 1 - i / 2,
+        }
+    }
+}
+
+/// The base offsets of the first batches of an order, rising.
+fn first_bases<A: Allocator + Copy>(
+    alloc: A,
+    order: Order,
+    count: u16,
+) -> Result<Vec<i64, A>, AllocError> {
+    let mut bases = Vec::new(alloc);
+    for i in 0..count {
+        bases.push(order.base(i))?;
+    }
+    bases.sort_unstable();
+    Ok(bases)
+}
+
+/// Inserts many batches, one of them again where an allocation failed, and answers whether the store
+/// was as it had been then, and has them all.
+fn insert_many<S: BatchStore>(rt: &HostRuntime, store: &mut S, order: Order) -> Result<bool, Fail> {
+    for i in 0..MANY {
+        let bytes = nine_at(order.base(i));
+        let batch = view(&bytes)?;
+        if insert(store, &batch).is_err() {
+            if !has_bases(store, &first_bases(rt.alloc(), order, i)?) {
+                return Ok(false);
+            }
+            insert(store, &batch)?;
+        }
+    }
+    Ok(has_bases(store, &first_bases(rt.alloc(), order, MANY)?))
+}
+
+#[test]
+fn many_batches_are_as_before_an_allocation_that_fails(rt: HostRuntime) -> Result<(), Fail> {
+    for order in [Order::Rising, Order::Falling, Order::FromTheMiddle] {
+        let mut passed = false;
+        for refused in FIRST_FOR_MANY..MOST_FOR_MANY {
+            let heap = Refusing::new(rt.alloc(), refused);
+            let mut store = VecStore::new(&heap);
+            assert!(rt;
+                insert_many(&rt, &mut store, order)?,
+                "{order:?}, {refused}"
+            );
+            passed = heap.calls() < refused;
+            if passed {
+                break;
+            }
+        }
+        assert!(rt; passed, "{order:?}");
+    }
     Ok(())
 }

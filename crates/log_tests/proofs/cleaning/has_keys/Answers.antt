@@ -1,4 +1,4 @@
-use Rattle.std.proofs.Common.{◌≡◌, ap, ◌∙◌, rules}
+use Rattle.std.proofs.Common.{ap, ◌∙◌, rules}
 use Rattle.std.specs.Prelude.{IsSome}
 use Rattle.batch_codec.specs.Values.{RecordValue, BatchValue}
 use Rattle.log_tests.proofs.Contents.{all_next, all_done}

@@ -1,8 +1,7 @@
-use Rattle.std.proofs.Common.{◌≡◌, ◌+◌, ℤ, pos, ◌+ℤ◌, take, sym, ap, subst, ◌∙◌, FitsSigned, rules, arith}
+use Rattle.std.proofs.Common.{◌+◌, ℤ, pos, ◌+ℤ◌, take, sym, subst, FitsSigned, rules}
 use Rattle.std.specs.Prelude.{◌<ℤ◌}
 use Rattle.std.specs.Int.{w64}
-use Rattle.std.proofs.lemmas.Int.{ints, to_z-of_z}
-use Rattle.batch_codec.specs.Values.{BatchValue}
+use Rattle.std.proofs.lemmas.Int.{to_z-of_z}
 use Rattle.batch_codec.specs.Offsets.{first_offset}
 use Rattle.log_tests.proofs.Contents.{Judged, judged_next, judged_all}
 use Rattle.log_tests.proofs.cleaning.is_content.Goals as goal
