@@ -1,0 +1,1 @@
+-- Reading fields finds their encoding, and each fault.

@@ -1,0 +1,6 @@
+//! Request frames as a broker's clients send them, and the responses. Kafka's documentation, "Protocol Guide".
+#![tactic(auto)]
+
+pub mod error;
+
+pub use error::{FieldFault, FrameError};
