@@ -82,3 +82,7 @@ read_fields end bytes = Ok (nothing, bytes)
 read_fields (one f d) bytes = then_read (read_field f bytes) (read_fields d)
 read_fields (array x d) bytes = then_read (read_array (read_fields x) bytes) (read_fields d)
 read_fields (array_or_null x d) bytes = then_read (read_array_or_null (read_fields x) bytes) (read_fields d)
+
+abbrev pub map_ok : {A B : Type 0} → (A → B) → Result A FieldFault → Result B FieldFault
+map_ok f (Ok x) = Ok (f x)
+map_ok f (Err e) = Err e

@@ -2,5 +2,7 @@
 #![tactic(auto)]
 
 pub mod error;
+mod array;
+mod fields;
 
 pub use error::{FieldFault, FrameError};
