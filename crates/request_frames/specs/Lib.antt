@@ -1,3 +1,4 @@
 pub mod Fields
 pub mod Reading
+pub mod Types
 pub mod Arrays
