@@ -2,3 +2,5 @@ pub mod Fields
 pub mod Reading
 pub mod Types
 pub mod Arrays
+pub mod Requests
+pub mod Views

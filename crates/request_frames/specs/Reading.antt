@@ -66,12 +66,12 @@ read_count_or_null read (negsuc (suc n)) bytes = Err Malformed
 
 unfoldable pub read_array : {X : Type 0} → (List ℕ → At X) → List ℕ → At (List X)
 read_array read bytes = do
-  n ← read_number size32 bytes
+  n ← read_field (number size32) bytes
   read_count read n.0 n.1
 
 unfoldable pub read_array_or_null : {X : Type 0} → (List ℕ → At X) → List ℕ → At (Option (List X))
 read_array_or_null read bytes = do
-  n ← read_number size32 bytes
+  n ← read_field (number size32) bytes
   read_count_or_null read n.0 n.1
 
 pub nothing : Unit {0}

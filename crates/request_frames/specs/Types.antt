@@ -39,6 +39,10 @@ infixr 5 ◌⨾◌
 abbrev pub ◌⨾◌ : Field → Fields → Fields
 f ⨾ d = one f d
 
--- topics: an array of a name and the topic's array of entries
-abbrev pub topics_of : (entry rest : Fields) → Fields
-topics_of entry rest = array (string ⨾ array entry end) rest
+-- a topic: its name, and an array of entries for its partitions
+abbrev pub topic : (partition : Fields) → Fields
+topic partition = string ⨾ array partition end
+
+-- an array of topics, and the fields that follow it
+abbrev pub topics_of : (partition rest : Fields) → Fields
+topics_of partition rest = array (topic partition) rest

@@ -1,8 +1,9 @@
 //! Arrays of a frame, read again element by element from the frame's bytes.
 
 ghost use Rattle.std.specs.Prelude.{◌≡◌};
+ghost use Rattle.std.specs.Option.{option_map};
 ghost use Rattle.std.specs.Iterator.{YieldsFirstBy, item_count};
-ghost use Rattle.request_frames.specs.Reading.{Gives, map_ok, read_array, read_times, read_fields};
+ghost use Rattle.request_frames.specs.Reading.{Gives, map_ok, read_array, read_array_or_null, read_times, read_fields};
 ghost use Rattle.request_frames.specs.Arrays.{values};
 
 use crate::error::FieldFault;
@@ -101,4 +102,28 @@ pub(crate) fn array_at<'a, E: Element<'a> + Drop>(
         element: PhantomData,
     };
     Ok((array, rest))
+}
+
+/// The array at the front, or null, and the bytes after it.
+#[tactic(auto, using(crate::proofs::Arrays::array_read), unfolding(crate::specs::Reading::read_array_or_null))]
+pub(crate) fn nullable_array_at<'a, E: Element<'a> + Drop>(
+    bytes: &'a [u8],
+) -> Result<(Option<Array<'a, E>>, &'a [u8]), FieldFault>
+    ensures { Gives (λ x. (option_map (values E.fields) x.0, x.1.now)) result
+        (read_array_or_null (read_fields E.fields) bytes.now) }
+{
+    let (count, bytes) = int32(bytes)?;
+    if count == -1 {
+        return Ok((None, bytes));
+    }
+    let Ok(count) = u32::try_from(count) else {
+        return Err(FieldFault::Malformed);
+    };
+    let rest = after_elements::<E>(count, bytes)?;
+    let array = Array {
+        left: count,
+        bytes,
+        element: PhantomData,
+    };
+    Ok((Some(array), rest))
 }

@@ -2,7 +2,9 @@
 #![tactic(auto)]
 
 pub mod error;
+pub mod api;
 mod array;
 mod fields;
+pub mod requests;
 
 pub use error::{FieldFault, FrameError};

@@ -1,0 +1,193 @@
+-- The requests that are read: their fields, what they say, and which frames are refused. Kafka's documentation,
+-- "Protocol Guide", sections "Request Header" and "The Messages".
+use Rattle.std.specs.Prelude.{◌≡◌, ◌≢◌, ℕ, ◌<◌, ◌≤◌, ℤ, pos, List, [], length, drop, map, Option, Some, None}
+use Rattle.std.specs.Option.{option_map}
+use Rattle.request_frames.specs.declared.api.Api.{Api}
+use Rattle.request_frames.specs.declared.api.Api.TheVariants.{Produce, Fetch, ListOffsets, Metadata}
+use Rattle.request_frames.specs.declared.error.FieldFault.{FieldFault}
+use Rattle.request_frames.specs.declared.error.FieldFault.TheVariants as field
+use Rattle.request_frames.specs.declared.error.FrameError.{FrameError}
+use Rattle.request_frames.specs.declared.error.FrameError.TheVariants as frame
+use Rattle.request_frames.specs.Fields.{size16, size32, Fields, end, array, array_or_null, Value, number_at, Encodes, Breaks}
+use Rattle.request_frames.specs.Types.{int8, int16, int32, int64, string, nullable_string, nullable_bytes, topic, topics_of, ◌⨾◌}
+
+-- ---- the table of requests
+
+abbrev pub api_key : Api → ℤ
+api_key Produce = pos 0
+api_key Fetch = pos 1
+api_key ListOffsets = pos 2
+api_key Metadata = pos 3
+
+abbrev pub api_version : Api → ℤ
+api_version Produce = pos 3
+api_version Fetch = pos 4
+api_version ListOffsets = pos 1
+api_version Metadata = pos 1
+
+-- index, records
+abbrev pub produce_partition : Fields
+produce_partition = int32 ⨾ nullable_bytes ⨾ end
+
+-- transactional_id, acks, timeout_ms, topics
+abbrev pub produce_fields : Fields
+produce_fields = nullable_string ⨾ int16 ⨾ int32 ⨾ topics_of produce_partition end
+
+-- partition, fetch_offset, partition_max_bytes
+abbrev pub fetch_partition : Fields
+fetch_partition = int32 ⨾ int64 ⨾ int32 ⨾ end
+
+-- replica_id, max_wait_ms, min_bytes, max_bytes, isolation_level, topics
+abbrev pub fetch_fields : Fields
+fetch_fields = int32 ⨾ int32 ⨾ int32 ⨾ int32 ⨾ int8 ⨾ topics_of fetch_partition end
+
+-- partition, timestamp
+abbrev pub list_offsets_partition : Fields
+list_offsets_partition = int32 ⨾ int64 ⨾ end
+
+-- replica_id, topics
+abbrev pub list_offsets_fields : Fields
+list_offsets_fields = int32 ⨾ topics_of list_offsets_partition end
+
+-- the names of topics, or null
+abbrev pub metadata_fields : Fields
+metadata_fields = array_or_null (string ⨾ end) end
+
+-- what follows the client id
+abbrev pub fields_of : Api → Fields
+fields_of Produce = produce_fields
+fields_of Fetch = fetch_fields
+fields_of ListOffsets = list_offsets_fields
+fields_of Metadata = metadata_fields
+
+-- ---- what requests say
+
+-- a topic's name and an entry for each partition
+pub record TopicValue (X : Type 0) : Type 0 where
+  pub name : List ℕ
+  pub partitions : List X
+
+pub record ProducePartitionValue : Type 0 where
+  pub index : ℤ
+  pub records : List ℕ
+
+pub record ProduceValue : Type 0 where
+  pub transactional_id : Option (List ℕ)
+  pub acks : ℤ
+  pub topics : List (TopicValue ProducePartitionValue)
+
+pub record FetchPartitionValue : Type 0 where
+  pub partition : ℤ
+  pub offset : ℤ
+  pub max_bytes : ℤ
+
+pub record FetchValue : Type 0 where
+  pub max_bytes : ℤ
+  pub topics : List (TopicValue FetchPartitionValue)
+
+pub record ListOffsetsPartitionValue : Type 0 where
+  pub partition : ℤ
+  pub time : ℤ
+
+pub data BodyValue : Type 0 where
+  produce : ProduceValue → BodyValue
+  fetch : FetchValue → BodyValue
+  list_offsets : List (TopicValue ListOffsetsPartitionValue) → BodyValue
+  metadata : Option (List (List ℕ)) → BodyValue
+
+pub record RequestValue : Type 0 where
+  pub correlation : ℤ
+  pub body : BodyValue
+
+-- ---- from the fields' values, which are nested pairs
+
+abbrev pub or_empty : Option (List ℕ) → List ℕ
+or_empty None = []
+or_empty (Some bytes) = bytes
+
+abbrev pub topic_value : {X : Type 0} → (partition : Fields) → (Value partition → X) → Value (topic partition) → TopicValue X
+topic_value partition f t = record { name = t.0; partitions = map f t.1.0 }
+
+abbrev pub produce_partition_value : Value produce_partition → ProducePartitionValue
+produce_partition_value p = record { index = p.0; records = or_empty p.1.0 }
+
+abbrev pub produce_value : Value produce_fields → ProduceValue
+produce_value v = record {
+  transactional_id = v.0;
+  acks = v.1.0;
+  topics = map (topic_value produce_partition produce_partition_value) v.1.1.1.0;
+}
+
+abbrev pub fetch_partition_value : Value fetch_partition → FetchPartitionValue
+fetch_partition_value p = record { partition = p.0; offset = p.1.0; max_bytes = p.1.1.0 }
+
+abbrev pub fetch_value : Value fetch_fields → FetchValue
+fetch_value v = record {
+  max_bytes = v.1.1.1.0;
+  topics = map (topic_value fetch_partition fetch_partition_value) v.1.1.1.1.1.0;
+}
+
+abbrev pub list_offsets_partition_value : Value list_offsets_partition → ListOffsetsPartitionValue
+list_offsets_partition_value p = record { partition = p.0; time = p.1.0 }
+
+abbrev pub list_offsets_value : Value list_offsets_fields → List (TopicValue ListOffsetsPartitionValue)
+list_offsets_value v = map (topic_value list_offsets_partition list_offsets_partition_value) v.1.0
+
+abbrev pub metadata_value : Value metadata_fields → Option (List (List ℕ))
+metadata_value v = option_map (map (λ name. name.0)) v.0
+
+abbrev pub body_value : (api : Api) → Value (fields_of api) → BodyValue
+body_value Produce v = produce (produce_value v)
+body_value Fetch v = fetch (fetch_value v)
+body_value ListOffsets v = list_offsets (list_offsets_value v)
+body_value Metadata v = metadata (metadata_value v)
+
+-- ---- frames
+
+abbrev pub key_of : List ℕ → ℤ
+key_of frame = number_at size16 frame
+
+abbrev pub version_of : List ℕ → ℤ
+version_of frame = number_at size16 (drop 2 frame)
+
+abbrev pub correlation_of : List ℕ → ℤ
+correlation_of frame = number_at size32 (drop 4 frame)
+
+-- the client id, and the request's fields
+abbrev pub body_fields : Api → Fields
+body_fields api = nullable_string ⨾ fields_of api
+
+-- what stands behind key, version and correlation id
+abbrev pub body_of : List ℕ → List ℕ
+body_of frame = drop 8 frame
+
+-- the frame has the key and the version of a request
+pub record IsOf (api : Api) (frame : List ℕ) : Type 0 where
+  pub has_header : 8 ≤ length frame
+  pub key : key_of frame ≡ api_key api
+  pub version : version_of frame ≡ api_version api
+
+-- the frame is the encoding of the request; what isn't used may be anything
+abbrev pub IsRequest : List ℕ → RequestValue → Type 0
+IsRequest bytes q =
+    (api : Api) × IsOf api bytes × (v : Value (body_fields api)) × Encodes (body_fields api) v (body_of bytes) []
+    × (q ≡ record { correlation = correlation_of bytes; body = body_value api v.1 })
+
+abbrev pub HasFault : FieldFault → List ℕ → Type 0
+HasFault e bytes = (api : Api) × IsOf api bytes × Breaks (body_fields api) e (body_of bytes)
+
+-- why a whole frame is no request
+abbrev pub IsRefused : FrameError → List ℕ → Type 0
+IsRefused frame.NegativeSize bytes = ⊥
+IsRefused frame.TooLarge bytes = ⊥
+IsRefused frame.ShortHeader bytes = length bytes < 8
+IsRefused frame.UnknownApi bytes = (8 ≤ length bytes) × ((api : Api) → key_of bytes ≢ api_key api)
+IsRefused frame.BadVersion bytes =
+    (8 ≤ length bytes) × (known : Api) × (key_of bytes ≡ api_key known)
+    × ((api : Api) → key_of bytes ≡ api_key api → version_of bytes ≢ api_version api)
+IsRefused frame.ShortBody bytes = HasFault field.ShortBody bytes
+IsRefused frame.Malformed bytes = HasFault field.Malformed bytes
+IsRefused frame.TrailingBytes bytes =
+    (api : Api) × IsOf api bytes × (v : Value (body_fields api)) × (rest : List ℕ) × Encodes (body_fields api) v (body_of bytes) rest
+    × (0 < length rest)
+IsRefused frame.OutOfMemory bytes = ⊥

@@ -1,0 +1,30 @@
+-- What requests say, apart from where their bytes lie.
+use Rattle.std.specs.Prelude.{ℕ, List, map, Option}
+use Rattle.std.specs.Option.{option_map}
+use Rattle.request_frames.specs.declared.requests.ProduceRequest.{ProduceRequest}
+use Rattle.request_frames.specs.declared.requests.FetchRequest.{FetchRequest}
+use Rattle.request_frames.specs.declared.requests.ListOffsetsRequest.{ListOffsetsRequest}
+use Rattle.request_frames.specs.declared.requests.MetadataRequest.{MetadataRequest}
+use Rattle.request_frames.specs.Fields.{end}
+use Rattle.request_frames.specs.Types.{string, topic, ◌⨾◌}
+use Rattle.request_frames.specs.Arrays.{values}
+use Rattle.request_frames.specs.Requests.{ProduceValue, FetchValue, ListOffsetsPartitionValue, TopicValue, topic_value, produce_partition, produce_partition_value, fetch_partition, fetch_partition_value, list_offsets_partition, list_offsets_partition_value}
+
+abbrev pub produced : ProduceRequest → ProduceValue
+produced r = record {
+  transactional_id = option_map (λ bytes. bytes.now) r.transactional_id;
+  acks = r.acks;
+  topics = map (topic_value produce_partition produce_partition_value) (values (topic produce_partition) r.topics);
+}
+
+abbrev pub fetched : FetchRequest → FetchValue
+fetched r = record {
+  max_bytes = r.max_bytes;
+  topics = map (topic_value fetch_partition fetch_partition_value) (values (topic fetch_partition) r.topics);
+}
+
+abbrev pub offsets_listed : ListOffsetsRequest → List (TopicValue ListOffsetsPartitionValue)
+offsets_listed r = map (topic_value list_offsets_partition list_offsets_partition_value) (values (topic list_offsets_partition) r.topics)
+
+abbrev pub names_asked : MetadataRequest → Option (List (List ℕ))
+names_asked r = option_map (λ names. map (λ name. name.0) (values (string ⨾ end) names)) r.names
