@@ -9,21 +9,10 @@ use Rattle.request_frames.specs.declared.error.FieldFault.TheVariants as field
 use Rattle.request_frames.specs.declared.error.FrameError.{FrameError}
 use Rattle.request_frames.specs.declared.error.FrameError.TheVariants as frame
 use Rattle.request_frames.specs.Fields.{size16, size32, Fields, end, array, array_or_null, Value, number_at, Encodes, Breaks}
+use Rattle.request_frames.specs.Apis.{IsApi, IsNoApi}
 use Rattle.request_frames.specs.Types.{int8, int16, int32, int64, string, nullable_string, nullable_bytes, topic, topics_of, ◌⨾◌}
 
--- ---- the table of requests
-
-abbrev pub api_key : Api → ℤ
-api_key Produce = pos 0
-api_key Fetch = pos 1
-api_key ListOffsets = pos 2
-api_key Metadata = pos 3
-
-abbrev pub api_version : Api → ℤ
-api_version Produce = pos 3
-api_version Fetch = pos 4
-api_version ListOffsets = pos 1
-api_version Metadata = pos 1
+-- ---- the fields
 
 -- index, records
 abbrev pub produce_partition : Fields
@@ -164,8 +153,7 @@ body_of frame = drop 8 frame
 -- the frame has the key and the version of a request
 pub record IsOf (api : Api) (frame : List ℕ) : Type 0 where
   pub has_header : 8 ≤ length frame
-  pub key : key_of frame ≡ api_key api
-  pub version : version_of frame ≡ api_version api
+  pub has_api : IsApi (key_of frame) (version_of frame) api
 
 -- the frame is the encoding of the request; what isn't used may be anything
 abbrev pub IsRequest : List ℕ → RequestValue → Type 0
@@ -181,10 +169,8 @@ abbrev pub IsRefused : FrameError → List ℕ → Type 0
 IsRefused frame.NegativeSize bytes = ⊥
 IsRefused frame.TooLarge bytes = ⊥
 IsRefused frame.ShortHeader bytes = length bytes < 8
-IsRefused frame.UnknownApi bytes = (8 ≤ length bytes) × ((api : Api) → key_of bytes ≢ api_key api)
-IsRefused frame.BadVersion bytes =
-    (8 ≤ length bytes) × (known : Api) × (key_of bytes ≡ api_key known)
-    × ((api : Api) → key_of bytes ≡ api_key api → version_of bytes ≢ api_version api)
+IsRefused frame.UnknownApi bytes = (8 ≤ length bytes) × IsNoApi (key_of bytes) (version_of bytes) frame.UnknownApi
+IsRefused frame.BadVersion bytes = (8 ≤ length bytes) × IsNoApi (key_of bytes) (version_of bytes) frame.BadVersion
 IsRefused frame.ShortBody bytes = HasFault field.ShortBody bytes
 IsRefused frame.Malformed bytes = HasFault field.Malformed bytes
 IsRefused frame.TrailingBytes bytes =

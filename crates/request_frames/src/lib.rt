@@ -5,6 +5,7 @@ pub mod error;
 pub mod api;
 mod array;
 mod fields;
+mod parsing;
 pub mod requests;
 
 pub use error::{FieldFault, FrameError};

@@ -139,7 +139,7 @@ pub struct ProduceRequest<'a> {
 }
 
 #[tactic(auto, unfolding(crate::specs::Reading::read_fields))]
-fn produce_at(bytes: &[u8]) -> Result<(ProduceRequest<'_>, &[u8]), FieldFault>
+pub(crate) fn produce_at(bytes: &[u8]) -> Result<(ProduceRequest<'_>, &[u8]), FieldFault>
     ensures { Gives (λ x. (produced x.0, x.1.now)) result
         (map_read produce_value (read_fields produce_fields bytes.now)) }
 {
@@ -165,7 +165,7 @@ pub struct FetchRequest<'a> {
 }
 
 #[tactic(auto, unfolding(crate::specs::Reading::read_fields))]
-fn fetch_at(bytes: &[u8]) -> Result<(FetchRequest<'_>, &[u8]), FieldFault>
+pub(crate) fn fetch_at(bytes: &[u8]) -> Result<(FetchRequest<'_>, &[u8]), FieldFault>
     ensures { Gives (λ x. (fetched x.0, x.1.now)) result
         (map_read fetch_value (read_fields fetch_fields bytes.now)) }
 {
@@ -186,7 +186,7 @@ pub struct ListOffsetsRequest<'a> {
 }
 
 #[tactic(auto, unfolding(crate::specs::Reading::read_fields))]
-fn list_offsets_at(bytes: &[u8]) -> Result<(ListOffsetsRequest<'_>, &[u8]), FieldFault>
+pub(crate) fn list_offsets_at(bytes: &[u8]) -> Result<(ListOffsetsRequest<'_>, &[u8]), FieldFault>
     ensures { Gives (λ x. (offsets_listed x.0, x.1.now)) result
         (map_read list_offsets_value (read_fields list_offsets_fields bytes.now)) }
 {
@@ -203,7 +203,7 @@ pub struct MetadataRequest<'a> {
 }
 
 #[tactic(auto, unfolding(crate::specs::Reading::read_fields))]
-fn metadata_at(bytes: &[u8]) -> Result<(MetadataRequest<'_>, &[u8]), FieldFault>
+pub(crate) fn metadata_at(bytes: &[u8]) -> Result<(MetadataRequest<'_>, &[u8]), FieldFault>
     ensures { Gives (λ x. (names_asked x.0, x.1.now)) result
         (map_read metadata_value (read_fields metadata_fields bytes.now)) }
 {
