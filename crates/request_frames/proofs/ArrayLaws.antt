@@ -6,7 +6,7 @@ use Rattle.std.proofs.lemmas.List.{length-append, append-nil}
 use Rattle.request_frames.specs.declared.error.FieldFault.{FieldFault}
 use Rattle.request_frames.specs.declared.error.FieldFault.TheVariants.{ShortBody, Malformed}
 use Rattle.request_frames.specs.Fields.{size32, width, be, number_at, elements, elements_or_null, FitsLength, ElementsFit, ElementsOrNullFit, CountBreaks, AnElementBreaks, ElementsBreak}
-use Rattle.request_frames.specs.Reading.{At, read_times, read_count, read_count_or_null, read_array, read_array_or_null}
+use Rattle.request_frames.specs.Reading.{At, read_number, read_field, read_times, read_count, read_count_or_null, read_array, read_array_or_null}
 use Rattle.request_frames.proofs.Numbers.{IsBytes, size_of, length-be, number_again, drop-number, number_fits, number_back}
 use Rattle.request_frames.proofs.ReaderLaws.{Reads, same_reads, TimesBreak, times_again, times_takes, times_broken, times_fault}
 use Rattle.request_frames.proofs.LengthLaws.{BreaksBehind, behind_reads, Counts, BreaksCount, null_or, nothing_or, FitsOrNull, announces_count, announces_or_null}
@@ -64,7 +64,7 @@ module _ {X : Type 0} (enc : X → List ℕ) (fits : X → Type 0) (breaks : Fie
   -- ---- arrays
 
   pub array_reads : Reads (elements enc) (ElementsFit fits) (ElementsBreak (pos 0) enc fits breaks) (read_array read)
-  unfolding read_array
+  unfolding read_array read_field read_number
   array_reads =
       same_reads
       (behind_reads size32 _ _ _ _ (read_count read) (announces_count size32 length (flat_map enc) (ElementsFit fits) (TimesBreak enc fits breaks) (read_times read) elements_count (read_count read) (record { counts = λ n bytes. refl; refuses = λ n bytes. refl })))
@@ -83,7 +83,7 @@ module _ {X : Type 0} (enc : X → List ℕ) (fits : X → Type 0) (breaks : Fie
   null_from (Some xs) h = h
 
   pub array_or_null_reads : Reads (elements_or_null enc) (ElementsOrNullFit fits) (ElementsBreak (negsuc 0) enc fits breaks) (read_array_or_null read)
-  unfolding read_array_or_null
+  unfolding read_array_or_null read_field read_number
   array_or_null_reads =
       same_reads
       (behind_reads size32 _ _ _ _ (read_count_or_null read) (announces_or_null size32 length (flat_map enc) (ElementsFit fits) (TimesBreak enc fits breaks) (read_times read) elements_count (read_count_or_null read) (record { counts = λ n bytes. refl; null = λ bytes. refl; refuses = λ n bytes. refl })))

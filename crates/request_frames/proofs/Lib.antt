@@ -1,4 +1,3 @@
--- Reading fields finds their encoding, and each fault.
 pub mod Numbers
 pub mod ReaderLaws
 pub mod LengthLaws
@@ -6,3 +5,4 @@ pub mod OneField
 pub mod ArrayLaws
 pub mod FieldLaws
 pub mod Arrays
+pub mod WholeFrames
