@@ -1,5 +1,9 @@
 -- From what is read of a frame to what the frame is.
-use Rattle.std.proofs.Common.{◌≡◌, ℕ, ◌<◌, ◌≤◌, List, [], ◌++◌, length, drop, Option, Result, Ok, Err, refl, ap, sym, subst, ◌∙◌, arith}
+use Rattle.std.proofs.Common.{◌≡◌, ℕ, zero, suc, ◌<◌, Bool, true, false, ℤ, List, [], ◌++◌, length, drop, Option, Result, Ok, Err, refl, ap, sym, subst, ◌∙◌, arith}
+use Rattle.std.specs.Prelude.{FitsSigned, ◌==◌}
+use Rattle.std.specs.Int.{w32, cast_signed, cast_unsigned}
+use Rattle.std.proofs.lemmas.Bool.{eqb-true}
+use Rattle.std.proofs.lemmas.Int.{to_z-of_z}
 use Rattle.std.proofs.lemmas.List.{nil_from_length}
 use Rattle.request_frames.specs.declared.api.Api.{Api}
 use Rattle.request_frames.specs.declared.api.Api.TheVariants.{Produce, Fetch, ListOffsets, Metadata}
@@ -12,7 +16,7 @@ use Rattle.request_frames.specs.Types.{nullable_string}
 use Rattle.request_frames.specs.Reading.{◌>>=◌, At, map_read, then_read, read_field, read_fields}
 use Rattle.request_frames.specs.Requests.{BodyValue, fields_of, body_fields, body_value, body_of, correlation_of, IsOf, IsRequest, HasFault, IsRefused}
 use Rattle.request_frames.specs.Bodies.{read_body, read_request}
-use Rattle.request_frames.proofs.Numbers.{IsBytes}
+use Rattle.request_frames.proofs.Numbers.{IsBytes, IsBytes-drop}
 use Rattle.request_frames.proofs.FieldLaws.{read_encodes, read_breaks}
 
 -- ---- reading as the code goes, and by descriptions
@@ -61,3 +65,34 @@ encodes_body : (api : Api) (bytes : List ℕ) (body : BodyValue) (rest : List �
 encodes_body api bytes body rest fits read =
     let w = was_read (λ v. body_value api v.1) (read_fields (body_fields api) bytes) body rest (sym (request_is api bytes) ∙ read) in
     (w.0, read_encodes (body_fields api) w.0 bytes rest fits w.1, w.2)
+
+module _ (api : Api) (bytes : List ℕ) (fits : IsBytes bytes) (is : IsOf api bytes) (behind : List ℕ) (there : behind ≡ body_of bytes) where
+  pub all_read : (body : BodyValue) (rest : List ℕ) → read_request api behind ≡ Ok (body, rest) → length rest ≡ 0
+      → IsRequest bytes (record { correlation = correlation_of bytes; body = body })
+  all_read body rest read no_more =
+      let e = encodes_body api (body_of bytes) body rest (IsBytes-drop 8 bytes fits) (ap (read_request api) (sym there) ∙ read) in
+      let nothing_left : rest ≡ [] = nil_from_length rest no_more in
+      (api, is, e.0, subst (Encodes (body_fields api) e.0 (body_of bytes)) nothing_left e.1, λ i. record { correlation = correlation_of bytes; body = e.2 i })
+
+  pub bytes_left : (body : BodyValue) (rest : List ℕ) → read_request api behind ≡ Ok (body, rest) → 0 < length rest → IsRefused frame.TrailingBytes bytes
+  bytes_left body rest read more =
+      let e = encodes_body api (body_of bytes) body rest (IsBytes-drop 8 bytes fits) (ap (read_request api) (sym there) ∙ read) in
+      (api, is, e.0, rest, e.1, more)
+
+  pub fault_found : (e f : FieldFault) → e ≡ f → read_request api behind ≡ Err e → HasFault f bytes
+  fault_found e f same read =
+      let fault : read_request api (body_of bytes) ≡ faulty f = ap (read_request api) (sym there) ∙ read ∙ ap faulty same in
+      let broken = was_fault (λ v. body_value api v.1) (read_fields (body_fields api) (body_of bytes)) f (sym (request_is api (body_of bytes)) ∙ fault) in
+      (api, is, read_breaks (body_fields api) f (body_of bytes) (IsBytes-drop 8 bytes fits) broken)
+
+-- a number that was passed on, and the correlation id of the frame
+pub correlates : (bytes : List ℕ) (z : ℤ) (body : BodyValue) → FitsSigned w32 z → z ≡ correlation_of bytes
+    → IsRequest bytes (record { correlation = correlation_of bytes; body = body }) → IsRequest bytes (record { correlation = cast_signed w32 (cast_unsigned w32 z); body = body })
+correlates bytes z body fits e q = subst (λ (c : ℤ). IsRequest bytes (record { correlation = c; body = body })) (sym (to_z-of_z w32 z fits ∙ e)) q
+
+pub empty_length : (b : Bool) (n : ℕ) → b ≡ (n == 0) → b ≡ true → n ≡ 0
+empty_length b n e t = eqb-true n 0 (sym e ∙ t)
+
+pub some_length : (b : Bool) (n : ℕ) → b ≡ (n == 0) → b ≡ false → 0 < n
+some_length b zero e f = absurd cc
+some_length b (suc n) e f = omega arith

@@ -13,7 +13,7 @@ use Rattle.request_frames.specs.Fields.{end}
 use Rattle.request_frames.specs.Types.{string, topic, ◌⨾◌}
 use Rattle.request_frames.specs.Arrays.{values}
 use Rattle.request_frames.specs.Requests.BodyValue.{produce, fetch, list_offsets, metadata}
-use Rattle.request_frames.specs.Requests.{BodyValue, RequestValue, key_of, version_of, correlation_of, body_of, ProduceValue, FetchValue, ListOffsetsPartitionValue, TopicValue, topic_value, produce_partition, produce_partition_value, fetch_partition, fetch_partition_value, list_offsets_partition, list_offsets_partition_value}
+use Rattle.request_frames.specs.Requests.{BodyValue, RequestValue, key_of, version_of, correlation_of, ProduceValue, FetchValue, ListOffsetsPartitionValue, TopicValue, topic_value, produce_partition, produce_partition_value, fetch_partition, fetch_partition_value, list_offsets_partition, list_offsets_partition_value}
 
 abbrev pub produced : ProduceRequest → ProduceValue
 produced r = record {
@@ -43,9 +43,8 @@ request_body (variants.Metadata r) = metadata (names_asked r)
 abbrev pub request_value : Request → RequestValue
 request_value q = record { correlation = q.correlation; body = request_body q.body }
 
--- the fixed fields at the front of a frame, and the bytes after them
+-- the fixed fields at the front of a frame
 pub record IsHeaderOf (frame : List ℕ) (h : Header) : Type 0 where
   pub key : h.key ≡ key_of frame
   pub version : h.version ≡ version_of frame
   pub correlation : h.correlation ≡ correlation_of frame
-  pub body : h.body.now ≡ body_of frame
