@@ -6,3 +6,4 @@ pub mod ArrayLaws
 pub mod FieldLaws
 pub mod Arrays
 pub mod WholeFrames
+pub mod OneOutcome

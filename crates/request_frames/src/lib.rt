@@ -5,6 +5,7 @@ pub mod error;
 pub mod api;
 mod array;
 mod fields;
+pub mod parse_law;
 mod parsing;
 pub mod requests;
 
