@@ -1,7 +1,7 @@
 -- An array read element by element.
 use Rattle.std.proofs.Common.{◌≡◌, ℕ, zero, suc, ◌+◌, ◌-◌, ◌<◌, ◌≤◌, List, [], ◌∷◌, Result, Ok, Err, refl, ap, sym, ◌∙◌, arith}
 use Rattle.request_frames.specs.declared.error.FieldFault.{FieldFault}
-use Rattle.request_frames.specs.Reading.{At, Gives, map_ok, map_read, then_read, read_times}
+use Rattle.request_frames.specs.Reading.{At, map_ok, map_read, then_read, read_times}
 use Rattle.request_frames.specs.Arrays.{first_and, elements_at}
 
 module _ {X : Type 0} (read : List ℕ → At X) where

@@ -1,5 +1,5 @@
 -- A frame is one request, or has one refusal.
-use Rattle.std.proofs.Common.{◌≡◌, ℕ, ◌<◌, ◌≤◌, Bool, true, false, cond, ltb, ℤ, pos, List, [], ◌∷◌, ◌++◌, length, drop, Result, Ok, Err, refl, ap, sym, ◌∙◌, arith}
+use Rattle.std.proofs.Common.{◌≡◌, ℕ, ◌<◌, ◌≤◌, Bool, false, cond, ltb, ℤ, pos, List, [], ◌∷◌, length, Result, Ok, Err, refl, ap, sym, ◌∙◌, arith}
 use Rattle.std.specs.Ordering.{int_eq}
 use Rattle.std.proofs.lemmas.Int.{ints}
 use Rattle.std.proofs.lemmas.Bool.{le-ltb, lt-ltb}
@@ -9,9 +9,9 @@ use Rattle.request_frames.specs.declared.error.FieldFault.{FieldFault}
 use Rattle.request_frames.specs.declared.error.FieldFault.TheVariants as field
 use Rattle.request_frames.specs.declared.error.FrameError.{FrameError}
 use Rattle.request_frames.specs.declared.error.FrameError.TheVariants as frame
-use Rattle.request_frames.specs.Fields.{Value, Encodes, Breaks}
+use Rattle.request_frames.specs.Fields.{Value}
 use Rattle.request_frames.specs.Reading.{At, read_fields}
-use Rattle.request_frames.specs.Apis.{api_key, api_version, IsApi, IsNoApi}
+use Rattle.request_frames.specs.Apis.{api_version, IsApi, IsNoApi}
 use Rattle.request_frames.specs.Requests.{RequestValue, body_fields, body_value, body_of, key_of, version_of, correlation_of, IsOf, IsRequest, HasFault, IsRefused}
 use Rattle.request_frames.proofs.FieldLaws.{encodes_read, breaks_read}
 

@@ -1,5 +1,5 @@
 -- From what is read of a frame to what the frame is.
-use Rattle.std.proofs.Common.{◌≡◌, ℕ, zero, suc, ◌<◌, Bool, true, false, ℤ, List, [], ◌++◌, length, drop, Option, Result, Ok, Err, refl, ap, sym, subst, ◌∙◌, arith}
+use Rattle.std.proofs.Common.{◌≡◌, ℕ, zero, suc, ◌<◌, Bool, true, false, ℤ, List, [], length, Option, Result, Ok, Err, refl, ap, sym, subst, ◌∙◌, arith}
 use Rattle.std.specs.Prelude.{FitsSigned, ◌==◌}
 use Rattle.std.specs.Int.{w32, cast_signed, cast_unsigned}
 use Rattle.std.proofs.lemmas.Bool.{eqb-true}
@@ -8,8 +8,6 @@ use Rattle.std.proofs.lemmas.List.{nil_from_length}
 use Rattle.request_frames.specs.declared.api.Api.{Api}
 use Rattle.request_frames.specs.declared.api.Api.TheVariants.{Produce, Fetch, ListOffsets, Metadata}
 use Rattle.request_frames.specs.declared.error.FieldFault.{FieldFault}
-use Rattle.request_frames.specs.declared.error.FieldFault.TheVariants as field
-use Rattle.request_frames.specs.declared.error.FrameError.{FrameError}
 use Rattle.request_frames.specs.declared.error.FrameError.TheVariants as frame
 use Rattle.request_frames.specs.Fields.{Value, Encodes}
 use Rattle.request_frames.specs.Types.{nullable_string}
@@ -51,9 +49,9 @@ was_read : {A B : Type 0} (f : A → B) (r : At A) (y : B) (rest : List ℕ) →
 was_read f (Ok x) y rest e =
     let same : (f x.0, x.1) ≡ (y, rest) = pair_is _ _ e in
     (x.0, ap (λ (t : List ℕ). Ok (x.0, t)) (ap (λ p. p.1) same), sym (ap (λ p. p.0) same))
-    where
-      pair_is : {C : Type 0} (p q : C) → okay p ≡ okay q → p ≡ q
-      pair_is p q h = cc
+  where
+    pair_is : {C : Type 0} (p q : C) → okay p ≡ okay q → p ≡ q
+    pair_is p q h = cc
 was_read f (Err d) y rest e = absurd cc
 
 was_fault : {A B : Type 0} (f : A → B) (r : At A) (e : FieldFault) → map_read f r ≡ Err e → r ≡ Err e

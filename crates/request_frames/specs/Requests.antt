@@ -1,6 +1,6 @@
 -- The requests that are read: their fields, what they say, and which frames are refused. Kafka's documentation,
 -- "Protocol Guide", sections "Request Header" and "The Messages".
-use Rattle.std.specs.Prelude.{◌≡◌, ◌≢◌, ℕ, ◌<◌, ◌≤◌, ℤ, pos, List, [], length, drop, map, Option, Some, None}
+use Rattle.std.specs.Prelude.{◌≡◌, ℕ, ◌<◌, ◌≤◌, ℤ, List, [], length, drop, map, Option, Some, None}
 use Rattle.std.specs.Option.{option_map}
 use Rattle.request_frames.specs.declared.api.Api.{Api}
 use Rattle.request_frames.specs.declared.api.Api.TheVariants.{Produce, Fetch, ListOffsets, Metadata}
@@ -8,9 +8,9 @@ use Rattle.request_frames.specs.declared.error.FieldFault.{FieldFault}
 use Rattle.request_frames.specs.declared.error.FieldFault.TheVariants as field
 use Rattle.request_frames.specs.declared.error.FrameError.{FrameError}
 use Rattle.request_frames.specs.declared.error.FrameError.TheVariants as frame
-use Rattle.request_frames.specs.Fields.{size16, size32, Fields, end, array, array_or_null, Value, number_at, Encodes, Breaks}
+use Rattle.request_frames.specs.Fields.{size16, size32, Fields, end, array_or_null, Value, number_at, Encodes, Breaks}
 use Rattle.request_frames.specs.Apis.{IsApi, IsNoApi}
-use Rattle.request_frames.specs.Types.{int8, int16, int32, int64, string, nullable_string, nullable_bytes, topic, topics_of, ◌⨾◌}
+use Rattle.request_frames.specs.Types.{int8, int16, int32, int64, string, nullable_string, nullable_bytes, topic, topics_of, TopicOf, ◌⨾◌}
 
 -- ---- the fields
 
@@ -51,11 +51,6 @@ fields_of Metadata = metadata_fields
 
 -- ---- what requests say
 
--- a topic's name and an entry for each partition
-pub record TopicValue (X : Type 0) : Type 0 where
-  pub name : List ℕ
-  pub partitions : List X
-
 pub record ProducePartitionValue : Type 0 where
   pub index : ℤ
   pub records : List ℕ
@@ -63,7 +58,7 @@ pub record ProducePartitionValue : Type 0 where
 pub record ProduceValue : Type 0 where
   pub transactional_id : Option (List ℕ)
   pub acks : ℤ
-  pub topics : List (TopicValue ProducePartitionValue)
+  pub topics : List (TopicOf ProducePartitionValue)
 
 pub record FetchPartitionValue : Type 0 where
   pub partition : ℤ
@@ -72,7 +67,7 @@ pub record FetchPartitionValue : Type 0 where
 
 pub record FetchValue : Type 0 where
   pub max_bytes : ℤ
-  pub topics : List (TopicValue FetchPartitionValue)
+  pub topics : List (TopicOf FetchPartitionValue)
 
 pub record ListOffsetsPartitionValue : Type 0 where
   pub partition : ℤ
@@ -81,7 +76,7 @@ pub record ListOffsetsPartitionValue : Type 0 where
 pub data BodyValue : Type 0 where
   produce : ProduceValue → BodyValue
   fetch : FetchValue → BodyValue
-  list_offsets : List (TopicValue ListOffsetsPartitionValue) → BodyValue
+  list_offsets : List (TopicOf ListOffsetsPartitionValue) → BodyValue
   metadata : Option (List (List ℕ)) → BodyValue
 
 pub record RequestValue : Type 0 where
@@ -94,42 +89,42 @@ abbrev pub or_empty : Option (List ℕ) → List ℕ
 or_empty None = []
 or_empty (Some bytes) = bytes
 
-abbrev pub topic_value : {X : Type 0} → (partition : Fields) → (Value partition → X) → Value (topic partition) → TopicValue X
-topic_value partition f t = record { name = t.0; partitions = map f t.1.0 }
+abbrev pub topic_request : {X : Type 0} → (partition : Fields) → (Value partition → X) → Value (topic partition) → TopicOf X
+topic_request partition f t = record { name = t.0; entries = map f t.1.0 }
 
 abbrev pub produce_partition_value : Value produce_partition → ProducePartitionValue
 produce_partition_value p = record { index = p.0; records = or_empty p.1.0 }
 
-abbrev pub produce_value : Value produce_fields → ProduceValue
-produce_value v = record {
+abbrev pub produce_request : Value produce_fields → ProduceValue
+produce_request v = record {
   transactional_id = v.0;
   acks = v.1.0;
-  topics = map (topic_value produce_partition produce_partition_value) v.1.1.1.0;
+  topics = map (topic_request produce_partition produce_partition_value) v.1.1.1.0;
 }
 
 abbrev pub fetch_partition_value : Value fetch_partition → FetchPartitionValue
 fetch_partition_value p = record { partition = p.0; offset = p.1.0; max_bytes = p.1.1.0 }
 
-abbrev pub fetch_value : Value fetch_fields → FetchValue
-fetch_value v = record {
+abbrev pub fetch_request : Value fetch_fields → FetchValue
+fetch_request v = record {
   max_bytes = v.1.1.1.0;
-  topics = map (topic_value fetch_partition fetch_partition_value) v.1.1.1.1.1.0;
+  topics = map (topic_request fetch_partition fetch_partition_value) v.1.1.1.1.1.0;
 }
 
 abbrev pub list_offsets_partition_value : Value list_offsets_partition → ListOffsetsPartitionValue
 list_offsets_partition_value p = record { partition = p.0; time = p.1.0 }
 
-abbrev pub list_offsets_value : Value list_offsets_fields → List (TopicValue ListOffsetsPartitionValue)
-list_offsets_value v = map (topic_value list_offsets_partition list_offsets_partition_value) v.1.0
+abbrev pub list_offsets_request : Value list_offsets_fields → List (TopicOf ListOffsetsPartitionValue)
+list_offsets_request v = map (topic_request list_offsets_partition list_offsets_partition_value) v.1.0
 
-abbrev pub metadata_value : Value metadata_fields → Option (List (List ℕ))
-metadata_value v = option_map (map (λ name. name.0)) v.0
+abbrev pub metadata_request : Value metadata_fields → Option (List (List ℕ))
+metadata_request v = option_map (map (λ name. name.0)) v.0
 
 abbrev pub body_value : (api : Api) → Value (fields_of api) → BodyValue
-body_value Produce v = produce (produce_value v)
-body_value Fetch v = fetch (fetch_value v)
-body_value ListOffsets v = list_offsets (list_offsets_value v)
-body_value Metadata v = metadata (metadata_value v)
+body_value Produce v = produce (produce_request v)
+body_value Fetch v = fetch (fetch_request v)
+body_value ListOffsets v = list_offsets (list_offsets_request v)
+body_value Metadata v = metadata (metadata_request v)
 
 -- ---- frames
 

@@ -1,5 +1,5 @@
 -- The types of fields, by the names of Kafka's documentation, "Protocol Guide", section "Protocol Primitive Types".
-use Rattle.std.specs.Prelude.{Bool, true, false, ℤ, pos}
+use Rattle.std.specs.Prelude.{ℕ, Bool, true, false, ℤ, pos, List}
 use Rattle.request_frames.specs.Fields.{Field, number, sized, sized_or_null, Fields, end, one, array, size8, size16, size32, size64}
 
 abbrev pub int8 : Field
@@ -46,3 +46,8 @@ topic partition = string ⨾ array partition end
 -- an array of topics, and the fields that follow it
 abbrev pub topics_of : (partition rest : Fields) → Fields
 topics_of partition rest = array (topic partition) rest
+
+-- what is said of a topic: its name, and an entry for each partition
+pub record TopicOf (Entry : Type 0) : Type 0 where
+  pub name : List ℕ
+  pub entries : List Entry

@@ -10,26 +10,26 @@ use Rattle.request_frames.specs.declared.parsing.Request.{Request}
 use Rattle.request_frames.specs.declared.parsing.RequestBody.{RequestBody}
 use Rattle.request_frames.specs.declared.parsing.RequestBody.TheVariants as variants
 use Rattle.request_frames.specs.Fields.{end}
-use Rattle.request_frames.specs.Types.{string, topic, ◌⨾◌}
+use Rattle.request_frames.specs.Types.{string, topic, TopicOf, ◌⨾◌}
 use Rattle.request_frames.specs.Arrays.{values}
 use Rattle.request_frames.specs.Requests.BodyValue.{produce, fetch, list_offsets, metadata}
-use Rattle.request_frames.specs.Requests.{BodyValue, RequestValue, key_of, version_of, correlation_of, ProduceValue, FetchValue, ListOffsetsPartitionValue, TopicValue, topic_value, produce_partition, produce_partition_value, fetch_partition, fetch_partition_value, list_offsets_partition, list_offsets_partition_value}
+use Rattle.request_frames.specs.Requests.{BodyValue, RequestValue, key_of, version_of, correlation_of, ProduceValue, FetchValue, ListOffsetsPartitionValue, topic_request, produce_partition, produce_partition_value, fetch_partition, fetch_partition_value, list_offsets_partition, list_offsets_partition_value}
 
 abbrev pub produced : ProduceRequest → ProduceValue
 produced r = record {
   transactional_id = option_map (λ bytes. bytes.now) r.transactional_id;
   acks = r.acks;
-  topics = map (topic_value produce_partition produce_partition_value) (values (topic produce_partition) r.topics);
+  topics = map (topic_request produce_partition produce_partition_value) (values (topic produce_partition) r.topics);
 }
 
 abbrev pub fetched : FetchRequest → FetchValue
 fetched r = record {
   max_bytes = r.max_bytes;
-  topics = map (topic_value fetch_partition fetch_partition_value) (values (topic fetch_partition) r.topics);
+  topics = map (topic_request fetch_partition fetch_partition_value) (values (topic fetch_partition) r.topics);
 }
 
-abbrev pub offsets_listed : ListOffsetsRequest → List (TopicValue ListOffsetsPartitionValue)
-offsets_listed r = map (topic_value list_offsets_partition list_offsets_partition_value) (values (topic list_offsets_partition) r.topics)
+abbrev pub offsets_listed : ListOffsetsRequest → List (TopicOf ListOffsetsPartitionValue)
+offsets_listed r = map (topic_request list_offsets_partition list_offsets_partition_value) (values (topic list_offsets_partition) r.topics)
 
 abbrev pub names_asked : MetadataRequest → Option (List (List ℕ))
 names_asked r = option_map (λ names. map (λ name. name.0) (values (string ⨾ end) names)) r.names

@@ -11,5 +11,4 @@ pub fn one_outcome()
     ensures one_request { (frame : List ℕ) (q r : RequestValue) → IsRequest frame q → IsRequest frame r → q ≡ r }
     ensures one_refusal { (frame : List ℕ) (e d : FrameError) → IsRefused e frame → IsRefused d frame → e ≡ d }
     ensures never_both { (frame : List ℕ) (q : RequestValue) (e : FrameError) → IsRequest frame q → IsRefused e frame → ⊥ }
-{
-}
+{}

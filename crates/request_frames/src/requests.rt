@@ -5,7 +5,7 @@ ghost use Rattle.request_frames.specs.Views.{produced, fetched, offsets_listed, 
 ghost use Rattle.request_frames.specs.Fields.{end};
 ghost use Rattle.request_frames.specs.Types.{string, topic, ◌⨾◌};
 ghost use Rattle.request_frames.specs.Arrays.{values};
-ghost use Rattle.request_frames.specs.Requests.{produce_partition, produce_fields, produce_value, fetch_partition, fetch_fields, fetch_value, list_offsets_partition, list_offsets_fields, list_offsets_value, metadata_fields, metadata_value};
+ghost use Rattle.request_frames.specs.Requests.{produce_partition, produce_fields, produce_request, fetch_partition, fetch_fields, fetch_request, list_offsets_partition, list_offsets_fields, list_offsets_request, metadata_fields, metadata_request};
 ghost use Rattle.std.specs.Option.{option_map};
 
 use crate::array::{Array, Element, array_at, nullable_array_at};
@@ -141,7 +141,7 @@ pub struct ProduceRequest<'a> {
 #[tactic(auto, unfolding(crate::specs::Reading::read_fields))]
 pub(crate) fn produce_at(bytes: &[u8]) -> Result<(ProduceRequest<'_>, &[u8]), FieldFault>
     ensures { Gives (λ x. (produced x.0, x.1.now)) result
-        (map_read produce_value (read_fields produce_fields bytes.now)) }
+        (map_read produce_request (read_fields produce_fields bytes.now)) }
 {
     let (transactional_id, rest) = nullable_string(bytes)?;
     let (acks, rest) = int16(rest)?;
@@ -167,7 +167,7 @@ pub struct FetchRequest<'a> {
 #[tactic(auto, unfolding(crate::specs::Reading::read_fields))]
 pub(crate) fn fetch_at(bytes: &[u8]) -> Result<(FetchRequest<'_>, &[u8]), FieldFault>
     ensures { Gives (λ x. (fetched x.0, x.1.now)) result
-        (map_read fetch_value (read_fields fetch_fields bytes.now)) }
+        (map_read fetch_request (read_fields fetch_fields bytes.now)) }
 {
     let (_replica_id, rest) = int32(bytes)?;
     let (_max_wait, rest) = int32(rest)?;
@@ -188,7 +188,7 @@ pub struct ListOffsetsRequest<'a> {
 #[tactic(auto, unfolding(crate::specs::Reading::read_fields))]
 pub(crate) fn list_offsets_at(bytes: &[u8]) -> Result<(ListOffsetsRequest<'_>, &[u8]), FieldFault>
     ensures { Gives (λ x. (offsets_listed x.0, x.1.now)) result
-        (map_read list_offsets_value (read_fields list_offsets_fields bytes.now)) }
+        (map_read list_offsets_request (read_fields list_offsets_fields bytes.now)) }
 {
     let (_replica_id, rest) = int32(bytes)?;
     let (topics, rest) = array_at(rest)?;
@@ -205,7 +205,7 @@ pub struct MetadataRequest<'a> {
 #[tactic(auto, unfolding(crate::specs::Reading::read_fields))]
 pub(crate) fn metadata_at(bytes: &[u8]) -> Result<(MetadataRequest<'_>, &[u8]), FieldFault>
     ensures { Gives (λ x. (names_asked x.0, x.1.now)) result
-        (map_read metadata_value (read_fields metadata_fields bytes.now)) }
+        (map_read metadata_request (read_fields metadata_fields bytes.now)) }
 {
     let (names, rest) = nullable_array_at(bytes)?;
     Ok((MetadataRequest { names }, rest))
