@@ -10,7 +10,7 @@ use Rattle.request_frames.specs.declared.frame.TheConstants.{MAX_FRAME}
 use Rattle.request_frames.specs.declared.error.FrameError.{FrameError}
 use Rattle.request_frames.specs.declared.error.FrameError.TheVariants.{NegativeSize, TooLarge, ShortHeader, UnknownApi, BadVersion, ShortBody, Malformed, TrailingBytes, OutOfMemory}
 use Rattle.request_frames.specs.Fields.{size32, be}
-use Rattle.request_frames.specs.Frames.{framed, stream, frame_size, IsWithinLimit, IsIncomplete, SizeFault, IsFrames, HasNoFrame, IsFirstFrame, AreBytes}
+use Rattle.request_frames.specs.Frames.{framed, stream, frame_size, IsWithinLimit, IsIncomplete, SizeFault, IsFrames, HasNoFrame, IsFirstFrame, IsBytes}
 
 -- ---- what a first frame says of the bytes
 
@@ -123,21 +123,21 @@ one_cutting bytes rest other_rest (f ∷ fs) (g ∷ gs) cut none other_cut other
 
 -- ---- some way to cut
 
-pub take_fits : (n : ℕ) (bytes : List ℕ) → AreBytes bytes → AreBytes (take n bytes)
+pub take_fits : (n : ℕ) (bytes : List ℕ) → IsBytes bytes → IsBytes (take n bytes)
 take_fits n bytes fits i =
     elim (cases_lt i n) [
       | inl lt ↦ rw (get_or-take n bytes i 0 lt) (fits i)
       | inr le ↦ rw (get_or_past (take n bytes) i 0 (omega (arith, length-take n bytes))) (omega arith)
     ]
 
-drop_fits : (n : ℕ) (bytes : List ℕ) → AreBytes bytes → AreBytes (drop n bytes)
+drop_fits : (n : ℕ) (bytes : List ℕ) → IsBytes bytes → IsBytes (drop n bytes)
 drop_fits n bytes fits i = rw get_or-drop (fits (n + i))
 
-below_32 : (field : List ℕ) → AreBytes field → from_be_bytes w32 field < 2 ^ 32
+below_32 : (field : List ℕ) → IsBytes field → from_be_bytes w32 field < 2 ^ 32
 below_32 field fits = omega (arith, fits 0, fits 1, fits 2, fits 3)
 
 -- bytes that are long enough for the size that they begin with begin with a frame
-pub frame_back : (bytes : List ℕ) (n : ℕ) → AreBytes bytes → 4 + n ≤ length bytes → frame_size bytes ≡ pos n → IsWithinLimit (pos n) → IsFirstFrame (drop 4 (take (4 + n) bytes)) bytes (drop (4 + n) bytes)
+pub frame_back : (bytes : List ℕ) (n : ℕ) → IsBytes bytes → 4 + n ≤ length bytes → frame_size bytes ≡ pos n → IsWithinLimit (pos n) → IsFirstFrame (drop 4 (take (4 + n) bytes)) bytes (drop (4 + n) bytes)
 frame_back bytes n fits long size within =
     let m = from_be_bytes w32 (take 4 bytes) in
     let field = take 4 bytes in
@@ -155,12 +155,12 @@ frame_back bytes n fits long size within =
     }
 
 -- the same for the size as a signed number
-pub frame_there : (bytes : List ℕ) (z : ℤ) → AreBytes bytes → 4 + nat_abs z ≤ length bytes → frame_size bytes ≡ z → pos 0 ≤ℤ z → IsWithinLimit z → IsFirstFrame (drop 4 (take (4 + nat_abs z) bytes)) bytes (drop (4 + nat_abs z) bytes)
+pub frame_there : (bytes : List ℕ) (z : ℤ) → IsBytes bytes → 4 + nat_abs z ≤ length bytes → frame_size bytes ≡ z → pos 0 ≤ℤ z → IsWithinLimit z → IsFirstFrame (drop 4 (take (4 + nat_abs z) bytes)) bytes (drop (4 + nat_abs z) bytes)
 frame_there bytes (pos n) fits long size low within = frame_back bytes n fits long size within
 frame_there bytes (negsuc n) fits long size low within = absurd (omega (arith, ints, low))
 
 -- the bytes begin with a frame, or none can be cut, by the size z that they begin with
-by_size : (bytes : List ℕ) (z : ℤ) → AreBytes bytes → 4 ≤ length bytes → frame_size bytes ≡ z → HasNoFrame bytes ⊎ (frame rest : List ℕ) × IsFirstFrame frame bytes rest
+by_size : (bytes : List ℕ) (z : ℤ) → IsBytes bytes → 4 ≤ length bytes → frame_size bytes ≡ z → HasNoFrame bytes ⊎ (frame rest : List ℕ) × IsFirstFrame frame bytes rest
 by_size bytes (negsuc k) fits long size =
     inl (inr (NegativeSize, (long, omega (arith, ints, size))))
 by_size bytes (pos n) fits long size =
@@ -177,7 +177,7 @@ by_size bytes (pos n) fits long size =
       ]
     ]
 
-first_or_none : (bytes : List ℕ) → AreBytes bytes → HasNoFrame bytes ⊎ (frame rest : List ℕ) × IsFirstFrame frame bytes rest
+first_or_none : (bytes : List ℕ) → IsBytes bytes → HasNoFrame bytes ⊎ (frame rest : List ℕ) × IsFirstFrame frame bytes rest
 first_or_none bytes fits =
     elim (cases_lt (length bytes) 4) [ inl cut ↦ inl (inl (inl cut)) | inr long ↦ by_size bytes (frame_size bytes) fits long refl ]
 
@@ -189,11 +189,11 @@ one_more frame bytes rest first frames last cut =
       within = (first.within, cut.within);
     }
 
-rest_fits : (frame bytes rest : List ℕ) → AreBytes bytes → IsFirstFrame frame bytes rest → AreBytes rest
+rest_fits : (frame bytes rest : List ℕ) → IsBytes bytes → IsFirstFrame frame bytes rest → IsBytes rest
 rest_fits frame bytes rest fits first =
-    subst AreBytes (ap (drop (length (framed frame))) first.parts ∙ drop_at (framed frame) rest (length (framed frame)) refl) (drop_fits (length (framed frame)) bytes fits)
+    subst IsBytes (ap (drop (length (framed frame))) first.parts ∙ drop_at (framed frame) rest (length (framed frame)) refl) (drop_fits (length (framed frame)) bytes fits)
 
-pub some_cutting : (n : ℕ) (bytes : List ℕ) → length bytes ≤ n → AreBytes bytes → (frames : List (List ℕ)) × (rest : List ℕ) × IsFrames bytes frames rest × HasNoFrame rest
+pub some_cutting : (n : ℕ) (bytes : List ℕ) → length bytes ≤ n → IsBytes bytes → (frames : List (List ℕ)) × (rest : List ℕ) × IsFrames bytes frames rest × HasNoFrame rest
 some_cutting zero bytes short fits = ([], bytes, record { parts = refl; within = tt }, inl (inl (omega arith)))
 some_cutting (suc n) bytes short fits =
     elim (first_or_none bytes fits) [

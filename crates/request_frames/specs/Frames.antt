@@ -57,5 +57,5 @@ IsTakeFault OutOfMemory bytes = (frame rest : List ℕ) × IsFirstFrame frame by
 IsTakeFault e bytes = SizeFault e bytes
 
 -- each number is a byte's
-abbrev pub AreBytes : List ℕ → Type 0
-AreBytes bytes = (i : ℕ) → slice_index bytes i < 256
+abbrev pub IsBytes : List ℕ → Type 0
+IsBytes bytes = (i : ℕ) → slice_index bytes i < 256

@@ -1,6 +1,6 @@
 //! Laws about the definitions alone. The functions do nothing: what they ensure is the law.
 ghost use Rattle.std.specs.Prelude.{◌≡◌, List, ℕ};
-ghost use Rattle.request_frames.specs.Frames.{AreBytes, IsFrames, IsIncomplete, SizeFault, HasNoFrame};
+ghost use Rattle.request_frames.specs.Frames.{IsBytes, IsFrames, IsIncomplete, SizeFault, HasNoFrame};
 ghost use Rattle.request_frames.specs.declared.error.FrameError.{FrameError};
 
 /// Bytes are cut into frames in exactly one way: complete frames, and a rest that is incomplete or
@@ -10,7 +10,7 @@ pub fn frames_once()
         → IsFrames bytes frames rest → HasNoFrame rest
         → IsFrames bytes others other_rest → HasNoFrame other_rest
         → (frames ≡ others) × (rest ≡ other_rest) }
-    ensures every_stream_is_cut { (bytes : List ℕ) → AreBytes bytes
+    ensures every_stream_is_cut { (bytes : List ℕ) → IsBytes bytes
         → (frames : List (List ℕ)) × (rest : List ℕ) × IsFrames bytes frames rest × HasNoFrame rest }
     // A rest is incomplete or refused and not both, and it is refused for one reason.
     ensures incomplete_is_not_refused { (rest : List ℕ) (e : FrameError)
