@@ -1,11 +1,12 @@
 -- Frames behind their sizes: what is cut from the front of bytes, and that there is one way to cut them.
 use Rattle.std.proofs.Common.{◌≡◌, ◌⊎◌, inl, inr, ℕ, zero, suc, ◌+◌, ◌^◌, ◌<◌, ◌≤◌, List, [], ◌∷◌, ◌++◌, length, take, drop, get_or, refl, sym, ap, subst, ◌∙◌, append_assoc, arith}
 use Rattle.std.specs.Prelude.{nat_abs, ℤ, pos, negsuc, ◌+ℤ◌, ◌<ℤ◌, ◌≤ℤ◌}
-use Rattle.std.specs.Int.{w32, to_be_bytes, from_be_bytes, cast_signed, cast_unsigned}
+use Rattle.std.specs.Int.{w8, w32, to_be_bytes, from_be_bytes, cast_signed, cast_unsigned}
 use Rattle.std.proofs.lemmas.List.{take_at, drop_at, take-append-drop, take-take, length-append, length-take, length-drop, get_or-drop, get_or-take, get_or_past}
 use Rattle.std.proofs.lemmas.Bool.{cases_lt}
 use Rattle.std.proofs.lemmas.Nat.{be_bytes_4, from_be_bytes-to_be_bytes_4}
-use Rattle.std.proofs.lemmas.Int.{ints, to_z_pos, of_z-to_z}
+use Rattle.std.proofs.lemmas.Int.{ints, to_z_pos, of_z-to_z, to_z-of_z}
+use mir.Val.{Fits, SFits, to_z, of_z}
 use Rattle.request_frames.specs.declared.frame.TheConstants.{MAX_FRAME}
 use Rattle.request_frames.specs.declared.error.FrameError.{FrameError}
 use Rattle.request_frames.specs.declared.error.FrameError.TheVariants.{NegativeSize, TooLarge, ShortHeader, UnknownApi, BadVersion, ShortBody, Malformed, TrailingBytes, OutOfMemory}
@@ -158,6 +159,11 @@ frame_back bytes n fits long size within =
 pub frame_there : (bytes : List ℕ) (z : ℤ) → IsBytes bytes → 4 + nat_abs z ≤ length bytes → frame_size bytes ≡ z → pos 0 ≤ℤ z → IsWithinLimit z → IsFirstFrame (drop 4 (take (4 + nat_abs z) bytes)) bytes (drop (4 + nat_abs z) bytes)
 frame_there bytes (pos n) fits long size low within = frame_back bytes n fits long size within
 frame_there bytes (negsuc n) fits long size low within = absurd (omega (arith, ints, low))
+
+-- the same for a size as code reads it from a slice
+pub frame_read : (bytes : List ℕ) (x : ℤ) → ((i : ℕ) → Fits w8 (get_or bytes i 0)) → SFits w32 x → frame_size bytes ≡ x → pos 0 ≤ℤ to_z w32 (of_z w32 x) → IsWithinLimit (to_z w32 (of_z w32 x)) → 4 + nat_abs (to_z w32 (of_z w32 x)) ≤ length bytes → IsFirstFrame (drop 4 (take (4 + nat_abs (to_z w32 (of_z w32 x))) bytes)) bytes (drop (4 + nat_abs (to_z w32 (of_z w32 x))) bytes)
+frame_read bytes x fits fit size low within long =
+    frame_there bytes (to_z w32 (of_z w32 x)) (λ i. omega (arith, fits i)) long (size ∙ sym (to_z-of_z w32 x fit)) low within
 
 -- the bytes begin with a frame, or none can be cut, by the size z that they begin with
 by_size : (bytes : List ℕ) (z : ℤ) → IsBytes bytes → 4 ≤ length bytes → frame_size bytes ≡ z → HasNoFrame bytes ⊎ (frame rest : List ℕ) × IsFirstFrame frame bytes rest

@@ -1,7 +1,8 @@
 //! The cutting of a stream into frames, each behind its size.
 
 ghost use Rattle.std.specs.Prelude.{◌≡◌, ◌⊎◌, ℕ, ◌+◌, ◌≤◌, List, length, take, drop, MatchOption, MatchResult, IfSome, IfNone, IfOk, IfErr, OnErr};
-ghost use Rattle.request_frames.specs.Frames.{IsIncomplete, SizeFault, IsFirstFrame, IsTakeFault};
+ghost use Rattle.request_frames.specs.Fields.{size32, IsCut};
+ghost use Rattle.request_frames.specs.Frames.{frame_size, IsIncomplete, SizeFault, IsFirstFrame, IsTakeFault};
 ghost use Rattle.request_frames.specs.declared.error.FrameError.{FrameError};
 
 use crate::error::FrameError;
@@ -61,6 +62,7 @@ pub fn take_frame<A: Allocator + Copy>(
 }
 
 /// The size of the first frame, where all of it is there.
+#[tactic(auto, using(crate::proofs::FramesCut::frame_read))]
 fn first_size(bytes: &[u8]) -> Result<Option<usize>, FrameError>
     ensures is_first { MatchResult result
         (λ found. MatchOption found (IsIncomplete bytes.now) (λ size. IsFirstFrame
@@ -70,10 +72,9 @@ fn first_size(bytes: &[u8]) -> Result<Option<usize>, FrameError>
     ensures is_there { IfOk result (λ found. IfSome found
         (λ size. SIZE_BYTES + size ≤ length bytes.now)) }
 {
-    let Some((field, rest)) = bytes.split_first_chunk::<SIZE_BYTES>() else {
+    let Some(size) = read_size(bytes) else {
         return Ok(None);
     };
-    let size = i32::from_be_bytes(*field);
     if size < 0 {
         return Err(FrameError::NegativeSize);
     }
@@ -81,8 +82,17 @@ fn first_size(bytes: &[u8]) -> Result<Option<usize>, FrameError>
         return Err(FrameError::TooLarge);
     }
     let size = size as usize;
-    if rest.len() < size {
+    if bytes.len() - SIZE_BYTES < size {
         return Ok(None);
     }
     Ok(Some(size))
+}
+
+/// The number in the size field, where all of the field is there.
+fn read_size(bytes: &[u8]) -> Option<i32>
+    ensures { MatchOption result (IsCut size32 bytes.now) (λ size.
+        (SIZE_BYTES ≤ length bytes.now) × (frame_size bytes.now ≡ size)) }
+{
+    let field = bytes.first_chunk::<SIZE_BYTES>()?;
+    Some(i32::from_be_bytes(*field))
 }
