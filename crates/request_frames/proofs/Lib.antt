@@ -7,3 +7,4 @@ pub mod FieldLaws
 pub mod Arrays
 pub mod WholeFrames
 pub mod OneOutcome
+pub mod FramesCut

@@ -6,3 +6,5 @@ pub mod Apis
 pub mod Requests
 pub mod Bodies
 pub mod Views
+pub mod Frames
+pub mod Names

@@ -1,12 +1,25 @@
-//! Request frames as a broker's clients send them, and the responses. Kafka's documentation, "Protocol Guide".
+//! Request frames as a broker's clients send them, read as requests, and the responses to them
+//! (Kafka's documentation, "Protocol Guide").
 #![tactic(auto)]
 
-pub mod api;
+mod api;
 mod array;
-pub mod error;
+mod error;
 mod fields;
-pub mod parse_law;
+mod frame;
+mod laws;
+mod names;
 mod parsing;
-pub mod requests;
+mod requests;
 
+pub use api::Api;
+pub use array::{Array, Element};
 pub use error::{FieldFault, FrameError};
+pub use frame::{MAX_FRAME, take_frame};
+pub use laws::{frames_once, one_outcome};
+pub use names::{MAX_TOPIC_NAME, is_topic_name};
+pub use parsing::{Request, RequestBody, parse};
+pub use requests::{
+    FetchPartition, FetchRequest, ListOffsetsPartition, ListOffsetsRequest, MetadataRequest, Name,
+    ProducePartition, ProduceRequest, Topic,
+};

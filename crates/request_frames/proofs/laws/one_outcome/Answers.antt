@@ -1,5 +1,5 @@
 use Rattle.request_frames.proofs.OneOutcome as law
-use Rattle.request_frames.proofs.parse_law.one_outcome.Goals as goal
+use Rattle.request_frames.proofs.laws.one_outcome.Goals as goal
 
 pub returns-clause-one_request : goal.returns-clause-one_request
 returns-clause-one_request c = law.one_request
