@@ -2,5 +2,7 @@
 #![tactic(auto)]
 
 pub mod error;
+pub mod response;
+pub mod response_laws;
 
 pub use error::{FieldFault, FrameError};
