@@ -43,6 +43,8 @@ pub(crate) fn append_around<A: Allocator + Copy>(
     ensures appends { OnOk result
         (out.new.items ≡ out.old.items ++ (before.now ++ (name.now ++ after.now))) }
     ensures unchanged_on_error { OnErr result (out.new.items ≡ out.old.items) }
+    ensures len { OnOk result
+        (vec_len out.new ≡ vec_len out.old + (length before.now + length name.now + length after.now)) }
     ensures succeeds { vec_len out.old + (length before.now + length name.now + length after.now)
         ≤ vec_capacity out.old → IsOk result }
     ensures keeps_capacity { vec_capacity out.old ≤ vec_capacity out.new }
@@ -73,6 +75,7 @@ pub fn begin_response<A: Allocator + Copy>(
 ) -> Result<(), AllocError>
     ensures appends { OnOk result (out.new.items ≡ out.old.items ++ response_head correlation) }
     ensures unchanged_on_error { OnErr result (out.new.items ≡ out.old.items) }
+    ensures len { OnOk result (vec_len out.new ≡ vec_len out.old + RESPONSE_HEAD_BYTES) }
     ensures succeeds { vec_len out.old + RESPONSE_HEAD_BYTES ≤ vec_capacity out.old → IsOk result }
     ensures keeps_capacity { vec_capacity out.old ≤ vec_capacity out.new }
 {
@@ -98,6 +101,7 @@ pub fn finish_response<A: Allocator + Copy>(out: &mut Vec<u8, A>, start: usize)
     requires fits { vec_len out.old ≤ start + 4 + MAX_BODY_BYTES }
     ensures frames { (front size body : List ℕ) → out.old.items ≡ front ++ (size ++ body)
         → length front ≡ start → length size ≡ 4 → out.new.items ≡ front ++ framed body }
+    ensures keeps_len { vec_len out.new ≡ vec_len out.old }
     ensures keeps_capacity { vec_capacity out.new ≡ vec_capacity out.old }
 {
     set_size(out, start);
@@ -119,6 +123,8 @@ pub fn begin_topic<A: Allocator + Copy>(
     ensures appends { OnOk result
         (out.new.items ≡ out.old.items ++ topic_head name.now partition_count) }
     ensures unchanged_on_error { OnErr result (out.new.items ≡ out.old.items) }
+    ensures len { OnOk result
+        (vec_len out.new ≡ vec_len out.old + (TOPIC_HEAD_BYTES + length name.now)) }
     ensures succeeds { vec_len out.old + (TOPIC_HEAD_BYTES + length name.now) ≤ vec_capacity out.old
         → IsOk result }
     ensures keeps_capacity { vec_capacity out.old ≤ vec_capacity out.new }

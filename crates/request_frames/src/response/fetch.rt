@@ -46,6 +46,7 @@ pub fn begin_fetch<A: Allocator + Copy>(
 ) -> Result<(), AllocError>
     ensures appends { OnOk result (out.new.items ≡ out.old.items ++ fetch_head topic_count) }
     ensures unchanged_on_error { OnErr result (out.new.items ≡ out.old.items) }
+    ensures len { OnOk result (vec_len out.new ≡ vec_len out.old + FETCH_HEAD_BYTES) }
     ensures succeeds { vec_len out.old + FETCH_HEAD_BYTES ≤ vec_capacity out.old → IsOk result }
     ensures keeps_capacity { vec_capacity out.old ≤ vec_capacity out.new }
 {
@@ -79,6 +80,7 @@ pub fn begin_fetched_partition<A: Allocator + Copy>(
 ) -> Result<(), AllocError>
     ensures appends { OnOk result (out.new.items ≡ out.old.items ++ fetched_head partition size) }
     ensures unchanged_on_error { OnErr result (out.new.items ≡ out.old.items) }
+    ensures len { OnOk result (vec_len out.new ≡ vec_len out.old + FETCHED_HEAD_BYTES) }
     ensures succeeds { vec_len out.old + FETCHED_HEAD_BYTES ≤ vec_capacity out.old → IsOk result }
     ensures keeps_capacity { vec_capacity out.old ≤ vec_capacity out.new }
 {

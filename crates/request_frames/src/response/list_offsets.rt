@@ -37,6 +37,7 @@ pub fn begin_list_offsets<A: Allocator + Copy>(
 ) -> Result<(), AllocError>
     ensures appends { OnOk result (out.new.items ≡ out.old.items ++ list_offsets_head topic_count) }
     ensures unchanged_on_error { OnErr result (out.new.items ≡ out.old.items) }
+    ensures len { OnOk result (vec_len out.new ≡ vec_len out.old + COUNT_BYTES) }
     ensures succeeds { vec_len out.old + COUNT_BYTES ≤ vec_capacity out.old → IsOk result }
     ensures keeps_capacity { vec_capacity out.old ≤ vec_capacity out.new }
 {
@@ -66,6 +67,7 @@ pub fn put_listed_partition<A: Allocator + Copy>(
 ) -> Result<(), AllocError>
     ensures appends { OnOk result (out.new.items ≡ out.old.items ++ listed_bytes partition) }
     ensures unchanged_on_error { OnErr result (out.new.items ≡ out.old.items) }
+    ensures len { OnOk result (vec_len out.new ≡ vec_len out.old + LISTED_PARTITION_BYTES) }
     ensures succeeds { vec_len out.old + LISTED_PARTITION_BYTES ≤ vec_capacity out.old
         → IsOk result }
     ensures keeps_capacity { vec_capacity out.old ≤ vec_capacity out.new }

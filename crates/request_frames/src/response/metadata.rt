@@ -70,6 +70,8 @@ pub fn begin_metadata<A: Allocator + Copy>(
     ensures appends { OnOk result (out.new.items ≡ out.old.items ++ metadata_head
         broker.entry.node_id broker.entry.host.now broker.entry.port controller topic_count) }
     ensures unchanged_on_error { OnErr result (out.new.items ≡ out.old.items) }
+    ensures len { OnOk result
+        (vec_len out.new ≡ vec_len out.old + (METADATA_HEAD_BYTES + length broker.entry.host.now)) }
     ensures succeeds { vec_len out.old + (METADATA_HEAD_BYTES + length broker.entry.host.now)
         ≤ vec_capacity out.old → IsOk result }
     ensures keeps_capacity { vec_capacity out.old ≤ vec_capacity out.new }
@@ -102,6 +104,8 @@ pub fn begin_metadata_topic<A: Allocator + Copy>(
     ensures appends { OnOk result (out.new.items ≡ out.old.items ++ metadata_topic_head
         topic.entry.code topic.entry.name.now topic.entry.is_internal partition_count) }
     ensures unchanged_on_error { OnErr result (out.new.items ≡ out.old.items) }
+    ensures len { OnOk result
+        (vec_len out.new ≡ vec_len out.old + (METADATA_TOPIC_HEAD_BYTES + length topic.entry.name.now)) }
     ensures succeeds { vec_len out.old + (METADATA_TOPIC_HEAD_BYTES + length topic.entry.name.now)
         ≤ vec_capacity out.old → IsOk result }
     ensures keeps_capacity { vec_capacity out.old ≤ vec_capacity out.new }
@@ -155,6 +159,8 @@ pub fn put_metadata_partition<A: Allocator + Copy>(
     ensures appends { OnOk result
         (out.new.items ≡ out.old.items ++ metadata_partition_bytes partition) }
     ensures unchanged_on_error { OnErr result (out.new.items ≡ out.old.items) }
+    ensures len { OnOk result ((vec_len out.old ≤ vec_len out.new)
+        × (vec_len out.new ≤ vec_len out.old + METADATA_PARTITION_BYTES)) }
     ensures succeeds { vec_len out.old + METADATA_PARTITION_BYTES ≤ vec_capacity out.old
         → IsOk result }
     ensures keeps_capacity { vec_capacity out.old ≤ vec_capacity out.new }

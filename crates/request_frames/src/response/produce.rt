@@ -38,6 +38,7 @@ pub fn begin_produce<A: Allocator + Copy>(
 ) -> Result<(), AllocError>
     ensures appends { OnOk result (out.new.items ≡ out.old.items ++ produce_head topic_count) }
     ensures unchanged_on_error { OnErr result (out.new.items ≡ out.old.items) }
+    ensures len { OnOk result (vec_len out.new ≡ vec_len out.old + COUNT_BYTES) }
     ensures succeeds { vec_len out.old + COUNT_BYTES ≤ vec_capacity out.old → IsOk result }
     ensures keeps_capacity { vec_capacity out.old ≤ vec_capacity out.new }
 {
@@ -67,6 +68,7 @@ pub fn put_produced_partition<A: Allocator + Copy>(
 ) -> Result<(), AllocError>
     ensures appends { OnOk result (out.new.items ≡ out.old.items ++ produced_bytes partition) }
     ensures unchanged_on_error { OnErr result (out.new.items ≡ out.old.items) }
+    ensures len { OnOk result (vec_len out.new ≡ vec_len out.old + PRODUCED_PARTITION_BYTES) }
     ensures succeeds { vec_len out.old + PRODUCED_PARTITION_BYTES ≤ vec_capacity out.old
         → IsOk result }
     ensures keeps_capacity { vec_capacity out.old ≤ vec_capacity out.new }
@@ -83,6 +85,7 @@ pub fn put_produced_partition<A: Allocator + Copy>(
 pub fn end_produce<A: Allocator + Copy>(out: &mut Vec<u8, A>) -> Result<(), AllocError>
     ensures appends { OnOk result (out.new.items ≡ out.old.items ++ produce_tail) }
     ensures unchanged_on_error { OnErr result (out.new.items ≡ out.old.items) }
+    ensures len { OnOk result (vec_len out.new ≡ vec_len out.old + PRODUCE_TAIL_BYTES) }
     ensures succeeds { vec_len out.old + PRODUCE_TAIL_BYTES ≤ vec_capacity out.old → IsOk result }
     ensures keeps_capacity { vec_capacity out.old ≤ vec_capacity out.new }
 {
