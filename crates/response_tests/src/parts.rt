@@ -52,6 +52,24 @@ pub(crate) const NOT_FOUND: ListedPartition = ListedPartition {
     offset: -1,
 };
 
+pub(crate) const BROKER: MetadataBroker<'static> = MetadataBroker {
+    node_id: 1,
+    host: b"h.eu",
+    port: 9092,
+};
+
+pub(crate) const INTERNAL: MetadataTopic<'static> = MetadataTopic {
+    code: 0,
+    name: b"ab",
+    is_internal: true,
+};
+
+pub(crate) const UNKNOWN: MetadataTopic<'static> = MetadataTopic {
+    code: 3,
+    name: b"c",
+    is_internal: false,
+};
+
 pub(crate) const LED: MetadataPartition = MetadataPartition {
     code: 0,
     index: 0,
@@ -82,31 +100,9 @@ pub(crate) fn put_part<A: Allocator + Copy>(
         6 => begin_fetched_partition(out, READ, 3),
         7 => begin_list_offsets(out, 2),
         8 => put_listed_partition(out, FOUND),
-        9 => put_broker(out),
-        10 => put_internal_topic(out),
+        9 => begin_metadata(out, BROKER, 1, 2),
+        10 => begin_metadata_topic(out, INTERNAL, 2),
         11 => put_metadata_partition(out, LED),
         _ => put_metadata_partition(out, LEADERLESS),
     }
-}
-
-/// Begins a Metadata response of two topics.
-pub(crate) fn put_broker<A: Allocator + Copy>(out: &mut Vec<u8, A>) -> Result<(), AllocError> {
-    let broker = MetadataBroker {
-        node_id: 1,
-        host: b"h.eu",
-        port: 9092,
-    };
-    begin_metadata(out, broker, 1, 2)
-}
-
-/// Begins an internal topic of two partitions.
-pub(crate) fn put_internal_topic<A: Allocator + Copy>(
-    out: &mut Vec<u8, A>,
-) -> Result<(), AllocError> {
-    let topic = MetadataTopic {
-        code: 0,
-        name: b"ab",
-        is_internal: true,
-    };
-    begin_metadata_topic(out, topic, 2)
 }

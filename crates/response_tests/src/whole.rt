@@ -1,15 +1,15 @@
 //! Whole responses against bytes worked out by hand.
 
 use crate::parts::{
-    FOUND, LEADERLESS, LED, NOT_FOUND, NOT_READ, NOT_STORED, READ, STORED, put_broker,
-    put_internal_topic,
+    BROKER, FOUND, INTERNAL, LEADERLESS, LED, NOT_FOUND, NOT_READ, NOT_STORED, READ, STORED,
+    UNKNOWN,
 };
 use request_frames::response::fetch::{begin_fetch, begin_fetched_partition};
 use request_frames::response::list_offsets::{
     ListedPartition, begin_list_offsets, put_listed_partition,
 };
 use request_frames::response::metadata::{
-    MetadataTopic, begin_metadata_topic, put_metadata_partition,
+    begin_metadata, begin_metadata_topic, put_metadata_partition,
 };
 use request_frames::response::produce::{
     PRODUCE_TAIL_BYTES, PRODUCED_PARTITION_BYTES, ProducedPartition, begin_produce, end_produce,
@@ -233,17 +233,12 @@ fn put_list_offsets_of_one<A: Allocator + Copy>(out: &mut Vec<u8, A>) -> Result<
 
 fn put_metadata<A: Allocator + Copy>(out: &mut Vec<u8, A>) -> Result<(), AllocError> {
     let start = out.len();
-    let unknown = MetadataTopic {
-        code: 3,
-        name: b"c",
-        is_internal: false,
-    };
     begin_response(out, 9)?;
-    put_broker(out)?;
-    put_internal_topic(out)?;
+    begin_metadata(out, BROKER, 1, 2)?;
+    begin_metadata_topic(out, INTERNAL, 2)?;
     put_metadata_partition(out, LED)?;
     put_metadata_partition(out, LEADERLESS)?;
-    begin_metadata_topic(out, unknown, 0)?;
+    begin_metadata_topic(out, UNKNOWN, 0)?;
     finish_response(out, start);
     Ok(())
 }
