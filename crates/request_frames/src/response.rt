@@ -24,6 +24,9 @@ pub const COUNT_BYTES: usize = 4;
 /// The number of bytes before a topic's partitions, but for its name.
 pub const TOPIC_HEAD_BYTES: usize = 6;
 
+/// The greatest count, and the most bytes of a partition's records: what an INT32 holds.
+pub const MAX_COUNT: u32 = 2_147_483_647;
+
 /// The most bytes that a name or another STRING can have.
 pub const MAX_STRING_BYTES: usize = 32_767;
 
@@ -83,7 +86,6 @@ pub fn begin_response<A: Allocator + Copy>(
 }
 
 /// Sets the size at an offset to the number of bytes behind it.
-#[tactic(auto)]
 fn set_size(bytes: &mut [u8], start: usize)
     requires is_begun { start + 4 ≤ length bytes.old }
     requires fits { length bytes.old ≤ start + 4 + MAX_BODY_BYTES }
@@ -94,8 +96,8 @@ fn set_size(bytes: &mut [u8], start: usize)
     BigEndian::write_u32(&mut bytes[start..start + 4], size as u32);
 }
 
-/// Finishes the response that begins at `start`, by setting its size to the number of bytes behind
-/// it.
+/// Finishes the response that begins at byte `start` of the output, by setting its size to the
+/// number of bytes behind the size, at most `MAX_BODY_BYTES`.
 pub fn finish_response<A: Allocator + Copy>(out: &mut Vec<u8, A>, start: usize)
     requires is_begun { start + 4 ≤ vec_len out.old }
     requires fits { vec_len out.old ≤ start + 4 + MAX_BODY_BYTES }
@@ -119,7 +121,8 @@ pub fn begin_topic<A: Allocator + Copy>(
     name: &[u8],
     partition_count: u32,
 ) -> Result<(), AllocError>
-    requires { length name.now ≤ MAX_STRING_BYTES }
+    requires name { length name.now ≤ MAX_STRING_BYTES }
+    requires count { partition_count ≤ MAX_COUNT }
     ensures appends { OnOk result
         (out.new.items ≡ out.old.items ++ topic_head name.now partition_count) }
     ensures unchanged_on_error { OnErr result (out.new.items ≡ out.old.items) }

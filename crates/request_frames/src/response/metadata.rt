@@ -5,7 +5,7 @@ ghost use Rattle.std.specs.Prelude.{◌≡◌, ◌≤◌, ◌+◌, ◌++◌, len
 ghost use Rattle.std.specs.Vec.{vec_len, vec_capacity};
 ghost use Rattle.request_frames.specs.Responses.{metadata_head, metadata_topic_head, metadata_partition_bytes};
 
-use crate::response::{MAX_STRING_BYTES, append_around};
+use crate::response::{MAX_COUNT, MAX_STRING_BYTES, append_around};
 use byteorder::{BigEndian, ByteOrder};
 use std::alloc::{AllocError, Allocator};
 
@@ -66,7 +66,8 @@ pub fn begin_metadata<A: Allocator + Copy>(
     controller: i32,
     topic_count: u32,
 ) -> Result<(), AllocError>
-    requires { length broker.host.now ≤ MAX_STRING_BYTES }
+    requires host { length broker.host.now ≤ MAX_STRING_BYTES }
+    requires count { topic_count ≤ MAX_COUNT }
     ensures appends { OnOk result (out.new.items ≡ out.old.items ++ metadata_head
         broker.entry.node_id broker.entry.host.now broker.entry.port controller topic_count) }
     ensures unchanged_on_error { OnErr result (out.new.items ≡ out.old.items) }
@@ -100,7 +101,8 @@ pub fn begin_metadata_topic<A: Allocator + Copy>(
     topic: MetadataTopic<'_>,
     partition_count: u32,
 ) -> Result<(), AllocError>
-    requires { length topic.name.now ≤ MAX_STRING_BYTES }
+    requires name { length topic.name.now ≤ MAX_STRING_BYTES }
+    requires count { partition_count ≤ MAX_COUNT }
     ensures appends { OnOk result (out.new.items ≡ out.old.items ++ metadata_topic_head
         topic.entry.code topic.entry.name.now topic.entry.is_internal partition_count) }
     ensures unchanged_on_error { OnErr result (out.new.items ≡ out.old.items) }
