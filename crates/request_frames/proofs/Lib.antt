@@ -8,3 +8,4 @@ pub mod Arrays
 pub mod WholeFrames
 pub mod OneOutcome
 pub mod FramesCut
+pub mod ResponseParts

@@ -8,3 +8,4 @@ pub mod Bodies
 pub mod Views
 pub mod Frames
 pub mod Names
+pub mod Responses

@@ -11,6 +11,8 @@ mod laws;
 mod names;
 mod parsing;
 mod requests;
+pub mod response;
+mod response_laws;
 
 pub use api::Api;
 pub use array::{Array, Element};
