@@ -7,3 +7,5 @@ mod cutting;
 mod cutting_memory;
 #[cfg(test)]
 mod names;
+#[cfg(test)]
+mod parsing;

@@ -23,10 +23,10 @@ size_again frame rest within =
     let back : from_be_bytes w32 (to_be_bytes w32 n) ≡ n = from_be_bytes-to_be_bytes_4 n (omega arith) in
     ap (cast_signed w32) back ∙ to_z_pos w32 n small
 
-pub first_size_is : (frame bytes rest : List ℕ) → IsFirstFrame frame bytes rest → frame_size bytes ≡ pos (length frame)
+first_size_is : (frame bytes rest : List ℕ) → IsFirstFrame frame bytes rest → frame_size bytes ≡ pos (length frame)
 first_size_is frame bytes rest first = ap frame_size first.parts ∙ size_again frame rest first.within
 
-pub first_length_is : (frame bytes rest : List ℕ) → IsFirstFrame frame bytes rest → length bytes ≡ 4 + length frame + length rest
+first_length_is : (frame bytes rest : List ℕ) → IsFirstFrame frame bytes rest → length bytes ≡ 4 + length frame + length rest
 first_length_is frame bytes rest first =
     omega (arith, ap length first.parts, length-append (framed frame) rest, length-append (be size32 (pos (length frame))) frame)
 
@@ -80,7 +80,7 @@ incomplete_is_not_refused rest TrailingBytes incomplete fault = fault
 incomplete_is_not_refused rest OutOfMemory incomplete fault = fault
 
 -- a size is refused for one reason
-pub fault_is : (rest : List ℕ) (e : FrameError) → SizeFault e rest → ((e ≡ NegativeSize) × (frame_size rest <ℤ pos 0)) ⊎ ((e ≡ TooLarge) × (MAX_FRAME <ℤ frame_size rest))
+fault_is : (rest : List ℕ) (e : FrameError) → SizeFault e rest → ((e ≡ NegativeSize) × (frame_size rest <ℤ pos 0)) ⊎ ((e ≡ TooLarge) × (MAX_FRAME <ℤ frame_size rest))
 fault_is rest NegativeSize fault = inl (refl, fault.1)
 fault_is rest TooLarge fault = inr (refl, fault.1)
 fault_is rest ShortHeader fault = absurd fault
@@ -124,7 +124,7 @@ one_cutting bytes rest other_rest (f ∷ fs) (g ∷ gs) cut none other_cut other
 
 -- ---- some way to cut
 
-pub take_fits : (n : ℕ) (bytes : List ℕ) → IsBytes bytes → IsBytes (take n bytes)
+take_fits : (n : ℕ) (bytes : List ℕ) → IsBytes bytes → IsBytes (take n bytes)
 take_fits n bytes fits i =
     elim (cases_lt i n) [
       | inl lt ↦ rw (get_or-take n bytes i 0 lt) (fits i)
@@ -138,7 +138,7 @@ below_32 : (field : List ℕ) → IsBytes field → from_be_bytes w32 field < 2 
 below_32 field fits = omega (arith, fits 0, fits 1, fits 2, fits 3)
 
 -- bytes that are long enough for the size that they begin with begin with a frame
-pub frame_back : (bytes : List ℕ) (n : ℕ) → IsBytes bytes → 4 + n ≤ length bytes → frame_size bytes ≡ pos n → IsWithinLimit (pos n) → IsFirstFrame (drop 4 (take (4 + n) bytes)) bytes (drop (4 + n) bytes)
+frame_back : (bytes : List ℕ) (n : ℕ) → IsBytes bytes → 4 + n ≤ length bytes → frame_size bytes ≡ pos n → IsWithinLimit (pos n) → IsFirstFrame (drop 4 (take (4 + n) bytes)) bytes (drop (4 + n) bytes)
 frame_back bytes n fits long size within =
     let m = from_be_bytes w32 (take 4 bytes) in
     let field = take 4 bytes in
@@ -156,7 +156,7 @@ frame_back bytes n fits long size within =
     }
 
 -- the same for the size as a signed number
-pub frame_there : (bytes : List ℕ) (z : ℤ) → IsBytes bytes → 4 + nat_abs z ≤ length bytes → frame_size bytes ≡ z → pos 0 ≤ℤ z → IsWithinLimit z → IsFirstFrame (drop 4 (take (4 + nat_abs z) bytes)) bytes (drop (4 + nat_abs z) bytes)
+frame_there : (bytes : List ℕ) (z : ℤ) → IsBytes bytes → 4 + nat_abs z ≤ length bytes → frame_size bytes ≡ z → pos 0 ≤ℤ z → IsWithinLimit z → IsFirstFrame (drop 4 (take (4 + nat_abs z) bytes)) bytes (drop (4 + nat_abs z) bytes)
 frame_there bytes (pos n) fits long size low within = frame_back bytes n fits long size within
 frame_there bytes (negsuc n) fits long size low within = absurd (omega (arith, ints, low))
 
@@ -170,12 +170,12 @@ by_size : (bytes : List ℕ) (z : ℤ) → IsBytes bytes → 4 ≤ length bytes 
 by_size bytes (negsuc k) fits long size =
     inl (inr (NegativeSize, (long, omega (arith, ints, size))))
 by_size bytes (pos n) fits long size =
-    let over : 8388608 < n → MAX_FRAME <ℤ frame_size bytes = λ h. omega (arith, ints, size, h) in
+    let over : nat_abs MAX_FRAME < n → MAX_FRAME <ℤ frame_size bytes = λ h. omega (arith, ints, size, h) in
     let low : pos 0 ≤ℤ frame_size bytes = omega (arith, ints, size) in
-    let high : n ≤ 8388608 → IsWithinLimit (frame_size bytes) = λ h. omega (arith, ints, size, h) in
-    let limit : n ≤ 8388608 → IsWithinLimit (pos n) = λ h. omega (arith, ints, h) in
+    let high : n ≤ nat_abs MAX_FRAME → IsWithinLimit (frame_size bytes) = λ h. omega (arith, ints, size, h) in
+    let limit : n ≤ nat_abs MAX_FRAME → IsWithinLimit (pos n) = λ h. omega (arith, ints, h) in
     let short : length bytes < 4 + n → pos (length bytes) <ℤ (pos 4 +ℤ frame_size bytes) = λ h. omega (arith, ints, size, h) in
-    elim (cases_lt 8388608 n) [
+    elim (cases_lt (nat_abs MAX_FRAME) n) [
       | inl h ↦ inl (inr (TooLarge, (long, over h)))
       | inr h ↦ elim (cases_lt (length bytes) (4 + n)) [
         | inl missing ↦ inl (inl (inr (low, high h, short missing)))

@@ -12,6 +12,7 @@ use Rattle.request_frames.specs.Fields.{size32, width, be, number_at, IsCut, IsB
 abbrev pub framed : List ℕ → List ℕ
 framed frame = be size32 (pos (length frame)) ++ frame
 
+-- frames one after the other
 abbrev pub stream : List (List ℕ) → List ℕ
 stream frames = flat_map framed frames
 
@@ -19,6 +20,7 @@ stream frames = flat_map framed frames
 abbrev pub frame_size : List ℕ → ℤ
 frame_size bytes = number_at size32 bytes
 
+-- a frame may have this size, if it isn't negative
 abbrev pub IsWithinLimit : ℤ → Type 0
 IsWithinLimit size = size ≤ℤ MAX_FRAME
 

@@ -42,6 +42,19 @@ impl<'a, E> Model for Array<'a, E> {
     ghost view = { λ a. record { count = a.left; bytes = a.bytes.now } };
 }
 
+impl<'a, E> Array<'a, E> {
+    /// The same elements again. It takes no memory.
+    pub fn duplicate(&self) -> Array<'a, E>
+        ensures { result ≡ self.now }
+    {
+        Array {
+            left: self.left,
+            bytes: self.bytes,
+            element: PhantomData,
+        }
+    }
+}
+
 impl<'a, E: Element<'a>> Iterator for Array<'a, E> {
     type Item = E;
 

@@ -85,15 +85,14 @@ pub fn begin_response<A: Allocator + Copy>(
     out.extend_from_slice(&response_head_bytes(correlation))
 }
 
-/// Sets the size at an offset to the number of bytes behind it.
-fn set_size(bytes: &mut [u8], start: usize)
-    requires is_begun { start + 4 ≤ length bytes.old }
-    requires fits { length bytes.old ≤ start + 4 + MAX_BODY_BYTES }
-    ensures { (front size body : List ℕ) → bytes.old ≡ front ++ (size ++ body)
-        → length front ≡ start → length size ≡ 4 → bytes.new ≡ front ++ framed body }
+/// Sets the INT32 at an offset.
+fn set_int32(bytes: &mut [u8], at: usize, value: u32)
+    requires is_there { at + 4 ≤ length bytes.old }
+    requires fits { value ≤ MAX_COUNT }
+    ensures { (front field rest : List ℕ) → bytes.old ≡ front ++ (field ++ rest) → length front ≡ at
+        → length field ≡ 4 → bytes.new ≡ front ++ (be size32 (pos value) ++ rest) }
 {
-    let size = bytes.len() - start - 4;
-    BigEndian::write_u32(&mut bytes[start..start + 4], size as u32);
+    BigEndian::write_u32(&mut bytes[at..at + 4], value);
 }
 
 /// Finishes the response that begins at byte `start` of the output, by setting its size to the
@@ -106,7 +105,21 @@ pub fn finish_response<A: Allocator + Copy>(out: &mut Vec<u8, A>, start: usize)
     ensures keeps_len { vec_len out.new ≡ vec_len out.old }
     ensures keeps_capacity { vec_capacity out.new ≡ vec_capacity out.old }
 {
-    set_size(out, start);
+    let size = out.len() - start - 4;
+    set_int32(out, start, size as u32);
+}
+
+/// Sets the count at byte `at` of the output, where one was written before it was known.
+pub fn set_count<A: Allocator + Copy>(out: &mut Vec<u8, A>, at: usize, count: u32)
+    requires is_there { at + 4 ≤ vec_len out.old }
+    requires fits { count ≤ MAX_COUNT }
+    ensures sets { (front field rest : List ℕ) → out.old.items ≡ front ++ (field ++ rest)
+        → length front ≡ at → length field ≡ 4
+        → out.new.items ≡ front ++ (be size32 (pos count) ++ rest) }
+    ensures keeps_len { vec_len out.new ≡ vec_len out.old }
+    ensures keeps_capacity { vec_capacity out.new ≡ vec_capacity out.old }
+{
+    set_int32(out, at, count);
 }
 
 /// Begins a topic: its name and the count of its partitions. A Metadata response has topics of its
