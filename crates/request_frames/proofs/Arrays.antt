@@ -78,6 +78,9 @@ module _ {X : Type 0} (read : List ℕ → At X) where
   pub fault_read : (n : ℕ) (bytes : List ℕ) (e : FieldFault) → map_ok (λ p. p.1) (read_times read n bytes) ≡ Err e → read_times read n bytes ≡ Err e
   fault_read n bytes e h = fault_kept (λ p. p.1) (read_times read n bytes) e h
 
+-- an array's next element
+pub ruleset next_element = (none_left, none_read, one_read)
+
 -- the loop over an array's elements
 pub ruleset times_loop = (times_go_on, times_fail, times_done)
 

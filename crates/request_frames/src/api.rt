@@ -43,8 +43,8 @@ impl Api {
         }
     }
 
-    /// The request of this key and version. `UnknownApi` where none has the key, else `BadVersion` where it isn't read in
-    /// this version.
+    /// The request of this key and version. `UnknownApi` where none has the key, else `BadVersion`
+    /// where it isn't read in this version.
     pub(crate) fn find(key: i16, version: i16) -> Result<Api, FrameError>
         ensures found { IfOk result (λ api. IsApi key version api) }
         ensures refused { IfErr result (IsNoApi key version) }

@@ -3,7 +3,7 @@
 ghost use Rattle.std.specs.Prelude.{◌≡◌};
 ghost use Rattle.std.specs.Option.{option_map};
 ghost use Rattle.std.specs.Iterator.{YieldsFirstBy, item_count};
-ghost use Rattle.request_frames.specs.Reading.{Gives, map_ok, read_array, read_array_or_null, read_times, read_fields};
+ghost use Rattle.request_frames.specs.Reading.{Gives, map_ok, read_array, read_array_or_null, read_count, read_times, read_fields};
 ghost use Rattle.request_frames.specs.Arrays.{values};
 
 use crate::error::FieldFault;
@@ -62,7 +62,7 @@ impl<'a, E: Element<'a>> Iterator for Array<'a, E> {
 
     ghost remaining = { item_count (values E.fields) };
 
-    #[tactic(auto, using(crate::proofs::Arrays::none_left, crate::proofs::Arrays::none_read, crate::proofs::Arrays::one_read))]
+    #[tactic(auto, using(crate::proofs::Arrays::next_element))]
     fn next(&mut self) -> Option<E> {
         if self.left == 0 {
             return None;
@@ -96,15 +96,15 @@ fn after_elements<'a, E: Element<'a> + Drop>(
     Ok(rest)
 }
 
-/// The array at the front, and the bytes after it.
-#[tactic(auto, using(crate::proofs::Arrays::array_read), unfolding(crate::specs::Reading::read_array))]
-pub(crate) fn array_at<'a, E: Element<'a> + Drop>(
+/// An array of that many elements, and the bytes after it.
+#[tactic(auto, using(crate::proofs::Arrays::array_read))]
+fn counted<'a, E: Element<'a> + Drop>(
+    count: i32,
     bytes: &'a [u8],
 ) -> Result<(Array<'a, E>, &'a [u8]), FieldFault>
     ensures { Gives (λ x. (values E.fields x.0, x.1.now)) result
-        (read_array (read_fields E.fields) bytes.now) }
+        (read_count (read_fields E.fields) count bytes.now) }
 {
-    let (count, bytes) = int32(bytes)?;
     let Ok(count) = u32::try_from(count) else {
         return Err(FieldFault::Malformed);
     };
@@ -117,26 +117,30 @@ pub(crate) fn array_at<'a, E: Element<'a> + Drop>(
     Ok((array, rest))
 }
 
+/// The array at the front, and the bytes after it.
+#[tactic(auto, unfolding(crate::specs::Reading::read_array))]
+pub(crate) fn array_at<'a, E: Element<'a> + Drop>(
+    bytes: &'a [u8],
+) -> Result<(Array<'a, E>, &'a [u8]), FieldFault>
+    ensures { Gives (λ x. (values E.fields x.0, x.1.now)) result
+        (read_array (read_fields E.fields) bytes.now) }
+{
+    let (count, rest) = int32(bytes)?;
+    counted(count, rest)
+}
+
 /// The array at the front, or null, and the bytes after it.
-#[tactic(auto, using(crate::proofs::Arrays::array_read), unfolding(crate::specs::Reading::read_array_or_null))]
+#[tactic(auto, unfolding(crate::specs::Reading::read_array_or_null))]
 pub(crate) fn nullable_array_at<'a, E: Element<'a> + Drop>(
     bytes: &'a [u8],
 ) -> Result<(Option<Array<'a, E>>, &'a [u8]), FieldFault>
     ensures { Gives (λ x. (option_map (values E.fields) x.0, x.1.now)) result
         (read_array_or_null (read_fields E.fields) bytes.now) }
 {
-    let (count, bytes) = int32(bytes)?;
+    let (count, rest) = int32(bytes)?;
     if count == -1 {
-        return Ok((None, bytes));
+        return Ok((None, rest));
     }
-    let Ok(count) = u32::try_from(count) else {
-        return Err(FieldFault::Malformed);
-    };
-    let rest = after_elements::<E>(count, bytes)?;
-    let array = Array {
-        left: count,
-        bytes,
-        element: PhantomData,
-    };
+    let (array, rest) = counted(count, rest)?;
     Ok((Some(array), rest))
 }

@@ -65,7 +65,8 @@ pub(crate) fn string(bytes: &[u8]) -> Result<(&[u8], &[u8]), FieldFault>
 #[inline]
 #[tactic(auto, unfolding(crate::specs::Reading::read_field))]
 pub(crate) fn nullable_string(bytes: &[u8]) -> Result<(Option<&[u8]>, &[u8]), FieldFault>
-    ensures { Gives (λ x. (option_map (λ text. text.now) x.0, x.1.now)) result (read_field (sized_or_null size16) bytes.now) }
+    ensures { Gives (λ x. (option_map (λ text. text.now) x.0, x.1.now)) result
+        (read_field (sized_or_null size16) bytes.now) }
 {
     let (len, rest) = int16(bytes)?;
     nullable_text(i32::from(len), rest)
@@ -85,7 +86,8 @@ pub(crate) fn long_bytes(bytes: &[u8]) -> Result<(&[u8], &[u8]), FieldFault>
 #[inline]
 #[tactic(auto, unfolding(crate::specs::Reading::read_field))]
 pub(crate) fn nullable_bytes(bytes: &[u8]) -> Result<(Option<&[u8]>, &[u8]), FieldFault>
-    ensures { Gives (λ x. (option_map (λ text. text.now) x.0, x.1.now)) result (read_field (sized_or_null size32) bytes.now) }
+    ensures { Gives (λ x. (option_map (λ text. text.now) x.0, x.1.now)) result
+        (read_field (sized_or_null size32) bytes.now) }
 {
     let (len, rest) = int32(bytes)?;
     nullable_text(len, rest)
@@ -94,7 +96,8 @@ pub(crate) fn nullable_bytes(bytes: &[u8]) -> Result<(Option<&[u8]>, &[u8]), Fie
 /// That many bytes, or null at -1, and those after them.
 #[inline]
 fn nullable_text(len: i32, bytes: &[u8]) -> Result<(Option<&[u8]>, &[u8]), FieldFault>
-    ensures { Gives (λ x. (option_map (λ text. text.now) x.0, x.1.now)) result (read_text_or_null len bytes.now) }
+    ensures { Gives (λ x. (option_map (λ text. text.now) x.0, x.1.now)) result
+        (read_text_or_null len bytes.now) }
 {
     if len == -1 {
         return Ok((None, bytes));

@@ -20,11 +20,14 @@ pub fn frames_once()
         → SizeFault e rest → SizeFault other rest → e ≡ other }
 {}
 
-/// A frame is one request at most, has one refusal at most, and never both. With the contract of `parse`, which answers
-/// one of them for any bytes, each frame has exactly one of them.
+/// A frame is one request at most, has one refusal at most, and never both. With the contract of
+/// `parse`, which answers one of them for any bytes, each frame has exactly one of them.
 #[tactic(auto, using(crate::proofs::OneOutcome::one_refusal))]
 pub fn one_outcome()
-    ensures one_request { (frame : List ℕ) (q r : RequestValue) → IsRequest frame q → IsRequest frame r → q ≡ r }
-    ensures one_refusal { (frame : List ℕ) (e d : FrameError) → IsRefused e frame → IsRefused d frame → e ≡ d }
-    ensures never_both { (frame : List ℕ) (q : RequestValue) (e : FrameError) → IsRequest frame q → IsRefused e frame → ⊥ }
+    ensures one_request { (frame : List ℕ) (q r : RequestValue)
+        → IsRequest frame q → IsRequest frame r → q ≡ r }
+    ensures one_refusal { (frame : List ℕ) (e d : FrameError)
+        → IsRefused e frame → IsRefused d frame → e ≡ d }
+    ensures never_both { (frame : List ℕ) (q : RequestValue) (e : FrameError)
+        → IsRequest frame q → IsRefused e frame → ⊥ }
 {}

@@ -92,7 +92,6 @@ fn body_after_client(api: Api, bytes: &[u8]) -> Result<(RequestBody<'_>, &[u8]),
 }
 
 /// The request behind a frame's header.
-#[tactic(auto, using(crate::proofs::WholeFrames::all_read, crate::proofs::WholeFrames::bytes_left, crate::proofs::WholeFrames::fault_found))]
 fn request_after<'a>(api: Api, correlation: i32, frame: &'a [u8]) -> Result<Request<'a>, FrameError>
     requires is_of_api { IsOf api frame.now }
     requires correlates { correlation ≡ correlation_of frame.now }
@@ -114,13 +113,15 @@ fn request_after<'a>(api: Api, correlation: i32, frame: &'a [u8]) -> Result<Requ
 
 /// The request that the whole of a frame's bytes encode; the frame stands without its size field.
 ///
-/// It takes no memory: names, records and arrays are borrowed from the frame. Unused fields may have any value.
+/// It takes no memory: names, records and arrays are borrowed from the frame. Unused fields may have
+/// any value.
 ///
 /// # Errors
 ///
-/// In this order: `ShortHeader` under 8 bytes, `UnknownApi` for another api key, `BadVersion` for another version of it;
-/// then from the left, whichever comes first, `ShortBody` where the frame ends inside a field and `Malformed` where a
-/// length or a count is below what its type allows; `TrailingBytes` where bytes are left after the last field. No other.
+/// In this order: `ShortHeader` under 8 bytes, `UnknownApi` for another api key, `BadVersion` for
+/// another version of it; then from the left, whichever comes first, `ShortBody` where the frame ends
+/// inside a field and `Malformed` where a length or a count is below what its type allows;
+/// `TrailingBytes` where bytes are left after the last field. No other.
 pub fn parse(frame: &[u8]) -> Result<Request<'_>, FrameError>
     ensures reads { IfOk result (λ q. IsRequest frame.now (request_value q)) }
     ensures refuses { IfErr result (λ e. IsRefused e frame.now) }
