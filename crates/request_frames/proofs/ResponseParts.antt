@@ -7,7 +7,7 @@ use Rattle.request_frames.specs.declared.response.produce.ProducedPartition.{Pro
 use Rattle.request_frames.specs.declared.response.list_offsets.ListedPartition.{ListedPartition}
 use Rattle.request_frames.specs.Fields.{size8, size16, size32, Fields, end, array, Value, be, elements, field, encoded}
 use Rattle.request_frames.specs.Types.{string, int32, bytes, flag, ◌⨾◌}
-use Rattle.request_frames.specs.Responses.{TopicOf, topic_values, topic_bytes, produce_response, produce_value, produce_head, produced_fields, produced_value, produced_bytes, produce_tail, Fetched, fetched_fields, fetched_value, fetch_response, fetch_value, fetch_head, fetched_bytes, listed_fields, listed_value, list_offsets_response, list_offsets_value, list_offsets_head, listed_bytes, Broker, broker_fields, broker_value, TopicMetadata, metadata_partition_bytes, metadata_partition_value, metadata_partition_fields, metadata_topic_fields, metadata_topic_value, metadata_response, metadata_value, metadata_head, metadata_topic_bytes}
+use Rattle.request_frames.specs.Responses.{framed, response_head, TopicOf, topic_values, topic_bytes, produce_response, produce_value, produce_head, produced_fields, produced_value, produced_bytes, produce_tail, Fetched, fetched_fields, fetched_value, fetch_response, fetch_value, fetch_head, fetched_bytes, listed_fields, listed_value, list_offsets_response, list_offsets_value, list_offsets_head, listed_bytes, Broker, broker_fields, broker_value, TopicMetadata, metadata_partition_bytes, metadata_partition_value, metadata_partition_fields, metadata_topic_fields, metadata_topic_value, metadata_response, metadata_value, metadata_head, metadata_topic_bytes}
 
 -- elements whose encodings are parts
 parts_of : {X Y : Type 0} (enc : Y → List ℕ) (value : X → Y) (part : X → List ℕ) → ((x : X) → enc (value x) ≡ part x) → (xs : List X) → flat_map enc (map value xs) ≡ flat_map part xs
@@ -68,3 +68,12 @@ metadata_parts b controller ts =
     let brokers = elements (encoded broker_fields) (broker_value b.node_id b.host b.port ∷ []) in
     ap (λ (x : List ℕ). brokers ++ (be size32 controller ++ (x ++ []))) (elements_of (encoded metadata_topic_fields) metadata_topic_value metadata_topic_bytes metadata_topic_is ts)
     ∙ after_two brokers (be size32 controller) (be size32 (pos (length ts))) (flat_map metadata_topic_bytes ts)
+
+-- ---- the size
+
+-- a size that is set behind what was there makes a response of what `begin_response` wrote and the fields
+pub finished : (old new : List ℕ) (start : ℕ) → ((front size body : List ℕ) → old ≡ front ++ (size ++ body) → length front ≡ start → length size ≡ 4 → new ≡ front ++ framed body)
+    → (front fields : List ℕ) (correlation : ℤ) → old ≡ front ++ response_head correlation ++ fields → length front ≡ start → new ≡ front ++ framed (be size32 correlation ++ fields)
+unfolding response_head
+finished old new start frames front fields correlation is at =
+    frames front (be size32 (pos 0)) (be size32 correlation ++ fields) (is ∙ append_assoc front (response_head correlation) fields) at refl

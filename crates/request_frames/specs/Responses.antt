@@ -18,7 +18,7 @@ abbrev pub response : (correlation : ℤ) (d : Fields) → Value d → List ℕ
 response correlation d v = framed (be size32 correlation ++ encoded d v)
 
 -- before the fields: a size that is not known yet, and the correlation id
-abbrev pub response_head : (correlation : ℤ) → List ℕ
+unfoldable pub response_head : (correlation : ℤ) → List ℕ
 response_head correlation = be size32 (pos 0) ++ be size32 correlation
 
 -- ---- topics

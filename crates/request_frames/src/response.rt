@@ -1,8 +1,17 @@
-//! Responses, written part by part at the end of a `Vec` that may hold earlier ones. A response is
-//! begun, its parts follow in the order of their functions, and at the end its size is set. Each
-//! part appends exactly its bytes, or leaves the output as it was.
+//! Responses, written part by part at the end of a `Vec` that may hold earlier ones. Each part
+//! appends exactly its bytes, or leaves the output as it was. At the end the size is set.
+//!
+//! ```
+//! let start = out.len();
+//! begin_response(&mut out, correlation)?;
+//! begin_produce(&mut out, 1)?;
+//! begin_topic(&mut out, b"readings", 1)?;
+//! put_produced_partition(&mut out, ProducedPartition { index: 0, code: 0, base: 7 })?;
+//! end_produce(&mut out)?;
+//! finish_response(&mut out, start);
+//! ```
 
-ghost use Rattle.std.specs.Prelude.{◌≡◌, ◌≤◌, ◌+◌, ◌-◌, ◌++◌, pos, List, ℕ, length, IsOk, OnOk, OnErr};
+ghost use Rattle.std.specs.Prelude.{◌≡◌, ◌≤◌, ◌+◌, ◌-◌, ◌++◌, pos, List, ℕ, ℤ, length, IsOk, OnOk, OnErr};
 ghost use Rattle.std.specs.Vec.{vec_len, vec_capacity};
 ghost use Rattle.request_frames.specs.Fields.{size32, be};
 ghost use Rattle.request_frames.specs.Responses.{framed, response_head, topic_head};
@@ -58,7 +67,7 @@ pub(crate) fn append_around<A: Allocator + Copy>(
     out.extend_from_slice(after)
 }
 
-#[tactic(auto, unfolding(crate::specs::Fields::encoded))]
+#[tactic(auto, unfolding(crate::specs::Responses::response_head))]
 fn response_head_bytes(correlation: i32) -> [u8; RESPONSE_HEAD_BYTES]
     ensures { result ≡ response_head correlation }
 {
@@ -95,6 +104,17 @@ fn set_int32(bytes: &mut [u8], at: usize, value: u32)
     BigEndian::write_u32(&mut bytes[at..at + 4], value);
 }
 
+/// Sets the size at an offset to the number of bytes behind it.
+fn set_size(bytes: &mut [u8], start: usize)
+    requires is_begun { start + 4 ≤ length bytes.old }
+    requires fits { length bytes.old ≤ start + 4 + MAX_BODY_BYTES }
+    ensures { (front size body : List ℕ) → bytes.old ≡ front ++ (size ++ body)
+        → length front ≡ start → length size ≡ 4 → bytes.new ≡ front ++ framed body }
+{
+    let size = bytes.len() - start - 4;
+    set_int32(bytes, start, size as u32);
+}
+
 /// Finishes the response that begins at byte `start` of the output, by setting its size to the
 /// number of bytes behind the size, at most `MAX_BODY_BYTES`.
 pub fn finish_response<A: Allocator + Copy>(out: &mut Vec<u8, A>, start: usize)
@@ -102,11 +122,14 @@ pub fn finish_response<A: Allocator + Copy>(out: &mut Vec<u8, A>, start: usize)
     requires fits { vec_len out.old ≤ start + 4 + MAX_BODY_BYTES }
     ensures frames { (front size body : List ℕ) → out.old.items ≡ front ++ (size ++ body)
         → length front ≡ start → length size ≡ 4 → out.new.items ≡ front ++ framed body }
+    // The same of a response whose fields follow what `begin_response` wrote.
+    ensures finishes { (front fields : List ℕ) (correlation : ℤ)
+        → out.old.items ≡ front ++ response_head correlation ++ fields → length front ≡ start
+        → out.new.items ≡ front ++ framed (be size32 correlation ++ fields) }
     ensures keeps_len { vec_len out.new ≡ vec_len out.old }
     ensures keeps_capacity { vec_capacity out.new ≡ vec_capacity out.old }
 {
-    let size = out.len() - start - 4;
-    set_int32(out, start, size as u32);
+    set_size(out, start);
 }
 
 /// Sets the count at byte `at` of the output, where one was written before it was known.

@@ -20,6 +20,12 @@ pub(crate) const STORED: ProducedPartition = ProducedPartition {
     base: 72_623_859_790_382_856,
 };
 
+pub(crate) const STORED_FIRST: ProducedPartition = ProducedPartition {
+    index: 0,
+    code: 0,
+    base: 0,
+};
+
 pub(crate) const NOT_STORED: ProducedPartition = ProducedPartition {
     index: 2,
     code: 3,

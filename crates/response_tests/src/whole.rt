@@ -1,8 +1,9 @@
 //! Whole responses against bytes worked out by hand.
 
+use crate::one::put_one;
 use crate::parts::{
     BROKER, FOUND, INTERNAL, LEADERLESS, LED, NOT_FOUND, NOT_READ, NOT_STORED, READ, STORED,
-    UNKNOWN,
+    STORED_FIRST, UNKNOWN,
 };
 use request_frames::response::fetch::{begin_fetch, begin_fetched_partition};
 use request_frames::response::list_offsets::{
@@ -11,14 +12,8 @@ use request_frames::response::list_offsets::{
 use request_frames::response::metadata::{
     begin_metadata, begin_metadata_topic, put_metadata_partition,
 };
-use request_frames::response::produce::{
-    PRODUCE_TAIL_BYTES, PRODUCED_PARTITION_BYTES, ProducedPartition, begin_produce, end_produce,
-    put_produced_partition,
-};
-use request_frames::response::{
-    COUNT_BYTES, RESPONSE_HEAD_BYTES, TOPIC_HEAD_BYTES, begin_response, begin_topic,
-    finish_response,
-};
+use request_frames::response::produce::{begin_produce, end_produce, put_produced_partition};
+use request_frames::response::{begin_response, begin_topic, finish_response};
 use std::alloc::{AllocError, Allocator};
 use std::test::Fail;
 
@@ -156,40 +151,6 @@ fn put_produce<A: Allocator + Copy>(out: &mut Vec<u8, A>) -> Result<(), AllocErr
     Ok(())
 }
 
-/// Only the reservation can fail.
-fn put_produce_of_one<A: Allocator + Copy>(out: &mut Vec<u8, A>) -> Result<(), AllocError> {
-    let start = out.len();
-    let partition = ProducedPartition {
-        index: 0,
-        code: 0,
-        base: 0,
-    };
-    out.reserve(
-        RESPONSE_HEAD_BYTES
-            + COUNT_BYTES
-            + (TOPIC_HEAD_BYTES + 1)
-            + PRODUCED_PARTITION_BYTES
-            + PRODUCE_TAIL_BYTES,
-    )?;
-    let Ok(()) = begin_response(out, 5) else {
-        unreachable!()
-    };
-    let Ok(()) = begin_produce(out, 1) else {
-        unreachable!()
-    };
-    let Ok(()) = begin_topic(out, b"t", 1) else {
-        unreachable!()
-    };
-    let Ok(()) = put_produced_partition(out, partition) else {
-        unreachable!()
-    };
-    let Ok(()) = end_produce(out) else {
-        unreachable!()
-    };
-    finish_response(out, start);
-    Ok(())
-}
-
 fn put_fetch<A: Allocator + Copy>(out: &mut Vec<u8, A>) -> Result<(), AllocError> {
     let start = out.len();
     begin_response(out, -2)?;
@@ -247,7 +208,7 @@ fn put_metadata<A: Allocator + Copy>(out: &mut Vec<u8, A>) -> Result<(), AllocEr
 fn responses_one_behind_the_other(rt: HostRuntime) -> Result<(), Fail> {
     let mut out = Vec::new(rt.alloc());
     put_produce(&mut out)?;
-    put_produce_of_one(&mut out)?;
+    put_one(&mut out, 5, b"t", STORED_FIRST)?;
     put_fetch(&mut out)?;
     put_list_offsets(&mut out)?;
     put_list_offsets_of_one(&mut out)?;
