@@ -12,7 +12,7 @@ mod names;
 mod parsing;
 mod requests;
 pub mod response;
-mod response_laws;
+pub mod response_laws;
 
 pub use api::Api;
 pub use array::{Array, Element};
