@@ -1,0 +1,134 @@
+-- A frame is one request, or has one refusal.
+use Rattle.std.proofs.Common.{◌≡◌, ℕ, ◌<◌, ◌≤◌, Bool, false, cond, ltb, ℤ, pos, List, [], ◌∷◌, length, Result, Ok, Err, refl, ap, sym, ◌∙◌, arith}
+use Rattle.std.specs.Ordering.{int_eq}
+use Rattle.std.proofs.lemmas.Int.{ints}
+use Rattle.std.proofs.lemmas.Bool.{le-ltb, lt-ltb}
+use Rattle.request_frames.specs.declared.api.Api.{Api}
+use Rattle.request_frames.specs.declared.api.Api.TheVariants.{Produce, Fetch, ListOffsets, Metadata}
+use Rattle.request_frames.specs.declared.error.FieldFault.{FieldFault}
+use Rattle.request_frames.specs.declared.error.FieldFault.TheVariants as field
+use Rattle.request_frames.specs.declared.error.FrameError.{FrameError}
+use Rattle.request_frames.specs.declared.error.FrameError.TheVariants as frame
+use Rattle.request_frames.specs.Fields.{Value}
+use Rattle.request_frames.specs.Reading.{At, read_fields}
+use Rattle.request_frames.specs.Apis.{api_version, IsApi, IsNoApi}
+use Rattle.request_frames.specs.Requests.{RequestValue, body_fields, body_value, body_of, key_of, version_of, correlation_of, IsOf, IsRequest, HasFault, IsRefused}
+use Rattle.request_frames.proofs.FieldLaws.{encodes_read, breaks_read}
+
+-- ---- the outcome as a function
+
+abbrev at_version : ℤ → Api → Result Api FrameError
+at_version version api = cond (int_eq version (api_version api)) (Ok api) (Err frame.BadVersion)
+
+abbrev find_api : (key version : ℤ) → Result Api FrameError
+find_api key version =
+    cond (int_eq key (pos 0)) (at_version version Produce)
+    (cond (int_eq key (pos 1)) (at_version version Fetch)
+    (cond (int_eq key (pos 2)) (at_version version ListOffsets)
+    (cond (int_eq key (pos 3)) (at_version version Metadata) (Err frame.UnknownApi))))
+
+abbrev of_field : FieldFault → FrameError
+of_field field.ShortBody = frame.ShortBody
+of_field field.Malformed = frame.Malformed
+
+abbrev whole : (api : Api) → List ℕ → List ℕ → Value (body_fields api) → Result RequestValue FrameError
+whole api bytes [] v = Ok (record { correlation = correlation_of bytes; body = body_value api v.1 })
+whole api bytes (b ∷ rest) v = Err frame.TrailingBytes
+
+abbrev from_body : (api : Api) → List ℕ → At (Value (body_fields api)) → Result RequestValue FrameError
+from_body api bytes (Ok x) = whole api bytes x.1 x.0
+from_body api bytes (Err e) = Err (of_field e)
+
+abbrev from_api : List ℕ → Result Api FrameError → Result RequestValue FrameError
+from_api bytes (Ok api) = from_body api bytes (read_fields (body_fields api) (body_of bytes))
+from_api bytes (Err e) = Err e
+
+abbrev outcome : List ℕ → Result RequestValue FrameError
+outcome bytes = cond (ltb (length bytes) 8) (Err frame.ShortHeader) (from_api bytes (find_api (key_of bytes) (version_of bytes)))
+
+-- ---- the table
+
+found_api : (key version : ℤ) (api : Api) → IsApi key version api → find_api key version ≡ Ok api
+found_api key version Produce is = rw (is.0, is.1) refl
+found_api key version Fetch is = rw (is.0, is.1) refl
+found_api key version ListOffsets is = rw (is.0, is.1) refl
+found_api key version Metadata is = rw (is.0, is.1) refl
+
+no_api : (key version : ℤ) (e : FrameError) → IsNoApi key version e → find_api key version ≡ Err e
+no_api key version frame.UnknownApi h = grind (arith, ints, h Produce, h Fetch, h ListOffsets, h Metadata)
+no_api key version frame.BadVersion (Produce, k, h) = grind (arith, ints, h Produce)
+no_api key version frame.BadVersion (Fetch, k, h) = grind (arith, ints, h Fetch)
+no_api key version frame.BadVersion (ListOffsets, k, h) = grind (arith, ints, h ListOffsets)
+no_api key version frame.BadVersion (Metadata, k, h) = grind (arith, ints, h Metadata)
+no_api key version frame.NegativeSize h = absurd h
+no_api key version frame.TooLarge h = absurd h
+no_api key version frame.ShortHeader h = absurd h
+no_api key version frame.ShortBody h = absurd h
+no_api key version frame.Malformed h = absurd h
+no_api key version frame.TrailingBytes h = absurd h
+no_api key version frame.OutOfMemory h = absurd h
+
+-- ---- each outcome is the function's
+
+of_api : (api : Api) (bytes : List ℕ) → IsOf api bytes → outcome bytes ≡ from_body api bytes (read_fields (body_fields api) (body_of bytes))
+of_api api bytes is =
+    let long : ltb (length bytes) 8 ≡ false = le-ltb _ _ is.has_header in
+    ap (λ (b : Bool). cond b (Err frame.ShortHeader) (from_api bytes (find_api (key_of bytes) (version_of bytes)))) long
+    ∙ ap (from_api bytes) (found_api (key_of bytes) (version_of bytes) api is.has_api)
+
+pub request_outcome : (bytes : List ℕ) (q : RequestValue) → IsRequest bytes q → outcome bytes ≡ Ok q
+request_outcome bytes q (api, is, v, e, same) =
+    of_api api bytes is ∙ ap (from_body api bytes) (encodes_read (body_fields api) v (body_of bytes) [] e) ∙ ap Ok (sym same)
+
+fault_outcome : (e : FieldFault) (bytes : List ℕ) → HasFault e bytes → outcome bytes ≡ Err (of_field e)
+fault_outcome e bytes (api, is, broken) =
+    of_api api bytes is ∙ ap (from_body api bytes) (breaks_read (body_fields api) e (body_of bytes) broken)
+
+left_over : (api : Api) (bytes rest : List ℕ) (v : Value (body_fields api)) → 0 < length rest → whole api bytes rest v ≡ Err frame.TrailingBytes
+left_over api bytes [] v some = absurd (omega arith)
+left_over api bytes (b ∷ rest) v some = refl
+
+unknown_outcome : (e : FrameError) (bytes : List ℕ) → 8 ≤ length bytes → IsNoApi (key_of bytes) (version_of bytes) e → outcome bytes ≡ Err e
+unknown_outcome e bytes has h =
+    let long : ltb (length bytes) 8 ≡ false = le-ltb _ _ has in
+    ap (λ (b : Bool). cond b (Err frame.ShortHeader) (from_api bytes (find_api (key_of bytes) (version_of bytes)))) long
+    ∙ ap (from_api bytes) (no_api (key_of bytes) (version_of bytes) e h)
+
+pub refusal_outcome : (e : FrameError) (bytes : List ℕ) → IsRefused e bytes → outcome bytes ≡ Err e
+refusal_outcome frame.NegativeSize bytes h = absurd h
+refusal_outcome frame.TooLarge bytes h = absurd h
+refusal_outcome frame.ShortHeader bytes h =
+    ap (λ (b : Bool). cond b (Err frame.ShortHeader) (from_api bytes (find_api (key_of bytes) (version_of bytes)))) (lt-ltb _ _ h)
+refusal_outcome frame.UnknownApi bytes h = unknown_outcome frame.UnknownApi bytes h.0 h.1
+refusal_outcome frame.BadVersion bytes h = unknown_outcome frame.BadVersion bytes h.0 h.1
+refusal_outcome frame.ShortBody bytes h = fault_outcome field.ShortBody bytes h
+refusal_outcome frame.Malformed bytes h = fault_outcome field.Malformed bytes h
+refusal_outcome frame.TrailingBytes bytes (api, is, v, rest, e, some) =
+    of_api api bytes is ∙ ap (from_body api bytes) (encodes_read (body_fields api) v (body_of bytes) rest e) ∙ left_over api bytes rest v some
+refusal_outcome frame.OutOfMemory bytes h = absurd h
+
+-- ---- there is one
+
+abbrev okay : RequestValue → Result RequestValue FrameError
+okay q = Ok q
+
+abbrev refused : FrameError → Result RequestValue FrameError
+refused e = Err e
+
+same_okay : (q r : RequestValue) → okay q ≡ okay r → q ≡ r
+same_okay q r e = cc
+
+same_refusal : (e d : FrameError) → refused e ≡ refused d → e ≡ d
+same_refusal e d h = cc
+
+okay_or_refused : (q : RequestValue) (e : FrameError) → okay q ≡ refused e → ⊥
+okay_or_refused q e h = absurd cc
+
+pub one_request : (bytes : List ℕ) (q r : RequestValue) → IsRequest bytes q → IsRequest bytes r → q ≡ r
+one_request bytes q r a b = same_okay q r (sym (request_outcome bytes q a) ∙ request_outcome bytes r b)
+
+pub one_refusal : (bytes : List ℕ) (e d : FrameError) → IsRefused e bytes → IsRefused d bytes → e ≡ d
+one_refusal bytes e d a b = same_refusal e d (sym (refusal_outcome e bytes a) ∙ refusal_outcome d bytes b)
+
+pub never_both : (bytes : List ℕ) (q : RequestValue) (e : FrameError) → IsRequest bytes q → IsRefused e bytes → ⊥
+never_both bytes q e a b = okay_or_refused q e (sym (request_outcome bytes q a) ∙ refusal_outcome e bytes b)

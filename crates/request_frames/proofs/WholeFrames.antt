@@ -1,0 +1,96 @@
+-- From what is read of a frame to what the frame is.
+use Rattle.std.proofs.Common.{◌≡◌, ℕ, zero, suc, ◌<◌, Bool, true, false, ℤ, List, [], length, Option, Result, Ok, Err, refl, ap, sym, subst, ◌∙◌, arith}
+use Rattle.std.specs.Prelude.{FitsSigned, ◌==◌}
+use Rattle.std.specs.Int.{w32, cast_signed, cast_unsigned}
+use Rattle.std.proofs.lemmas.Bool.{eqb-true}
+use Rattle.std.proofs.lemmas.Int.{to_z-of_z}
+use Rattle.std.proofs.lemmas.List.{nil_from_length}
+use Rattle.request_frames.specs.declared.api.Api.{Api}
+use Rattle.request_frames.specs.declared.api.Api.TheVariants.{Produce, Fetch, ListOffsets, Metadata}
+use Rattle.request_frames.specs.declared.error.FieldFault.{FieldFault}
+use Rattle.request_frames.specs.declared.error.FrameError.TheVariants as frame
+use Rattle.request_frames.specs.Fields.{Value, Encodes}
+use Rattle.request_frames.specs.Types.{nullable_string}
+use Rattle.request_frames.specs.Reading.{◌>>=◌, At, map_read, then_read, read_field, read_fields}
+use Rattle.request_frames.specs.Requests.{BodyValue, fields_of, body_fields, body_value, body_of, correlation_of, IsOf, IsRequest, HasFault, IsRefused}
+use Rattle.request_frames.specs.Bodies.{read_body, read_request}
+use Rattle.request_frames.proofs.Numbers.{IsBytes, IsBytes-drop}
+use Rattle.request_frames.proofs.FieldLaws.{read_encodes, read_breaks}
+
+-- ---- reading as the code goes, and by descriptions
+
+map_twice : {A B C : Type 0} (f : A → B) (g : B → C) (r : At A) → map_read g (map_read f r) ≡ map_read (λ x. g (f x)) r
+map_twice f g (Ok x) = refl
+map_twice f g (Err e) = refl
+
+body_is : (api : Api) (bytes : List ℕ) → read_body api bytes ≡ map_read (body_value api) (read_fields (fields_of api) bytes)
+body_is Produce bytes = map_twice _ _ (read_fields (fields_of Produce) bytes)
+body_is Fetch bytes = map_twice _ _ (read_fields (fields_of Fetch) bytes)
+body_is ListOffsets bytes = map_twice _ _ (read_fields (fields_of ListOffsets) bytes)
+body_is Metadata bytes = map_twice _ _ (read_fields (fields_of Metadata) bytes)
+
+behind_client : (api : Api) (r : At (Option (List ℕ))) → (r >>= λ client. read_body api client.1) ≡ map_read (λ v. body_value api v.1) (then_read r (read_fields (fields_of api)))
+behind_client api (Err e) = refl
+behind_client api (Ok x) = body_is api x.1 ∙ sym (map_twice (λ y. (x.0, y)) (λ v. body_value api v.1) (read_fields (fields_of api) x.1))
+
+request_is : (api : Api) (bytes : List ℕ) → read_request api bytes ≡ map_read (λ v. body_value api v.1) (read_fields (body_fields api) bytes)
+unfolding read_request read_fields
+request_is api bytes = behind_client api (read_field nullable_string bytes)
+
+-- ---- what the frame is
+
+abbrev okay : {A : Type 0} → A → Result A FieldFault
+okay x = Ok x
+
+abbrev faulty : {A : Type 0} → FieldFault → Result A FieldFault
+faulty e = Err e
+
+was_read : {A B : Type 0} (f : A → B) (r : At A) (y : B) (rest : List ℕ) → map_read f r ≡ Ok (y, rest) → (x : A) × (r ≡ Ok (x, rest)) × (y ≡ f x)
+was_read f (Ok x) y rest e =
+    let same : (f x.0, x.1) ≡ (y, rest) = pair_is _ _ e in
+    (x.0, ap (λ (t : List ℕ). Ok (x.0, t)) (ap (λ p. p.1) same), sym (ap (λ p. p.0) same))
+  where
+    pair_is : {C : Type 0} (p q : C) → okay p ≡ okay q → p ≡ q
+    pair_is p q h = cc
+was_read f (Err d) y rest e = absurd cc
+
+was_fault : {A B : Type 0} (f : A → B) (r : At A) (e : FieldFault) → map_read f r ≡ Err e → r ≡ Err e
+was_fault f (Ok x) e h = absurd cc
+was_fault f (Err d) e h = cc
+
+encodes_body : (api : Api) (bytes : List ℕ) (body : BodyValue) (rest : List ℕ) → IsBytes bytes → read_request api bytes ≡ Ok (body, rest)
+    → (v : Value (body_fields api)) × Encodes (body_fields api) v bytes rest × (body ≡ body_value api v.1)
+encodes_body api bytes body rest fits read =
+    let w = was_read (λ v. body_value api v.1) (read_fields (body_fields api) bytes) body rest (sym (request_is api bytes) ∙ read) in
+    (w.0, read_encodes (body_fields api) w.0 bytes rest fits w.1, w.2)
+
+module _ (api : Api) (bytes : List ℕ) (fits : IsBytes bytes) (is : IsOf api bytes) (behind : List ℕ) (there : behind ≡ body_of bytes) where
+  pub all_read : (body : BodyValue) (rest : List ℕ) → read_request api behind ≡ Ok (body, rest) → length rest ≡ 0
+      → IsRequest bytes (record { correlation = correlation_of bytes; body = body })
+  all_read body rest read no_more =
+      let e = encodes_body api (body_of bytes) body rest (IsBytes-drop 8 bytes fits) (ap (read_request api) (sym there) ∙ read) in
+      let nothing_left : rest ≡ [] = nil_from_length rest no_more in
+      (api, is, e.0, subst (Encodes (body_fields api) e.0 (body_of bytes)) nothing_left e.1, λ i. record { correlation = correlation_of bytes; body = e.2 i })
+
+  pub bytes_left : (body : BodyValue) (rest : List ℕ) → read_request api behind ≡ Ok (body, rest) → 0 < length rest → IsRefused frame.TrailingBytes bytes
+  bytes_left body rest read more =
+      let e = encodes_body api (body_of bytes) body rest (IsBytes-drop 8 bytes fits) (ap (read_request api) (sym there) ∙ read) in
+      (api, is, e.0, rest, e.1, more)
+
+  pub fault_found : (e f : FieldFault) → e ≡ f → read_request api behind ≡ Err e → HasFault f bytes
+  fault_found e f same read =
+      let fault : read_request api (body_of bytes) ≡ faulty f = ap (read_request api) (sym there) ∙ read ∙ ap faulty same in
+      let broken = was_fault (λ v. body_value api v.1) (read_fields (body_fields api) (body_of bytes)) f (sym (request_is api (body_of bytes)) ∙ fault) in
+      (api, is, read_breaks (body_fields api) f (body_of bytes) (IsBytes-drop 8 bytes fits) broken)
+
+-- a number that was passed on, and the correlation id of the frame
+pub correlates : (bytes : List ℕ) (z : ℤ) (body : BodyValue) → FitsSigned w32 z → z ≡ correlation_of bytes
+    → IsRequest bytes (record { correlation = correlation_of bytes; body = body }) → IsRequest bytes (record { correlation = cast_signed w32 (cast_unsigned w32 z); body = body })
+correlates bytes z body fits e q = subst (λ (c : ℤ). IsRequest bytes (record { correlation = c; body = body })) (sym (to_z-of_z w32 z fits ∙ e)) q
+
+pub empty_length : (b : Bool) (n : ℕ) → b ≡ (n == 0) → b ≡ true → n ≡ 0
+empty_length b n e t = eqb-true n 0 (sym e ∙ t)
+
+pub some_length : (b : Bool) (n : ℕ) → b ≡ (n == 0) → b ≡ false → 0 < n
+some_length b zero e f = absurd cc
+some_length b (suc n) e f = omega arith

@@ -1,0 +1,8 @@
+use Rattle.request_frames.proofs.OneOutcome as law
+use Rattle.request_frames.proofs.laws.one_outcome.Goals as goal
+
+pub returns-clause-one_request : goal.returns-clause-one_request
+returns-clause-one_request c = law.one_request
+
+pub returns-clause-never_both : goal.returns-clause-never_both
+returns-clause-never_both c = law.never_both

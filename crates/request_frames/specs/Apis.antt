@@ -1,0 +1,28 @@
+-- The table of requests by key and version. Kafka's documentation, "Protocol Guide", section "Protocol API Keys".
+use Rattle.std.specs.Prelude.{◌≡◌, ◌≢◌, ℤ, pos}
+use Rattle.request_frames.specs.declared.api.Api.{Api}
+use Rattle.request_frames.specs.declared.api.Api.TheVariants.{Produce, Fetch, ListOffsets, Metadata}
+use Rattle.request_frames.specs.declared.error.FrameError.{FrameError}
+use Rattle.request_frames.specs.declared.error.FrameError.TheVariants.{UnknownApi, BadVersion}
+
+abbrev pub api_key : Api → ℤ
+api_key Produce = pos 0
+api_key Fetch = pos 1
+api_key ListOffsets = pos 2
+api_key Metadata = pos 3
+
+abbrev pub api_version : Api → ℤ
+api_version Produce = pos 3
+api_version Fetch = pos 4
+api_version ListOffsets = pos 1
+api_version Metadata = pos 1
+
+abbrev pub IsApi : (key version : ℤ) → Api → Type 0
+IsApi key version api = (key ≡ api_key api) × (version ≡ api_version api)
+
+-- why no request has this key and version
+abbrev pub IsNoApi : (key version : ℤ) → FrameError → Type 0
+IsNoApi key version UnknownApi = (api : Api) → key ≢ api_key api
+IsNoApi key version BadVersion =
+    (known : Api) × (key ≡ api_key known) × ((api : Api) → key ≡ api_key api → version ≢ api_version api)
+IsNoApi key version e = ⊥

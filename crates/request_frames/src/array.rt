@@ -1,0 +1,146 @@
+//! Arrays of a frame, read again element by element from the frame's bytes.
+
+ghost use Rattle.std.specs.Prelude.{◌≡◌};
+ghost use Rattle.std.specs.Option.{option_map};
+ghost use Rattle.std.specs.Iterator.{YieldsFirstBy, item_count};
+ghost use Rattle.request_frames.specs.Reading.{Gives, map_ok, read_array, read_array_or_null, read_count, read_times, read_fields};
+ghost use Rattle.request_frames.specs.Arrays.{values};
+
+use crate::error::FieldFault;
+use crate::fields::int32;
+use std::marker::{Model, PhantomData};
+
+/// An element of an array: fields in a row.
+pub trait Element<'a>: Sized {
+    ghost use Rattle.request_frames.specs.Fields.{Fields, Value};
+    ghost use Rattle.request_frames.specs.Reading.{Gives, read_fields};
+
+    /// What the fields are.
+    ghost fields: { Fields };
+
+    /// The fields' values, apart from where their bytes lie.
+    ghost said: { Self → Value fields };
+
+    /// The element at the front, and the bytes after it.
+    fn read(bytes: &'a [u8]) -> Result<(Self, &'a [u8]), FieldFault>
+        ensures { Gives (λ x. (said x.0, x.1.now)) result (read_fields fields bytes.now) };
+}
+
+/// An array's elements, in order. An iterator, which borrows the frame's bytes.
+#[derive(Drop)]
+pub struct Array<'a, E> {
+    left: u32,
+    bytes: &'a [u8],
+    element: PhantomData<E>,
+}
+
+impl<'a, E> Model for Array<'a, E> {
+    ghost use Rattle.request_frames.specs.Arrays.{ArrayBytes};
+
+    ghost Value = { ArrayBytes };
+
+    ghost view = { λ a. record { count = a.left; bytes = a.bytes.now } };
+}
+
+impl<'a, E> Array<'a, E> {
+    /// The same elements again. It takes no memory.
+    pub fn duplicate(&self) -> Array<'a, E>
+        ensures { result ≡ self.now }
+    {
+        Array {
+            left: self.left,
+            bytes: self.bytes,
+            element: PhantomData,
+        }
+    }
+}
+
+impl<'a, E: Element<'a>> Iterator for Array<'a, E> {
+    type Item = E;
+
+    ghost next_gives = { YieldsFirstBy E.said (values E.fields) };
+
+    ghost remaining = { item_count (values E.fields) };
+
+    #[tactic(auto, using(crate::proofs::Arrays::next_element))]
+    fn next(&mut self) -> Option<E> {
+        if self.left == 0 {
+            return None;
+        }
+        let (element, rest) = match E::read(self.bytes) {
+            Ok(found) => found,
+            Err(_) => return None,
+        };
+        self.left -= 1;
+        self.bytes = rest;
+        Some(element)
+    }
+}
+
+/// The bytes after that many elements.
+#[tactic(auto, using(crate::proofs::Arrays::times_loop))]
+fn after_elements<'a, E: Element<'a> + Drop>(
+    count: u32,
+    bytes: &'a [u8],
+) -> Result<&'a [u8], FieldFault>
+    ensures { Gives (λ rest. rest.now) result
+        (map_ok (λ x. x.1) (read_times (read_fields E.fields) count bytes.now)) }
+{
+    let mut rest = bytes;
+    for _ in 0..count {
+        rest = match E::read(rest) {
+            Ok((_element, next)) => next,
+            Err(fault) => return Err(fault),
+        };
+    }
+    Ok(rest)
+}
+
+/// An array of that many elements, and the bytes after it.
+#[tactic(auto, using(crate::proofs::Arrays::array_read))]
+fn counted<'a, E: Element<'a> + Drop>(
+    count: i32,
+    bytes: &'a [u8],
+) -> Result<(Array<'a, E>, &'a [u8]), FieldFault>
+    ensures { Gives (λ x. (values E.fields x.0, x.1.now)) result
+        (read_count (read_fields E.fields) count bytes.now) }
+{
+    let Ok(count) = u32::try_from(count) else {
+        return Err(FieldFault::Malformed);
+    };
+    let rest = after_elements::<E>(count, bytes)?;
+    let array = Array {
+        left: count,
+        bytes,
+        element: PhantomData,
+    };
+    Ok((array, rest))
+}
+
+/// The array at the front, and the bytes after it.
+#[tactic(auto, unfolding(crate::specs::Reading::read_array))]
+pub(crate) fn array_at<'a, E: Element<'a> + Drop>(
+    bytes: &'a [u8],
+) -> Result<(Array<'a, E>, &'a [u8]), FieldFault>
+    ensures { Gives (λ x. (values E.fields x.0, x.1.now)) result
+        (read_array (read_fields E.fields) bytes.now) }
+{
+    let (count, rest) = int32(bytes)?;
+    counted(count, rest)
+}
+
+/// The array at the front, or null, and the bytes after it.
+#[tactic(auto, unfolding(crate::specs::Reading::read_array_or_null))]
+pub(crate) fn nullable_array_at<'a, E: Element<'a> + Drop>(
+    bytes: &'a [u8],
+) -> Result<(Option<Array<'a, E>>, &'a [u8]), FieldFault>
+    ensures { Gives (λ x. (option_map (values E.fields) x.0, x.1.now)) result
+        (read_array_or_null (read_fields E.fields) bytes.now) }
+{
+    let (count, rest) = int32(bytes)?;
+    if count == -1 {
+        return Ok((None, rest));
+    }
+    let (array, rest) = counted(count, rest)?;
+    Ok((Some(array), rest))
+}

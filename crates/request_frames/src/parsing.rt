@@ -1,0 +1,134 @@
+//! A frame read as a request.
+
+ghost use Rattle.std.specs.Prelude.{◌≡◌, ◌<◌, ◌≤◌, drop, length, IfOk, IfErr, IfSome, IfNone};
+ghost use Rattle.request_frames.specs.Reading.{Gives};
+ghost use Rattle.request_frames.specs.Bodies.{read_body, read_request};
+ghost use Rattle.request_frames.specs.Requests.{fields_of, body_fields, body_value, body_of, key_of, version_of, correlation_of, IsOf, IsRequest, IsRefused};
+ghost use Rattle.request_frames.specs.Views.{request_body, request_value, IsHeaderOf};
+
+use crate::api::Api;
+use crate::error::{FieldFault, FrameError};
+use crate::fields::nullable_string;
+use crate::requests::{
+    FetchRequest, ListOffsetsRequest, MetadataRequest, ProduceRequest, fetch_at, list_offsets_at,
+    metadata_at, produce_at,
+};
+
+/// A request, borrowed from its frame.
+#[derive(Drop)]
+pub struct Request<'a> {
+    /// The number that the response repeats.
+    pub correlation: i32,
+    /// What is asked.
+    pub body: RequestBody<'a>,
+}
+
+/// What a request asks.
+#[derive(Drop)]
+pub enum RequestBody<'a> {
+    /// Record batches are to be appended.
+    Produce(ProduceRequest<'a>),
+    /// Record batches are wanted.
+    Fetch(FetchRequest<'a>),
+    /// Offsets are looked up by time.
+    ListOffsets(ListOffsetsRequest<'a>),
+    /// The topics and their partitions are listed.
+    Metadata(MetadataRequest<'a>),
+}
+
+/// The fixed fields that each request begins with.
+#[derive(Clone, Copy)]
+struct Header {
+    key: i16,
+    version: i16,
+    correlation: i32,
+}
+
+fn header_at(frame: &[u8]) -> Option<Header>
+    ensures found { IfSome result (λ h. (8 ≤ length frame.now) × IsHeaderOf frame.now h) }
+    ensures none { IfNone result (length frame.now < 8) }
+{
+    let (first, _body) = frame.split_first_chunk::<8>()?;
+    Some(Header {
+        key: i16::from_be_bytes([first[0], first[1]]),
+        version: i16::from_be_bytes([first[2], first[3]]),
+        correlation: i32::from_be_bytes([first[4], first[5], first[6], first[7]]),
+    })
+}
+
+/// What a request asks, and the bytes after its fields.
+fn body_at(api: Api, bytes: &[u8]) -> Result<(RequestBody<'_>, &[u8]), FieldFault>
+    ensures { Gives (λ x. (request_body x.0, x.1.now)) result
+        (read_body api bytes.now) }
+{
+    match api {
+        Api::Produce => {
+            let (request, rest) = produce_at(bytes)?;
+            Ok((RequestBody::Produce(request), rest))
+        }
+        Api::Fetch => {
+            let (request, rest) = fetch_at(bytes)?;
+            Ok((RequestBody::Fetch(request), rest))
+        }
+        Api::ListOffsets => {
+            let (request, rest) = list_offsets_at(bytes)?;
+            Ok((RequestBody::ListOffsets(request), rest))
+        }
+        Api::Metadata => {
+            let (request, rest) = metadata_at(bytes)?;
+            Ok((RequestBody::Metadata(request), rest))
+        }
+    }
+}
+
+/// What a request asks behind its client id, and the bytes after its fields.
+#[tactic(auto, unfolding(crate::specs::Bodies::read_request))]
+fn body_after_client(api: Api, bytes: &[u8]) -> Result<(RequestBody<'_>, &[u8]), FieldFault>
+    ensures { Gives (λ x. (request_body x.0, x.1.now)) result
+        (read_request api bytes.now) }
+{
+    let (_client, rest) = nullable_string(bytes)?;
+    body_at(api, rest)
+}
+
+/// The request behind a frame's header.
+fn request_after<'a>(api: Api, correlation: i32, frame: &'a [u8]) -> Result<Request<'a>, FrameError>
+    requires is_of_api { IsOf api frame.now }
+    requires correlates { correlation ≡ correlation_of frame.now }
+    ensures reads { IfOk result (λ q. IsRequest frame.now (request_value q)) }
+    ensures refuses { IfErr result (λ e. IsRefused e frame.now) }
+{
+    let (_header, body) = frame.split_at(8);
+    let (body, rest) = match body_after_client(api, body) {
+        Ok(found) => found,
+        Err(FieldFault::ShortBody) => return Err(FrameError::ShortBody),
+        Err(FieldFault::Malformed) => return Err(FrameError::Malformed),
+    };
+    if rest.is_empty() {
+        Ok(Request { correlation, body })
+    } else {
+        Err(FrameError::TrailingBytes)
+    }
+}
+
+/// The request that the whole of a frame's bytes encode; the frame stands without its size field.
+///
+/// It takes no memory: names, records and arrays are borrowed from the frame. Unused fields may have
+/// any value.
+///
+/// # Errors
+///
+/// In this order: `ShortHeader` under 8 bytes, `UnknownApi` for another api key, `BadVersion` for
+/// another version of it; then from the left, whichever comes first, `ShortBody` where the frame ends
+/// inside a field and `Malformed` where a length or a count is below what its type allows;
+/// `TrailingBytes` where bytes are left after the last field. No other.
+pub fn parse(frame: &[u8]) -> Result<Request<'_>, FrameError>
+    ensures reads { IfOk result (λ q. IsRequest frame.now (request_value q)) }
+    ensures refuses { IfErr result (λ e. IsRefused e frame.now) }
+{
+    let Some(header) = header_at(frame) else {
+        return Err(FrameError::ShortHeader);
+    };
+    let api = Api::find(header.key, header.version)?;
+    request_after(api, header.correlation, frame)
+}

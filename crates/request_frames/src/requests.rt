@@ -1,0 +1,212 @@
+//! What requests say, borrowed from their frames.
+
+ghost use Rattle.request_frames.specs.Reading.{Gives, map_read, read_fields, nothing};
+ghost use Rattle.request_frames.specs.Views.{produced, fetched, offsets_listed, names_asked};
+ghost use Rattle.request_frames.specs.Fields.{end};
+ghost use Rattle.request_frames.specs.Types.{string, topic, ◌⨾◌};
+ghost use Rattle.request_frames.specs.Arrays.{values};
+ghost use Rattle.request_frames.specs.Requests.{produce_partition, produce_fields, produce_request, fetch_partition, fetch_fields, fetch_request, list_offsets_partition, list_offsets_fields, list_offsets_request, metadata_fields, metadata_request};
+ghost use Rattle.std.specs.Option.{option_map};
+
+use crate::array::{Array, Element, array_at, nullable_array_at};
+use crate::error::FieldFault;
+use crate::fields::{int8, int16, int32, int64, nullable_bytes, nullable_string, string};
+
+/// A topic of a request, with an entry for each of its partitions.
+#[derive(Drop)]
+pub struct Topic<'a, E> {
+    /// The name, as sent: nothing is known of it.
+    pub name: &'a [u8],
+    /// The entries, in order.
+    pub partitions: Array<'a, E>,
+}
+
+impl<'a, E: Element<'a> + Drop> Element<'a> for Topic<'a, E> {
+    ghost fields = { topic E.fields };
+
+    ghost said = { λ t. (t.name.now, (values E.fields t.partitions, nothing)) };
+
+    #[tactic(auto, unfolding(crate::specs::Reading::read_fields))]
+    fn read(bytes: &'a [u8]) -> Result<(Self, &'a [u8]), FieldFault> {
+        let (name, rest) = string(bytes)?;
+        let (partitions, rest) = array_at::<E>(rest)?;
+        Ok((Topic { name, partitions }, rest))
+    }
+}
+
+/// What a Produce request asks of a partition.
+#[derive(Clone, Copy, Debug)]
+pub struct ProducePartition<'a> {
+    /// The partition's number.
+    pub index: i32,
+    /// A record batch, as sent, or `None` where it is null.
+    pub records: Option<&'a [u8]>,
+}
+
+impl<'a> Element<'a> for ProducePartition<'a> {
+    ghost fields = { produce_partition };
+
+    ghost said = { λ p. (p.index, (option_map (λ bytes. bytes.now) p.records, nothing)) };
+
+    #[tactic(auto, unfolding(crate::specs::Reading::read_fields))]
+    fn read(bytes: &'a [u8]) -> Result<(Self, &'a [u8]), FieldFault> {
+        let (index, rest) = int32(bytes)?;
+        let (records, rest) = nullable_bytes(rest)?;
+        Ok((ProducePartition { index, records }, rest))
+    }
+}
+
+/// What a Fetch request asks of a partition.
+#[derive(Clone, Copy, Debug)]
+pub struct FetchPartition {
+    /// The partition's number.
+    pub partition: i32,
+    /// The first offset that is wanted.
+    pub offset: i64,
+    /// The most bytes of records that are wanted; below 0 as 0.
+    pub max_bytes: i32,
+}
+
+impl<'a> Element<'a> for FetchPartition {
+    ghost fields = { fetch_partition };
+
+    ghost said = { λ p. (p.partition, (p.offset, (p.max_bytes, nothing))) };
+
+    #[tactic(auto, unfolding(crate::specs::Reading::read_fields))]
+    fn read(bytes: &'a [u8]) -> Result<(Self, &'a [u8]), FieldFault> {
+        let (partition, rest) = int32(bytes)?;
+        let (offset, rest) = int64(rest)?;
+        let (max_bytes, rest) = int32(rest)?;
+        let entry = FetchPartition {
+            partition,
+            offset,
+            max_bytes,
+        };
+        Ok((entry, rest))
+    }
+}
+
+/// What a ListOffsets request asks of a partition.
+#[derive(Clone, Copy, Debug)]
+pub struct ListOffsetsPartition {
+    /// The partition's number.
+    pub partition: i32,
+    /// A time in milliseconds, -1 for the log's end, or -2 for its start.
+    pub time: i64,
+}
+
+impl<'a> Element<'a> for ListOffsetsPartition {
+    ghost fields = { list_offsets_partition };
+
+    ghost said = { λ p. (p.partition, (p.time, nothing)) };
+
+    #[tactic(auto, unfolding(crate::specs::Reading::read_fields))]
+    fn read(bytes: &'a [u8]) -> Result<(Self, &'a [u8]), FieldFault> {
+        let (partition, rest) = int32(bytes)?;
+        let (time, rest) = int64(rest)?;
+        Ok((ListOffsetsPartition { partition, time }, rest))
+    }
+}
+
+/// A topic's name.
+#[derive(Clone, Copy, Debug)]
+pub struct Name<'a>(
+    /// The name, as sent: nothing is known of it.
+    pub &'a [u8],
+);
+
+impl<'a> Element<'a> for Name<'a> {
+    ghost fields = { string ⨾ end };
+
+    ghost said = { λ n. (n.0.now, nothing) };
+
+    #[tactic(auto, unfolding(crate::specs::Reading::read_fields))]
+    fn read(bytes: &'a [u8]) -> Result<(Self, &'a [u8]), FieldFault> {
+        let (name, rest) = string(bytes)?;
+        Ok((Name(name), rest))
+    }
+}
+
+/// A Produce request.
+#[derive(Drop)]
+pub struct ProduceRequest<'a> {
+    /// The id of a transaction, or `None` where it is null.
+    pub transactional_id: Option<&'a [u8]>,
+    /// How many copies have to acknowledge: 0, 1, or -1 for all.
+    pub acks: i16,
+    /// The batches, by topic and partition.
+    pub topics: Array<'a, Topic<'a, ProducePartition<'a>>>,
+}
+
+#[tactic(auto, unfolding(crate::specs::Reading::read_fields))]
+pub(crate) fn produce_at(bytes: &[u8]) -> Result<(ProduceRequest<'_>, &[u8]), FieldFault>
+    ensures { Gives (λ x. (produced x.0, x.1.now)) result
+        (map_read produce_request (read_fields produce_fields bytes.now)) }
+{
+    let (transactional_id, rest) = nullable_string(bytes)?;
+    let (acks, rest) = int16(rest)?;
+    let (_timeout, rest) = int32(rest)?;
+    let (topics, rest) = array_at(rest)?;
+    let request = ProduceRequest {
+        transactional_id,
+        acks,
+        topics,
+    };
+    Ok((request, rest))
+}
+
+/// A Fetch request.
+#[derive(Drop)]
+pub struct FetchRequest<'a> {
+    /// The most bytes of records that are wanted in all; below 0 as 0.
+    pub max_bytes: i32,
+    /// What is wanted, by topic and partition.
+    pub topics: Array<'a, Topic<'a, FetchPartition>>,
+}
+
+#[tactic(auto, unfolding(crate::specs::Reading::read_fields))]
+pub(crate) fn fetch_at(bytes: &[u8]) -> Result<(FetchRequest<'_>, &[u8]), FieldFault>
+    ensures { Gives (λ x. (fetched x.0, x.1.now)) result
+        (map_read fetch_request (read_fields fetch_fields bytes.now)) }
+{
+    let (_replica_id, rest) = int32(bytes)?;
+    let (_max_wait, rest) = int32(rest)?;
+    let (_min_bytes, rest) = int32(rest)?;
+    let (max_bytes, rest) = int32(rest)?;
+    let (_isolation_level, rest) = int8(rest)?;
+    let (topics, rest) = array_at(rest)?;
+    Ok((FetchRequest { max_bytes, topics }, rest))
+}
+
+/// A ListOffsets request.
+#[derive(Drop)]
+pub struct ListOffsetsRequest<'a> {
+    /// What is asked, by topic and partition.
+    pub topics: Array<'a, Topic<'a, ListOffsetsPartition>>,
+}
+
+#[tactic(auto, unfolding(crate::specs::Reading::read_fields))]
+pub(crate) fn list_offsets_at(bytes: &[u8]) -> Result<(ListOffsetsRequest<'_>, &[u8]), FieldFault>
+    ensures { Gives (λ x. (offsets_listed x.0, x.1.now)) result
+        (map_read list_offsets_request (read_fields list_offsets_fields bytes.now)) }
+{
+    let (_replica_id, rest) = int32(bytes)?;
+    let (topics, rest) = array_at(rest)?;
+    Ok((ListOffsetsRequest { topics }, rest))
+}
+
+/// A Metadata request.
+#[derive(Drop)]
+pub struct MetadataRequest<'a> {
+    /// The names of the topics that are asked for, or `None` for all topics.
+    pub names: Option<Array<'a, Name<'a>>>,
+}
+
+#[tactic(auto, unfolding(crate::specs::Reading::read_fields))]
+pub(crate) fn metadata_at(bytes: &[u8]) -> Result<(MetadataRequest<'_>, &[u8]), FieldFault>
+    ensures { Gives (λ x. (names_asked x.0, x.1.now)) result
+        (map_read metadata_request (read_fields metadata_fields bytes.now)) }
+{
+    let (names, rest) = nullable_array_at(bytes)?;
+    Ok((MetadataRequest { names }, rest))
+}

@@ -1,0 +1,91 @@
+//! The response to Fetch, version 4: `begin_fetch`; for each topic `begin_topic`; for each of its
+//! partitions `begin_fetched_partition` and the records' bytes.
+
+ghost use Rattle.std.specs.Prelude.{◌≡◌, ◌≤◌, ◌+◌, ◌++◌, IsOk, OnOk, OnErr};
+ghost use Rattle.std.specs.Vec.{vec_len, vec_capacity};
+ghost use Rattle.request_frames.specs.Responses.{fetch_head, fetched_head};
+
+use crate::response::MAX_COUNT;
+use byteorder::{BigEndian, ByteOrder};
+use std::alloc::{AllocError, Allocator};
+
+/// The number of bytes before the topics.
+pub const FETCH_HEAD_BYTES: usize = 8;
+
+/// The number of bytes before a partition's records.
+pub const FETCHED_HEAD_BYTES: usize = 30;
+
+/// What is answered of a partition, before its records.
+#[derive(Clone, Copy)]
+pub struct FetchedPartition {
+    /// The partition's index.
+    pub index: i32,
+    /// The error code, 0 for none.
+    pub code: i16,
+    /// The partition's end, which is its high watermark and its last stable offset; -1 where there
+    /// is an error.
+    pub end: i64,
+}
+
+#[tactic(auto, unfolding(crate::specs::Fields::encoded))]
+fn head_bytes(topic_count: u32) -> [u8; FETCH_HEAD_BYTES]
+    ensures { result ≡ fetch_head topic_count }
+{
+    let mut bytes = [0; FETCH_HEAD_BYTES];
+    BigEndian::write_u32(&mut bytes[4..8], topic_count);
+    bytes
+}
+
+/// Appends what comes before the topics, and their count.
+///
+/// # Errors
+///
+/// `AllocError` where the allocation fails; then the output is as before.
+pub fn begin_fetch<A: Allocator + Copy>(
+    out: &mut Vec<u8, A>,
+    topic_count: u32,
+) -> Result<(), AllocError>
+    requires { topic_count ≤ MAX_COUNT }
+    ensures appends { OnOk result (out.new.items ≡ out.old.items ++ fetch_head topic_count) }
+    ensures unchanged_on_error { OnErr result (out.new.items ≡ out.old.items) }
+    ensures len { OnOk result (vec_len out.new ≡ vec_len out.old + FETCH_HEAD_BYTES) }
+    ensures succeeds { vec_len out.old + FETCH_HEAD_BYTES ≤ vec_capacity out.old → IsOk result }
+    ensures keeps_capacity { vec_capacity out.old ≤ vec_capacity out.new }
+{
+    out.extend_from_slice(&head_bytes(topic_count))
+}
+
+#[tactic(auto, unfolding(crate::specs::Fields::encoded))]
+fn partition_head_bytes(partition: FetchedPartition, size: u32) -> [u8; FETCHED_HEAD_BYTES]
+    ensures { result ≡ fetched_head partition size }
+{
+    let mut bytes = [0; FETCHED_HEAD_BYTES];
+    BigEndian::write_i32(&mut bytes[0..4], partition.index);
+    BigEndian::write_i16(&mut bytes[4..6], partition.code);
+    BigEndian::write_i64(&mut bytes[6..14], partition.end);
+    BigEndian::write_i64(&mut bytes[14..22], partition.end);
+    BigEndian::write_i32(&mut bytes[22..26], -1);
+    BigEndian::write_u32(&mut bytes[26..30], size);
+    bytes
+}
+
+/// Appends what is answered of a partition, and the number of bytes of its records. These bytes
+/// follow.
+///
+/// # Errors
+///
+/// `AllocError` where the allocation fails; then the output is as before.
+pub fn begin_fetched_partition<A: Allocator + Copy>(
+    out: &mut Vec<u8, A>,
+    partition: FetchedPartition,
+    size: u32,
+) -> Result<(), AllocError>
+    requires { size ≤ MAX_COUNT }
+    ensures appends { OnOk result (out.new.items ≡ out.old.items ++ fetched_head partition size) }
+    ensures unchanged_on_error { OnErr result (out.new.items ≡ out.old.items) }
+    ensures len { OnOk result (vec_len out.new ≡ vec_len out.old + FETCHED_HEAD_BYTES) }
+    ensures succeeds { vec_len out.old + FETCHED_HEAD_BYTES ≤ vec_capacity out.old → IsOk result }
+    ensures keeps_capacity { vec_capacity out.old ≤ vec_capacity out.new }
+{
+    out.extend_from_slice(&partition_head_bytes(partition, size))
+}

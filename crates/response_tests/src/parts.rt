@@ -1,0 +1,114 @@
+//! The values that the tests write.
+
+use request_frames::response::fetch::{FetchedPartition, begin_fetch, begin_fetched_partition};
+use request_frames::response::list_offsets::{
+    ListedPartition, begin_list_offsets, put_listed_partition,
+};
+use request_frames::response::metadata::{
+    MetadataBroker, MetadataPartition, MetadataTopic, begin_metadata, begin_metadata_topic,
+    put_metadata_partition,
+};
+use request_frames::response::produce::{
+    ProducedPartition, begin_produce, end_produce, put_produced_partition,
+};
+use request_frames::response::{begin_response, begin_topic};
+use std::alloc::{AllocError, Allocator};
+
+pub(crate) const STORED: ProducedPartition = ProducedPartition {
+    index: 1,
+    code: 0,
+    base: 72_623_859_790_382_856,
+};
+
+pub(crate) const STORED_FIRST: ProducedPartition = ProducedPartition {
+    index: 0,
+    code: 0,
+    base: 0,
+};
+
+pub(crate) const NOT_STORED: ProducedPartition = ProducedPartition {
+    index: 2,
+    code: 3,
+    base: -1,
+};
+
+pub(crate) const READ: FetchedPartition = FetchedPartition {
+    index: 0,
+    code: 0,
+    end: 5,
+};
+
+pub(crate) const NOT_READ: FetchedPartition = FetchedPartition {
+    index: 7,
+    code: 1,
+    end: -1,
+};
+
+pub(crate) const FOUND: ListedPartition = ListedPartition {
+    index: 0,
+    code: 0,
+    time: 1_700_000_000_000,
+    offset: 3,
+};
+
+pub(crate) const NOT_FOUND: ListedPartition = ListedPartition {
+    index: 1,
+    code: 42,
+    time: -1,
+    offset: -1,
+};
+
+pub(crate) const BROKER: MetadataBroker<'static> = MetadataBroker {
+    node_id: 1,
+    host: b"h.eu",
+    port: 9092,
+};
+
+pub(crate) const INTERNAL: MetadataTopic<'static> = MetadataTopic {
+    code: 0,
+    name: b"ab",
+    is_internal: true,
+};
+
+pub(crate) const UNKNOWN: MetadataTopic<'static> = MetadataTopic {
+    code: 3,
+    name: b"c",
+    is_internal: false,
+};
+
+pub(crate) const LED: MetadataPartition = MetadataPartition {
+    code: 0,
+    index: 0,
+    leader: Some(1),
+};
+
+pub(crate) const LEADERLESS: MetadataPartition = MetadataPartition {
+    code: 5,
+    index: 1,
+    leader: None,
+};
+
+/// The number of parts that `put_part` knows.
+pub(crate) const PARTS: u32 = 13;
+
+/// Appends the part of that number.
+pub(crate) fn put_part<A: Allocator + Copy>(
+    out: &mut Vec<u8, A>,
+    part: u32,
+) -> Result<(), AllocError> {
+    match part {
+        0 => begin_response(out, 258),
+        1 => begin_topic(out, b"ab", 2),
+        2 => begin_produce(out, 2),
+        3 => put_produced_partition(out, STORED),
+        4 => end_produce(out),
+        5 => begin_fetch(out, 2),
+        6 => begin_fetched_partition(out, READ, 3),
+        7 => begin_list_offsets(out, 2),
+        8 => put_listed_partition(out, FOUND),
+        9 => begin_metadata(out, BROKER, 1, 2),
+        10 => begin_metadata_topic(out, INTERNAL, 2),
+        11 => put_metadata_partition(out, LED),
+        _ => put_metadata_partition(out, LEADERLESS),
+    }
+}
