@@ -74,13 +74,12 @@ impl<W: Write> Sink<W> {
         ensures appends { WriteAppends self.old.taken self.new.taken result bytes.now }
         ensures tells_failure { self.new.failed ≡ is_err result }
     {
-        match self.inner.write(bytes) {
+        let written = match self.inner.write(bytes) {
             Ok(count) if count > 0 => Ok(count),
-            _ => {
-                self.failed = true;
-                Err(Failed)
-            }
-        }
+            _ => Err(Failed),
+        };
+        self.failed = written.is_err();
+        written
     }
 
     /// Writes all of the bytes, in as many writes as it takes. No call may have failed before.
@@ -114,12 +113,8 @@ impl<W: Write> Sink<W> {
         ensures keeps { Keeps self.old.taken self.new.taken }
         ensures tells_failure { self.new.failed ≡ is_err result }
     {
-        match self.inner.flush() {
-            Ok(()) => Ok(()),
-            Err(_) => {
-                self.failed = true;
-                Err(Failed)
-            }
-        }
+        let flushed = self.inner.flush().map_err(|_| Failed);
+        self.failed = flushed.is_err();
+        flushed
     }
 }

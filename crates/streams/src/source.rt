@@ -76,13 +76,9 @@ impl<R: Read> Source<R> {
         ensures none_only_at_end { IfOk result (λ n. n ≡ 0 → IsAtEnd self.new.left) }
         ensures tells_failure { self.new.failed ≡ is_err result }
     {
-        match self.inner.read(buf) {
-            Ok(count) => Ok(count),
-            Err(_) => {
-                self.failed = true;
-                Err(Failed)
-            }
-        }
+        let given = self.inner.read(buf).map_err(|_| Failed);
+        self.failed = given.is_err();
+        given
     }
 
     /// Makes one read into the room of a buffer, which isn't full, and gives the number of bytes
@@ -103,12 +99,8 @@ impl<R: Read> Source<R> {
             ((buffer.new ≡ buffer.old) × Keeps self.old.left self.new.left) }
         ensures tells_failure { self.new.failed ≡ is_err result }
     {
-        match buffer.read_from(&mut self.inner) {
-            Ok(count) => Ok(count),
-            Err(_) => {
-                self.failed = true;
-                Err(Failed)
-            }
-        }
+        let added = buffer.read_from(&mut self.inner).map_err(|_| Failed);
+        self.failed = added.is_err();
+        added
     }
 }

@@ -1,0 +1,7 @@
+//! Tests of sources and sinks over readers and writers that give and take little, and that fail.
+#![tactic(auto)]
+
+#[cfg(test)]
+mod reading;
+#[cfg(test)]
+mod writing;
