@@ -8,6 +8,15 @@
 //!
 //! Every error of the reader or writer, one of the kind `Interrupted` included, and a write that
 //! takes 0 bytes. A read that gives 0 bytes is the end of input, and no failure.
+//!
+//! ```
+//! let mut source = Source::new(reader);
+//! let mut sink = Sink::new(writer);
+//! let mut buf = [0; 64];
+//! let count = source.read(&mut buf)?;
+//! sink.write_all(&buf[..count])?;
+//! // all that was read is written, and neither source.failed() nor sink.failed()
+//! ```
 #![tactic(auto)]
 
 mod failed;

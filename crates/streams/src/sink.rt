@@ -1,8 +1,8 @@
 //! A writer that remembers whether a write has failed.
-ghost use Rattle.std.specs.Prelude.{◌≡◌, ◌<◌, ℕ, false, length, is_err, IfOk, OnOk, OnErr};
+ghost use Rattle.std.specs.Prelude.{◌≡◌, ◌<◌, false, length, is_err, IfOk, OnOk, OnErr};
 ghost use Rattle.std.specs.Io.{WritesAtMost};
 ghost use Rattle.std.specs.Io.KnownBytes.{Keeps, Appends, WriteAppends};
-ghost use Rattle.streams.specs.State.{SinkState, LosesRest};
+ghost use Rattle.streams.specs.State.{LosesRest};
 
 use crate::Failed;
 use std::io::Write;
@@ -10,6 +10,13 @@ use std::marker::Model;
 
 /// A writer, and whether a write or a flush of it has failed. It is seen as what the writer has
 /// taken, where that is known, and the flag.
+///
+/// ```
+/// let mut sink = Sink::new(writer);
+/// sink.write_all(reply)?;
+/// sink.flush()?;
+/// let writer = sink.into_inner();
+/// ```
 #[derive(Drop)]
 pub struct Sink<W: Write> {
     inner: W,
@@ -103,7 +110,8 @@ impl<W: Write> Sink<W> {
         Ok(())
     }
 
-    /// Flushes the writer, in one call. No call may have failed before.
+    /// Flushes the writer, in one call. No call may have failed before. What the writer has taken stays
+    /// the same.
     ///
     /// # Errors
     ///

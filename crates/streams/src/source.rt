@@ -1,8 +1,8 @@
 //! A reader that remembers whether a read has failed.
-ghost use Rattle.std.specs.Prelude.{◌≡◌, ◌+◌, ◌<◌, ℕ, false, length, is_err, IfOk, OnErr};
+ghost use Rattle.std.specs.Prelude.{◌≡◌, ◌+◌, ◌<◌, false, length, is_err, IfOk, OnErr};
 ghost use Rattle.std.specs.Io.{ReadsAtMost};
 ghost use Rattle.std.specs.Io.KnownBytes.{Keeps, IsAtEnd, ReadConsumes};
-ghost use Rattle.streams.specs.State.{SourceState, MovesPiece};
+ghost use Rattle.streams.specs.State.{MovesPiece};
 
 use crate::Failed;
 use bytes::BytesMut;
@@ -12,6 +12,16 @@ use std::marker::Model;
 
 /// A reader, and whether a read of it has failed. It is seen as what the reader has left to give,
 /// where that is known, and the flag.
+///
+/// ```
+/// let mut source = Source::new(reader);
+/// buffer.reserve(1)?;
+/// match source.read_into(&mut buffer) {
+///     Ok(0) => {}     // the end of input
+///     Ok(count) => {} // so many bytes stand behind those that were in the buffer
+///     Err(Failed) => {} // source.failed(), and no read may follow
+/// }
+/// ```
 #[derive(Drop)]
 pub struct Source<R: Read> {
     inner: R,
