@@ -1,0 +1,11 @@
+/// A call of a reader or a writer failed. The source or sink that made the call has its flag set.
+///
+/// It doesn't say how the call failed, and has no text of its own.
+///
+/// ```
+/// if sink.write_all(reply) == Err(Failed) {
+///     // sink.failed(), and at least one byte of the reply isn't written
+/// }
+/// ```
+#[derive(Clone, Copy, Debug, PartialEq, Eq)]
+pub struct Failed;
