@@ -1,0 +1,3 @@
+pub mod Names
+pub mod NewTopics
+pub mod NewStates
