@@ -1,0 +1,3 @@
+pub mod AnsweredFrames
+pub mod AnswersOfAll
+pub mod PlannedReplies

@@ -10,3 +10,4 @@ pub mod Listing
 pub mod Plans
 pub mod Replies
 pub mod Streams
+pub mod Examples

@@ -4,7 +4,7 @@ use Rattle.std.specs.Prelude.{ℕ, ℤ, pos, false, not, List, [], ◌∷◌, le
 use Rattle.std.specs.List.{filter, range_with_len}
 use Rattle.request_frames.specs.declared.response.metadata.MetadataPartition.{MetadataPartition}
 use Rattle.request_frames.specs.Names.{is_topic_name}
-use Rattle.request_frames.specs.Responses.{Broker, TopicMetadata, leader_id}
+use Rattle.request_frames.specs.Responses.{Broker, TopicMetadata}
 use Rattle.broker_core.specs.declared.config.Role.{Role}
 use Rattle.broker_core.specs.declared.config.Role.TheVariants.{Leader, Follower}
 use Rattle.broker_core.specs.declared.codes.ErrorCode.{ErrorCode}

@@ -9,7 +9,7 @@ use Rattle.request_frames.specs.Requests.BodyValue.{produce, fetch, list_offsets
 use Rattle.request_frames.specs.Requests.{BodyValue, RequestValue, ProduceValue, ProducePartitionValue, FetchValue, FetchPartitionValue, ListOffsetsPartitionValue}
 use Rattle.request_frames.specs.Responses.{response, Fetched, produce_response, produce_value, fetch_response, fetch_value, list_offsets_response, list_offsets_value, metadata_response, metadata_value, leader_id}
 use Rattle.broker_core.specs.State.{State}
-use Rattle.broker_core.specs.Work.{Work, IsAnswer, MayAnswer}
+use Rattle.broker_core.specs.Work.{IsAnswer, MayAnswer}
 use Rattle.broker_core.specs.Entries.{produce_work, FetchRoom, first_room, fetch_work, list_offsets_work}
 use Rattle.broker_core.specs.Listing.{broker_of, known_leader, listed_topics}
 use Rattle.broker_core.specs.Plans.{Plan, HowAnswered, reply_by, RepliesBy}

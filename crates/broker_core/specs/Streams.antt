@@ -7,7 +7,7 @@ use Rattle.request_frames.specs.declared.error.FrameError.{FrameError}
 use Rattle.request_frames.specs.Requests.{RequestValue, IsRequest, IsRefused}
 use Rattle.request_frames.specs.Frames.{IsFrames, IsFirstFrame, SizeFault}
 use Rattle.broker_core.specs.State.{State}
-use Rattle.broker_core.specs.Replies.{reply, MayReply}
+use Rattle.broker_core.specs.Replies.{MayReply}
 
 -- the bytes that go out for a reply
 abbrev pub sent : Option (List ℕ) → List ℕ

@@ -13,9 +13,12 @@
 mod codes;
 mod config;
 mod error;
+pub mod examples;
+mod laws;
 mod limits;
 
 pub use codes::ErrorCode;
 pub use config::Role;
 pub use error::ConfigError;
+pub use laws::{answered_snoc, answers_function};
 pub use limits::{MAX_FETCH_BYTES, MAX_HOST_BYTES, MAX_PARTITIONS, MAX_TOPICS};
