@@ -1,3 +1,4 @@
 pub mod AnsweredFrames
 pub mod AnswersOfAll
 pub mod PlannedReplies
+pub mod AppendFaults

@@ -1,15 +1,14 @@
 //! Laws about the definitions alone. The functions do nothing: what they ensure is the law.
 
-ghost use Rattle.std.specs.Prelude.{◌≡◌, ◌≢◌, ◌↔◌, ℕ, ℤ, true, List, [], ◌∷◌, ◌++◌, Option, Some, None, bytes_eq};
+ghost use Rattle.std.specs.Prelude.{◌≡◌, ◌↔◌, ℕ, ℤ, List, [], ◌∷◌, ◌++◌, Option, None};
 ghost use Rattle.batch_codec.specs.Values.{BatchValue};
 ghost use Rattle.content.specs.Content.{Content};
+ghost use Rattle.content.specs.declared.verdict.Verdict.TheVariants.{New, Repeat};
 ghost use Rattle.partition_log.specs.declared.leader.AppendError.{AppendError};
-ghost use Rattle.partition_log.specs.Appends.{RefusesAppend};
+ghost use Rattle.partition_log.specs.Appends.{RefusesAppend, IsSendable, kept_verdict, HasOffsets};
 ghost use Rattle.request_frames.specs.Requests.{RequestValue};
-ghost use Rattle.broker_core.specs.Batches.{append_fault};
-ghost use Rattle.broker_core.specs.State.{State, is_known, content_at, with_content};
-ghost use Rattle.broker_core.specs.Lists.{map_accum};
-ghost use Rattle.broker_core.specs.Plans.{AnswersAll};
+ghost use Rattle.broker_core.specs.Batches.{append_fault, FaultIs};
+ghost use Rattle.broker_core.specs.State.{State};
 ghost use Rattle.broker_core.specs.Replies.{reply, IsReply, MayReply};
 ghost use Rattle.broker_core.specs.Streams.{IsAnswered, AreAnswered};
 
@@ -20,6 +19,17 @@ pub fn answers_function()
         → IsReply s q out after ↔ ((out, after) ≡ reply s q) }
     ensures may_be_replied { (s after : State) (q : RequestValue) (out : Option (List ℕ))
         → IsReply s q out after → MayReply s q out after }
+{}
+
+/// The tests by which a reply judges a batch find the fault for which a leader's log refuses it, and
+/// none in a batch that it takes.
+pub fn append_faults()
+    ensures refusal_is_fault { (c : Content) (b : BatchValue) (e : AppendError)
+        → RefusesAppend c b e → FaultIs e (append_fault c b) }
+    ensures new_has_no_fault { (c : Content) (b : BatchValue) → IsSendable b
+        → kept_verdict c b ≡ New → HasOffsets c b → append_fault c b ≡ None }
+    ensures repeat_has_no_fault { (c : Content) (b : BatchValue) (base : ℤ) → IsSendable b
+        → kept_verdict c b ≡ Repeat base → append_fault c b ≡ None }
 {}
 
 /// One more frame is answered behind those that were.
