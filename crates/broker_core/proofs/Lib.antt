@@ -2,3 +2,4 @@ pub mod AnsweredFrames
 pub mod AnswersOfAll
 pub mod PlannedReplies
 pub mod AppendFaults
+pub mod OneContent

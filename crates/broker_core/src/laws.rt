@@ -1,6 +1,6 @@
 //! Laws about the definitions alone. The functions do nothing: what they ensure is the law.
 
-ghost use Rattle.std.specs.Prelude.{◌≡◌, ◌↔◌, ℕ, ℤ, List, [], ◌∷◌, ◌++◌, Option, None};
+ghost use Rattle.std.specs.Prelude.{◌≡◌, ◌≢◌, ◌↔◌, ℕ, ℤ, true, false, List, [], ◌∷◌, ◌++◌, Option, Some, None};
 ghost use Rattle.batch_codec.specs.Values.{BatchValue};
 ghost use Rattle.content.specs.Content.{Content};
 ghost use Rattle.content.specs.declared.verdict.Verdict.TheVariants.{New, Repeat};
@@ -8,7 +8,7 @@ ghost use Rattle.partition_log.specs.declared.leader.AppendError.{AppendError};
 ghost use Rattle.partition_log.specs.Appends.{RefusesAppend, IsSendable, kept_verdict, HasOffsets};
 ghost use Rattle.request_frames.specs.Requests.{RequestValue};
 ghost use Rattle.broker_core.specs.Batches.{append_fault, FaultIs};
-ghost use Rattle.broker_core.specs.State.{State};
+ghost use Rattle.broker_core.specs.State.{State, partition_at, is_known, with_content};
 ghost use Rattle.broker_core.specs.Replies.{reply, IsReply, MayReply};
 ghost use Rattle.broker_core.specs.Streams.{IsAnswered, AreAnswered};
 
@@ -19,6 +19,19 @@ pub fn answers_function()
         → IsReply s q out after ↔ ((out, after) ≡ reply s q) }
     ensures may_be_replied { (s after : State) (q : RequestValue) (out : Option (List ℕ))
         → IsReply s q out after → MayReply s q out after }
+{}
+
+/// Another content of one partition is found there, and the configuration stays; of an unknown
+/// partition nothing changes.
+pub fn one_content_changes()
+    ensures same { (s : State) (name : List ℕ) (p : ℤ) (c : Content)
+        → is_known s name p ≡ true → partition_at (with_content s name p c) name p ≡ Some c }
+    ensures config { (s : State) (name : List ℕ) (p : ℤ) (c : Content)
+        → (with_content s name p c).config ≡ s.config }
+    ensures unknown { (s : State) (name : List ℕ) (p : ℤ) (c : Content)
+        → is_known s name p ≡ false → with_content s name p c ≡ s }
+    ensures other_index { (s : State) (name other : List ℕ) (p q : ℤ) (c : Content)
+        → q ≢ p → partition_at (with_content s name p c) other q ≡ partition_at s other q }
 {}
 
 /// The tests by which a reply judges a batch find the fault for which a leader's log refuses it, and

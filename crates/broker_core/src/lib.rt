@@ -20,5 +20,5 @@ mod limits;
 pub use codes::ErrorCode;
 pub use config::Role;
 pub use error::ConfigError;
-pub use laws::{answered_snoc, answers_function, append_faults};
+pub use laws::{answered_snoc, answers_function, append_faults, one_content_changes};
 pub use limits::{MAX_FETCH_BYTES, MAX_HOST_BYTES, MAX_PARTITIONS, MAX_TOPICS};
