@@ -72,7 +72,6 @@ new_topics_hold_nothing g ts e = ap (map topic_contents) e ∙ contents_are g.ro
 
 -- ---- a fault is never out of memory
 
-
 three_faults : (a b c : Bool) → first_some (fault_if a BadTopic ∷ fault_if b BadPartitions ∷ fault_if c TopicTwice ∷ []) ≡ Some OutOfMemory → ⊥
 three_faults true b c e = absurd cc
 three_faults false true c e = absurd cc

@@ -1,12 +1,11 @@
 -- What a broker holds: its configuration, and the content of each partition. Kafka's design documentation, "Replication"
 -- (a partition has one leader, and followers that copy it), and the configuration "offsets.topic" (committed offsets are
 -- kept in a topic of the broker's own). That this topic has one partition is this project's own.
-use Rattle.std.specs.Prelude.{ℕ, ℤ, pos, negsuc, Bool, is_some, List, [], ◌∷◌, ◌++◌, map, replicate, set, slice_get, codes, bytes_eq, Option, Some, None, if◌then◌else◌}
+use Rattle.std.specs.Prelude.{ℕ, ℤ, pos, negsuc, Bool, is_some, List, [], ◌∷◌, ◌++◌, map, replicate, set, slice_get, codes, bytes_eq, Option, None, if◌then◌else◌}
 use Rattle.std.specs.List.{find}
 use Rattle.std.specs.Option.{unwrap_or, option_and_then}
 use Rattle.content.specs.Content.{Content, empty}
 use Rattle.broker_core.specs.declared.config.Role.{Role}
-use Rattle.broker_core.specs.declared.config.Role.TheVariants.{Leader, Follower}
 
 -- ---- configurations
 
@@ -71,12 +70,17 @@ is_known s name p = is_some (partition_at s name p)
 abbrev pub content_at : State → List ℕ → ℤ → Content
 content_at s name p = unwrap_or (partition_at s name p) empty
 
+-- the topic with another content of one partition
 abbrev pub with_partition : ℤ → Content → Topic → Topic
 with_partition (pos p) c t = record t { partitions = set t.partitions p c }
 with_partition (negsuc p) c t = t
 
+-- that of the first topic of the name
+abbrev pub with_partition_of : List ℕ → ℤ → Content → List Topic → List Topic
+with_partition_of name p c [] = []
+with_partition_of name p c (t ∷ ts) =
+    if bytes_eq t.name name then with_partition p c t ∷ ts else t ∷ with_partition_of name p c ts
+
 -- the state with another content of one partition; of an unknown one the state itself
 abbrev pub with_content : State → List ℕ → ℤ → Content → State
-with_content s name p c = record s {
-  topics = map (λ t. if bytes_eq t.name name then with_partition p c t else t) s.topics;
-}
+with_content s name p c = record s { topics = with_partition_of name p c s.topics }

@@ -13,12 +13,16 @@
 mod codes;
 mod config;
 mod error;
+pub mod examples;
 mod judging;
+mod laws;
 mod limits;
 mod node;
 mod partition;
 
 pub use codes::ErrorCode;
-pub use config::Role;
+pub use config::{Config, Role, TopicConfig};
 pub use error::ConfigError;
-pub use limits::{MAX_FETCH_BYTES, MAX_HOST_BYTES, MAX_PARTITIONS, MAX_TOPICS};
+pub use laws::{answered_snoc, answers_function, append_faults, one_content_changes};
+pub use limits::{GROUP_TOPIC, MAX_FETCH_BYTES, MAX_HOST_BYTES, MAX_PARTITIONS, MAX_TOPICS};
+pub use node::Node;

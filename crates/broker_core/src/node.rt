@@ -48,10 +48,7 @@ impl<S: BatchStore> TopicLogs<S> {
 }
 
 /// The topic of a name.
-fn topic_of<'a, S: BatchStore>(
-    topics: &'a [TopicLogs<S>],
-    name: &[u8],
-) -> Option<&'a TopicLogs<S>>
+fn topic_of<'a, S: BatchStore>(topics: &'a [TopicLogs<S>], name: &[u8]) -> Option<&'a TopicLogs<S>>
     ensures { option_map (λ t. t.now) result ≡ find (λ t. bytes_eq t.name name.now) topics.now }
 {
     for topic in topics {
@@ -118,12 +115,7 @@ fn new_topics<S: BatchStore>(
 {
     let mut topics = Vec::new(alloc);
     for topic in &config.topics {
-        topics.push(new_topic(
-            alloc,
-            config.role,
-            topic.name.as_bytes(),
-            topic.partitions,
-        )?)?;
+        topics.push(new_topic(alloc, config.role, topic.name.as_bytes(), topic.partitions)?)?;
     }
     topics.push(new_topic(alloc, config.role, GROUP_TOPIC, 1)?)?;
     Ok(topics)
