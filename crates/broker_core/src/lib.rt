@@ -12,6 +12,7 @@
 
 mod codes;
 mod config;
+mod entries;
 mod error;
 pub mod examples;
 mod judging;
