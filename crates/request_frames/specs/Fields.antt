@@ -132,17 +132,20 @@ CountBreaks least ShortBody bytes = IsCut size32 bytes
 CountBreaks least Malformed bytes = IsBelow least size32 bytes
 
 -- the first part has the fault, or it is encoded and what follows has the fault
-abbrev pub FirstOrLater : {X : Type 0} → (X → List ℕ) → (X → Type 0) → (first later : FieldFault → List ℕ → Type 0) → FieldFault → List ℕ → Type 0
+abbrev pub FirstOrLater : {X : Type 0} → (X → List ℕ) → (X → Type 0) → (first later : FieldFault → List ℕ → Type 0)
+    → FieldFault → List ℕ → Type 0
 FirstOrLater {X = X} enc fits first later e bytes =
     first e bytes ⊎ (v : X) × (tail : List ℕ) × fits v × (bytes ≡ enc v ++ tail) × later e tail
 
 -- some elements are encoded, fewer than the count, and the next one has the fault
-abbrev pub AnElementBreaks : {X : Type 0} → (X → List ℕ) → (X → Type 0) → (FieldFault → List ℕ → Type 0) → FieldFault → List ℕ → Type 0
+abbrev pub AnElementBreaks : {X : Type 0} → (X → List ℕ) → (X → Type 0) → (FieldFault → List ℕ → Type 0)
+    → FieldFault → List ℕ → Type 0
 AnElementBreaks {X = X} enc fits breaks e bytes =
     (count : ℕ) × (before : List X) × (tail : List ℕ) × FitsLength size32 count × AllByRecursion fits before
     × (length before < count) × (bytes ≡ counted size32 count (flat_map enc before) ++ tail) × breaks e tail
 
-abbrev pub ElementsBreak : {X : Type 0} → ℤ → (X → List ℕ) → (X → Type 0) → (FieldFault → List ℕ → Type 0) → FieldFault → List ℕ → Type 0
+abbrev pub ElementsBreak : {X : Type 0} → ℤ → (X → List ℕ) → (X → Type 0) → (FieldFault → List ℕ → Type 0)
+    → FieldFault → List ℕ → Type 0
 ElementsBreak least enc fits breaks e bytes = CountBreaks least e bytes ⊎ AnElementBreaks enc fits breaks e bytes
 
 -- some first fields are encoded, and the next one has the fault
@@ -150,6 +153,8 @@ unfoldable pub Breaks : Fields → FieldFault → List ℕ → Type 0
 Breaks end e bytes = ⊥
 Breaks (one f d) e bytes = FirstOrLater (field f) (FieldFits f) (FieldBreaks f) (Breaks d) e bytes
 Breaks (array x d) e bytes =
-    FirstOrLater (elements (encoded x)) (ElementsFit (Fits x)) (ElementsBreak (pos 0) (encoded x) (Fits x) (Breaks x)) (Breaks d) e bytes
+    FirstOrLater (elements (encoded x)) (ElementsFit (Fits x)) (ElementsBreak (pos 0) (encoded x) (Fits x) (Breaks x))
+    (Breaks d) e bytes
 Breaks (array_or_null x d) e bytes =
-    FirstOrLater (elements_or_null (encoded x)) (ElementsOrNullFit (Fits x)) (ElementsBreak (negsuc 0) (encoded x) (Fits x) (Breaks x)) (Breaks d) e bytes
+    FirstOrLater (elements_or_null (encoded x)) (ElementsOrNullFit (Fits x))
+    (ElementsBreak (negsuc 0) (encoded x) (Fits x) (Breaks x)) (Breaks d) e bytes

@@ -22,11 +22,15 @@ pub trait Element<'a>: Sized {
     ghost said: { Self → Value fields };
 
     /// The element at the front, and the bytes after it.
+    ///
+    /// # Errors
+    ///
+    /// The fault of the first field that has one.
     fn read(bytes: &'a [u8]) -> Result<(Self, &'a [u8]), FieldFault>
         ensures { Gives (λ x. (said x.0, x.1.now)) result (read_fields fields bytes.now) };
 }
 
-/// An array's elements, in order. An iterator, which borrows the frame's bytes.
+/// An iterator over an array's elements, in order. It borrows the frame's bytes.
 #[derive(Drop)]
 pub struct Array<'a, E> {
     left: u32,

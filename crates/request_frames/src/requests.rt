@@ -15,7 +15,7 @@ use crate::fields::{int8, int16, int32, int64, nullable_bytes, nullable_string, 
 /// A topic of a request, with an entry for each of its partitions.
 #[derive(Drop)]
 pub struct Topic<'a, E> {
-    /// The name, as sent: nothing is known of it.
+    /// The name, as sent. It need not be the name of a topic.
     pub name: &'a [u8],
     /// The entries, in order.
     pub partitions: Array<'a, E>,
@@ -37,7 +37,7 @@ impl<'a, E: Element<'a> + Drop> Element<'a> for Topic<'a, E> {
 /// What a Produce request asks of a partition.
 #[derive(Clone, Copy, Debug)]
 pub struct ProducePartition<'a> {
-    /// The partition's number.
+    /// The partition's index, as sent.
     pub index: i32,
     /// A record batch, as sent, or `None` where it is null.
     pub records: Option<&'a [u8]>,
@@ -59,11 +59,11 @@ impl<'a> Element<'a> for ProducePartition<'a> {
 /// What a Fetch request asks of a partition.
 #[derive(Clone, Copy, Debug)]
 pub struct FetchPartition {
-    /// The partition's number.
+    /// The partition's index, as sent.
     pub partition: i32,
     /// The first offset that is wanted.
     pub offset: i64,
-    /// The most bytes of records that are wanted; below 0 as 0.
+    /// The most bytes of records that are wanted. A negative number counts as 0.
     pub max_bytes: i32,
 }
 
@@ -89,9 +89,10 @@ impl<'a> Element<'a> for FetchPartition {
 /// What a ListOffsets request asks of a partition.
 #[derive(Clone, Copy, Debug)]
 pub struct ListOffsetsPartition {
-    /// The partition's number.
+    /// The partition's index, as sent.
     pub partition: i32,
-    /// A time in milliseconds, -1 for the log's end, or -2 for its start.
+    /// A time in milliseconds, -1 for the log's end, or -2 for its start. Any number may
+    /// have been sent.
     pub time: i64,
 }
 
@@ -111,7 +112,7 @@ impl<'a> Element<'a> for ListOffsetsPartition {
 /// A topic's name.
 #[derive(Clone, Copy, Debug)]
 pub struct Name<'a>(
-    /// The name, as sent: nothing is known of it.
+    /// The name, as sent. It need not be the name of a topic.
     pub &'a [u8],
 );
 
@@ -132,7 +133,7 @@ impl<'a> Element<'a> for Name<'a> {
 pub struct ProduceRequest<'a> {
     /// The id of a transaction, or `None` where it is null.
     pub transactional_id: Option<&'a [u8]>,
-    /// How many copies have to acknowledge: 0, 1, or -1 for all.
+    /// How many copies have to acknowledge: 0, 1, or -1 for all. Any number may have been sent.
     pub acks: i16,
     /// The batches, by topic and partition.
     pub topics: Array<'a, Topic<'a, ProducePartition<'a>>>,
@@ -158,7 +159,7 @@ pub(crate) fn produce_at(bytes: &[u8]) -> Result<(ProduceRequest<'_>, &[u8]), Fi
 /// A Fetch request.
 #[derive(Drop)]
 pub struct FetchRequest<'a> {
-    /// The most bytes of records that are wanted in all; below 0 as 0.
+    /// The most bytes of records that are wanted in all. A negative number counts as 0.
     pub max_bytes: i32,
     /// What is wanted, by topic and partition.
     pub topics: Array<'a, Topic<'a, FetchPartition>>,

@@ -15,7 +15,7 @@ pub const FETCH_HEAD_BYTES: usize = 8;
 /// The number of bytes before a partition's records.
 pub const FETCHED_HEAD_BYTES: usize = 30;
 
-/// What is answered of a partition, before its records.
+/// The answer for a partition, without its records.
 #[derive(Clone, Copy)]
 pub struct FetchedPartition {
     /// The partition's index.
@@ -69,8 +69,7 @@ fn partition_head_bytes(partition: FetchedPartition, size: u32) -> [u8; FETCHED_
     bytes
 }
 
-/// Appends what is answered of a partition, and the number of bytes of its records. These bytes
-/// follow.
+/// Appends the answer for a partition, and the number of bytes of its records. These bytes follow.
 ///
 /// # Errors
 ///

@@ -12,7 +12,7 @@ use std::alloc::{AllocError, Allocator};
 /// The number of bytes of a partition.
 pub const LISTED_PARTITION_BYTES: usize = 22;
 
-/// What is answered of a partition.
+/// The answer for a partition.
 #[derive(Clone, Copy)]
 pub struct ListedPartition {
     /// The partition's index.
@@ -57,7 +57,7 @@ fn partition_bytes(partition: ListedPartition) -> [u8; LISTED_PARTITION_BYTES]
     bytes
 }
 
-/// Appends what is answered of a partition.
+/// Appends the answer for a partition.
 ///
 /// # Errors
 ///

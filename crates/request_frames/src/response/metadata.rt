@@ -24,7 +24,7 @@ const LEADERLESS_BYTES: usize = 18;
 /// The broker that answers.
 #[derive(Clone, Copy)]
 pub struct MetadataBroker<'a> {
-    /// Its number.
+    /// Its node id.
     pub node_id: i32,
     /// Where it is reached: a name or an address.
     pub host: &'a [u8],
@@ -32,7 +32,7 @@ pub struct MetadataBroker<'a> {
     pub port: u16,
 }
 
-/// What is answered of a topic, before its partitions.
+/// The answer for a topic, without its partitions.
 #[derive(Clone, Copy)]
 pub struct MetadataTopic<'a> {
     /// The error code, 0 for none.
@@ -43,18 +43,18 @@ pub struct MetadataTopic<'a> {
     pub is_internal: bool,
 }
 
-/// What is answered of a partition.
+/// The answer for a partition.
 #[derive(Clone, Copy)]
 pub struct MetadataPartition {
     /// The error code, 0 for none.
     pub code: i16,
     /// The partition's index.
     pub index: i32,
-    /// The number of its leader, which is its one replica, or none.
+    /// The node id of its leader, which is its one replica, or none.
     pub leader: Option<i32>,
 }
 
-/// Appends the one broker, the controller's number, -1 for none, and the count of the topics.
+/// Appends the one broker, the controller's node id, -1 for none, and the count of the topics.
 ///
 /// # Errors
 ///
@@ -149,7 +149,7 @@ fn without_leader(code: i16, index: i32) -> [u8; LEADERLESS_BYTES]
     bytes
 }
 
-/// Appends what is answered of a partition.
+/// Appends the answer for a partition.
 ///
 /// # Errors
 ///

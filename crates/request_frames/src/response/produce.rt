@@ -15,7 +15,7 @@ pub const PRODUCED_PARTITION_BYTES: usize = 22;
 /// The number of bytes after the topics.
 pub const PRODUCE_TAIL_BYTES: usize = 4;
 
-/// What is answered of a partition.
+/// The answer for a partition.
 #[derive(Clone, Copy)]
 pub struct ProducedPartition {
     /// The partition's index.
@@ -58,7 +58,7 @@ fn partition_bytes(partition: ProducedPartition) -> [u8; PRODUCED_PARTITION_BYTE
     bytes
 }
 
-/// Appends what is answered of a partition.
+/// Appends the answer for a partition.
 ///
 /// # Errors
 ///
