@@ -5,7 +5,7 @@ ghost use Rattle.std.specs.Prelude.{◌≡◌, ◌≤◌, ◌+◌, ◌++◌, IsO
 ghost use Rattle.std.specs.Vec.{vec_len, vec_capacity};
 ghost use Rattle.request_frames.specs.Responses.{produce_head, produced_bytes, produce_tail};
 
-use crate::response::{COUNT_BYTES, MAX_COUNT};
+use crate::response::COUNT_BYTES;
 use byteorder::{BigEndian, ByteOrder};
 use std::alloc::{AllocError, Allocator};
 
@@ -36,7 +36,6 @@ pub fn begin_produce<A: Allocator + Copy>(
     out: &mut Vec<u8, A>,
     topic_count: u32,
 ) -> Result<(), AllocError>
-    requires { topic_count ≤ MAX_COUNT }
     ensures appends { OnOk result (out.new.items ≡ out.old.items ++ produce_head topic_count) }
     ensures unchanged_on_error { OnErr result (out.new.items ≡ out.old.items) }
     ensures len { OnOk result (vec_len out.new ≡ vec_len out.old + COUNT_BYTES) }
