@@ -78,6 +78,13 @@ list_offsets_request correlation time = record {
   body = list_offsets (one_topic topic_t (record { partition = pos 0; time = time }));
 }
 
+-- the frame of such a request: correlation id 7, a null client id, time -1
+abbrev pub list_offsets_frame : List ℕ
+list_offsets_frame =
+    0 ∷ 2 ∷ 0 ∷ 1 ∷ 0 ∷ 0 ∷ 0 ∷ 7 ∷ 255 ∷ 255 ∷ 255 ∷ 255 ∷ 255 ∷ 255
+    ∷ 0 ∷ 0 ∷ 0 ∷ 1 ∷ 0 ∷ 1 ∷ 116 ∷ 0 ∷ 0 ∷ 0 ∷ 1 ∷ 0 ∷ 0 ∷ 0 ∷ 0
+    ∷ 255 ∷ 255 ∷ 255 ∷ 255 ∷ 255 ∷ 255 ∷ 255 ∷ 255 ∷ []
+
 abbrev pub metadata_request : (correlation : ℤ) → Option (List (List ℕ)) → RequestValue
 metadata_request correlation names = record { correlation = correlation; body = metadata names }
 

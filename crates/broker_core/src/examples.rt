@@ -6,13 +6,15 @@ ghost use Rattle.std.specs.Prelude.{◌≡◌, pos, negsuc, false, [], ◌∷◌
 ghost use Rattle.batch_codec.specs.Grammar.{batch_encoding};
 ghost use Rattle.content.specs.Content.{empty, add, end};
 ghost use Rattle.content.specs.Examples.{batch_0, batch_1, batch_3, copy_of_four};
+ghost use Rattle.request_frames.specs.declared.error.FrameError.TheVariants as frame;
 ghost use Rattle.broker_core.specs.declared.error.ConfigError.TheVariants as config;
 ghost use Rattle.broker_core.specs.Configs.{config_fault};
 ghost use Rattle.broker_core.specs.State.{group_topic, content_at};
 ghost use Rattle.broker_core.specs.Entries.{produced, fetched, listed};
 ghost use Rattle.broker_core.specs.Listing.{listed_topics};
 ghost use Rattle.broker_core.specs.Replies.{reply};
-ghost use Rattle.broker_core.specs.Examples.{topic_t, topic, config_with, leader, follower, with_acks, transactional, produced_at, produce_request, produce_twice, list_offsets_request, metadata_request, good, without_key, bad_producer, numbered_batch, produced_four, cleaned_leader, fetched_from, listed_for};
+ghost use Rattle.broker_core.specs.Streams.{sent, IsAnswered, RefusesNext};
+ghost use Rattle.broker_core.specs.Examples.{topic_t, topic, config_with, leader, follower, with_acks, transactional, produced_at, produce_request, produce_twice, list_offsets_request, list_offsets_frame, metadata_request, good, without_key, bad_producer, numbered_batch, produced_four, cleaned_leader, fetched_from, listed_for};
 
 /// Configurations and their first faults.
 pub fn configurations()
@@ -40,6 +42,19 @@ pub fn an_empty_partition()
           ∷ 0 ∷ 0 ∷ 0 ∷ 0 ∷ 0 ∷ 0 ∷ 0 ∷ 0 ∷ []),
       leader,
     ) }
+{}
+
+/// A frame that is a request, and what is sent for it.
+pub fn an_answered_frame()
+    ensures size { length list_offsets_frame ≡ 37 }
+    ensures answered { IsAnswered leader list_offsets_frame
+        (sent (reply leader (list_offsets_request (pos 7) (negsuc 0))).0) leader }
+{}
+
+/// Sizes that are refused as soon as they are there.
+pub fn refused_sizes()
+    ensures negative { RefusesNext frame.NegativeSize (255 ∷ 255 ∷ 255 ∷ 255 ∷ []) }
+    ensures above_the_limit { RefusesNext frame.TooLarge (0 ∷ 128 ∷ 0 ∷ 1 ∷ []) }
 {}
 
 /// The first batch of a partition.
