@@ -1,8 +1,9 @@
 -- One partition's content changes, and no other.
-use Rattle.std.proofs.Common.{◌≡◌, ◌≢◌, ℕ, zero, suc, ℤ, pos, negsuc, Bool, true, false, cond, List, [], ◌∷◌, Option, Some, None, set, refl, sym, ap, subst, arith}
+use Rattle.std.proofs.Common.{◌≡◌, ◌≢◌, ℕ, zero, suc, ℤ, pos, negsuc, Bool, true, false, cond, List, [], ◌∷◌, Option, Some, None, set, refl, sym, ap, subst, ◌∙◌, arith}
 use Rattle.std.specs.Prelude.{is_some, slice_get, bytes_eq}
 use Rattle.std.specs.List.{find}
 use Rattle.std.specs.Option.{option_and_then}
+use Rattle.std.proofs.lemmas.Slice.Eq.{bytes_eq-Decides}
 use Rattle.content.specs.Content.{Content}
 use Rattle.broker_core.specs.State.{Topic, State, partition_of, partition_at, is_known, with_partition, with_partition_of, with_content}
 
@@ -15,6 +16,10 @@ set_past : {X : Type 0} (xs : List X) (n : ℕ) (x : X) → is_some (slice_get x
 set_past [] n x unknown = refl
 set_past (y ∷ ys) zero x unknown = absurd (grind (arith, unknown))
 set_past (y ∷ ys) (suc n) x unknown = ap (λ zs. y ∷ zs) (set_past ys n x unknown)
+
+not_true : (b : Bool) → ¬ (b ≡ true) → b ≡ false
+not_true true no_one = absurd (no_one refl)
+not_true false no_one = refl
 
 abbrev at : List ℕ → ℤ → List Topic → Option Content
 at name p ts = option_and_then (partition_of p) (find (λ t. bytes_eq t.name name) ts)
@@ -78,20 +83,40 @@ same_name : (p : ℤ) (c : Content) (t : Topic) → (with_partition p c t).name 
 same_name (pos n) c t = refl
 same_name (negsuc n) c t = refl
 
+other_in : (t : Topic) (q p : ℤ) (c : Content) (others : Option Topic) → q ≢ p → (b d : Bool) → b ≡ d → if_named b q (with_partition p c t) others ≡ if_named d q t others
+other_in t q p c others other true true e = other_partition q p c t other
+other_in t q p c others other false false e = refl
+other_in t q p c others other true false e = absurd (grind (arith, e))
+other_in t q p c others other false true e = absurd (grind (arith, e))
+
+behind : (d : Bool) (q : ℤ) (t : Topic) (new old : Option Topic) → option_and_then (partition_of q) new ≡ option_and_then (partition_of q) old → if_named d q t new ≡ if_named d q t old
+behind true q t new old rest = refl
+behind false q t new old rest = rest
+
+abbrev named_as : List ℕ → List Topic → Option Topic
+named_as name ts = find (λ t. bytes_eq t.name name) ts
+
+named_same : (p : ℤ) (c : Content) (t : Topic) (name' : List ℕ) → bytes_eq (with_partition p c t).name name' ≡ bytes_eq t.name name'
+named_same p c t name' = ap (λ x. bytes_eq x name') (same_name p c t)
+
 pub other_index : (ts : List Topic) (name name' : List ℕ) (q p : ℤ) (c : Content) → q ≢ p → at name' q (with_partition_of name p c ts) ≡ at name' q ts
 other_index [] name name' q p c other = refl
-other_index (t ∷ ts) name name' q p c other = by (bytes_eq t.name name) (bytes_eq (with_partition p c t).name name') (bytes_eq t.name name') (ap (λ x. bytes_eq x name') (same_name p c t)) refl refl (other_index ts name name' q p c other)
+other_index (t ∷ ts) name name' q p c other = by (bytes_eq t.name name) (other_index ts name name' q p c other)
   where
-    named : (b d : Bool) → b ≡ d → if_named b q (with_partition p c t) (find (λ t. bytes_eq t.name name') ts) ≡ if_named d q t (find (λ t. bytes_eq t.name name') ts)
-    named true true e = other_partition q p c t other
-    named false false e = refl
-    named true false e = absurd (grind (arith, e))
-    named false true e = absurd (grind (arith, e))
+    by : (b : Bool) → at name' q (with_partition_of name p c ts) ≡ at name' q ts → at name' q (cond b (with_partition p c t ∷ ts) (t ∷ with_partition_of name p c ts)) ≡ at name' q (t ∷ ts)
+    by true rest = other_in t q p c (named_as name' ts) other (bytes_eq (with_partition p c t).name name') (bytes_eq t.name name') (named_same p c t name')
+    by false rest = behind (bytes_eq t.name name') q t (named_as name' (with_partition_of name p c ts)) (named_as name' ts) rest
 
-    unnamed : (d : Bool) → at name' q (with_partition_of name p c ts) ≡ at name' q ts → if_named d q t (find (λ t. bytes_eq t.name name') (with_partition_of name p c ts)) ≡ if_named d q t (find (λ t. bytes_eq t.name name') ts)
-    unnamed true rest = refl
-    unnamed false rest = rest
+-- a name is one of two names at most
+one_name : (x name name' : List ℕ) → name' ≢ name → bytes_eq x name ≡ true → bytes_eq x name' ≡ false
+one_name x name name' other e = not_true (bytes_eq x name') (λ e'. other (sym ((bytes_eq-Decides x name').0 e') ∙ (bytes_eq-Decides x name).0 e))
 
-    by : (b u d : Bool) → u ≡ d → u ≡ bytes_eq (with_partition p c t).name name' → d ≡ bytes_eq t.name name' → at name' q (with_partition_of name p c ts) ≡ at name' q ts → at name' q (cond b (with_partition p c t ∷ ts) (t ∷ with_partition_of name p c ts)) ≡ at name' q (t ∷ ts)
-    by true u d e eu ed rest = named (bytes_eq (with_partition p c t).name name') (bytes_eq t.name name') (ap (λ x. bytes_eq x name') (same_name p c t))
-    by false u d e eu ed rest = unnamed (bytes_eq t.name name') rest
+pub other_name : (ts : List Topic) (name name' : List ℕ) (q p : ℤ) (c : Content) → name' ≢ name → at name' q (with_partition_of name p c ts) ≡ at name' q ts
+other_name [] name name' q p c other = refl
+other_name (t ∷ ts) name name' q p c other = by (bytes_eq t.name name) refl (other_name ts name name' q p c other)
+  where
+    by : (b : Bool) → bytes_eq t.name name ≡ b → at name' q (with_partition_of name p c ts) ≡ at name' q ts → at name' q (cond b (with_partition p c t ∷ ts) (t ∷ with_partition_of name p c ts)) ≡ at name' q (t ∷ ts)
+    by true e rest =
+        let not_it = one_name t.name name name' other e in
+        ap (λ d. if_named d q (with_partition p c t) (named_as name' ts)) (named_same p c t name' ∙ not_it) ∙ sym (ap (λ d. if_named d q t (named_as name' ts)) not_it)
+    by false e rest = behind (bytes_eq t.name name') q t (named_as name' (with_partition_of name p c ts)) (named_as name' ts) rest

@@ -13,6 +13,7 @@ use Rattle.broker_core.specs.declared.config.Role.TheVariants.{Leader, Follower}
 use Rattle.broker_core.specs.State.{TopicConfig, ConfigValue, State, new_state, with_content}
 use Rattle.broker_core.specs.Work.{answer}
 use Rattle.broker_core.specs.Entries.{produce_work, first_room, fetch_work, list_offsets_work}
+use Rattle.broker_core.specs.Plans.{over_topics}
 use Rattle.broker_core.specs.Replies.{reply}
 
 -- ---- configurations
@@ -78,6 +79,13 @@ list_offsets_request correlation time = record {
   body = list_offsets (one_topic topic_t (record { partition = pos 0; time = time }));
 }
 
+-- the frame of such a request: correlation id 7, a null client id, time -1
+abbrev pub list_offsets_frame : List ℕ
+list_offsets_frame =
+    0 ∷ 2 ∷ 0 ∷ 1 ∷ 0 ∷ 0 ∷ 0 ∷ 7 ∷ 255 ∷ 255 ∷ 255 ∷ 255 ∷ 255 ∷ 255
+    ∷ 0 ∷ 0 ∷ 0 ∷ 1 ∷ 0 ∷ 1 ∷ 116 ∷ 0 ∷ 0 ∷ 0 ∷ 1 ∷ 0 ∷ 0 ∷ 0 ∷ 0
+    ∷ 255 ∷ 255 ∷ 255 ∷ 255 ∷ 255 ∷ 255 ∷ 255 ∷ 255 ∷ []
+
 abbrev pub metadata_request : (correlation : ℤ) → Option (List (List ℕ)) → RequestValue
 metadata_request correlation names = record { correlation = correlation; body = metadata names }
 
@@ -119,6 +127,13 @@ abbrev pub fetched_from : State → (offset max_bytes : ℤ) → Fetched
 fetched_from s offset max_bytes =
     let e : FetchPartitionValue = record { partition = pos 0; offset = offset; max_bytes = pos 1048576 } in
     (answer (fetch_work s (first_room max_bytes) topic_t e) (first_room max_bytes)).0
+
+-- what is answered to two such fetches in one request
+abbrev pub fetched_twice : State → (offset max_bytes : ℤ) → List (TopicOf Fetched)
+fetched_twice s offset max_bytes =
+    let e : FetchPartitionValue = record { partition = pos 0; offset = offset; max_bytes = pos 1048576 } in
+    (over_topics (λ room name e. answer (fetch_work s room name e) room) (first_room max_bytes)
+    (record { name = topic_t; entries = e ∷ e ∷ [] } ∷ [])).0
 
 -- what is answered to a time
 abbrev pub listed_for : State → (partition time : ℤ) → ListedPartition

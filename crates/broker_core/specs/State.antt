@@ -1,6 +1,6 @@
 -- What a broker holds: its configuration, and the content of each partition. Kafka's design documentation, "Replication"
--- (a partition has one leader, and followers that copy it), and the configuration "offsets.topic" (committed offsets are
--- kept in a topic of the broker's own). That this topic has one partition is this project's own.
+-- (a partition has one leader, and followers that copy it), and the broker setting "offsets.topic.num.partitions"
+-- (committed offsets are kept in a topic of the broker's own). That this topic has one partition is this project's own.
 use Rattle.std.specs.Prelude.{ℕ, ℤ, pos, negsuc, Bool, is_some, List, [], ◌∷◌, ◌++◌, map, replicate, set, slice_get, codes, bytes_eq, Option, None, if◌then◌else◌}
 use Rattle.std.specs.List.{find}
 use Rattle.std.specs.Option.{unwrap_or, option_and_then}

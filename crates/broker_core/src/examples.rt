@@ -6,13 +6,16 @@ ghost use Rattle.std.specs.Prelude.{◌≡◌, pos, negsuc, false, [], ◌∷◌
 ghost use Rattle.batch_codec.specs.Grammar.{batch_encoding};
 ghost use Rattle.content.specs.Content.{empty, add, end};
 ghost use Rattle.content.specs.Examples.{batch_0, batch_1, batch_3, copy_of_four};
+ghost use Rattle.request_frames.specs.declared.error.FrameError.TheVariants as frame;
 ghost use Rattle.broker_core.specs.declared.error.ConfigError.TheVariants as config;
 ghost use Rattle.broker_core.specs.Configs.{config_fault};
 ghost use Rattle.broker_core.specs.State.{group_topic, content_at};
-ghost use Rattle.broker_core.specs.Entries.{produced, fetched, listed};
+ghost use Rattle.broker_core.specs.Work.{IsOutOfMemory};
+ghost use Rattle.broker_core.specs.Entries.{produce_work, produced, fetched, list_offsets_work, listed};
 ghost use Rattle.broker_core.specs.Listing.{listed_topics};
 ghost use Rattle.broker_core.specs.Replies.{reply};
-ghost use Rattle.broker_core.specs.Examples.{topic_t, topic, config_with, leader, follower, with_acks, transactional, produced_at, produce_request, produce_twice, list_offsets_request, metadata_request, good, without_key, bad_producer, numbered_batch, produced_four, cleaned_leader, fetched_from, listed_for};
+ghost use Rattle.broker_core.specs.Streams.{sent, IsAnswered, RefusesNext};
+ghost use Rattle.broker_core.specs.Examples.{topic_t, topic, config_with, leader, follower, with_acks, transactional, produced_at, produce_request, produce_twice, list_offsets_request, list_offsets_frame, metadata_request, good, without_key, bad_producer, numbered_batch, produced_four, cleaned_leader, fetched_from, fetched_twice, listed_for, records_to};
 
 /// Configurations and their first faults.
 pub fn configurations()
@@ -40,6 +43,19 @@ pub fn an_empty_partition()
           ∷ 0 ∷ 0 ∷ 0 ∷ 0 ∷ 0 ∷ 0 ∷ 0 ∷ 0 ∷ []),
       leader,
     ) }
+{}
+
+/// A frame that is a request, and what is sent for it.
+pub fn an_answered_frame()
+    ensures size { length list_offsets_frame ≡ 37 }
+    ensures answered { IsAnswered leader list_offsets_frame
+        (sent (reply leader (list_offsets_request (pos 7) (negsuc 0))).0) leader }
+{}
+
+/// Sizes that are refused as soon as they are there.
+pub fn refused_sizes()
+    ensures negative { RefusesNext frame.NegativeSize (255 ∷ 255 ∷ 255 ∷ 255 ∷ []) }
+    ensures above_the_limit { RefusesNext frame.TooLarge (0 ∷ 128 ∷ 0 ∷ 1 ∷ []) }
 {}
 
 /// The first batch of a partition.
@@ -121,6 +137,27 @@ pub fn fetches()
     ensures both_fit { fetched_from cleaned_leader (pos 0) (pos 140)
         ≡ fetched (pos 0) (pos 0) (pos 4) (batch_1 ∷ batch_3 ∷ []) }
     ensures size { length (batch_encoding batch_1) ≡ 70 }
+{}
+
+/// Two entries of one request share its room for records: the second is not forced.
+pub fn a_shared_room()
+    ensures first_takes_70_of_100 { fetched_twice cleaned_leader (pos 0) (pos 100)
+        ≡ record {
+          name = topic_t;
+          entries = fetched (pos 0) (pos 0) (pos 4) (batch_1 ∷ [])
+              ∷ fetched (pos 0) (pos 0) (pos 4) [] ∷ [];
+        } ∷ [] }
+{}
+
+/// Memory may lack for a new batch, and not where an earlier check fails.
+pub fn out_of_memory()
+    ensures for_a_new_batch { IsOutOfMemory (produce_work leader (with_acks (pos 1)) topic_t (records_to (pos 0) good))
+        leader (produced (pos 0) (pos 56) (negsuc 0)) leader }
+    ensures not_for_an_unknown_partition { ¬ IsOutOfMemory (produce_work leader (with_acks (pos 1)) topic_t (records_to (pos 1) good))
+        leader (produced (pos 1) (pos 56) (negsuc 0)) leader }
+    ensures never_for_a_look_up { ¬ IsOutOfMemory
+        (list_offsets_work leader topic_t (record { partition = pos 0; time = negsuc 0 }))
+        leader (listed (pos 0) (pos 56) (negsuc 0, negsuc 0)) leader }
 {}
 
 /// The end, the start, and the first record of a time.

@@ -32,6 +32,8 @@ pub fn one_content_changes()
         → is_known s name p ≡ false → with_content s name p c ≡ s }
     ensures other_index { (s : State) (name other : List ℕ) (p q : ℤ) (c : Content)
         → q ≢ p → partition_at (with_content s name p c) other q ≡ partition_at s other q }
+    ensures other_name { (s : State) (name other : List ℕ) (p q : ℤ) (c : Content)
+        → other ≢ name → partition_at (with_content s name p c) other q ≡ partition_at s other q }
 {}
 
 /// The tests by which a reply judges a batch find the fault for which a leader's log refuses it, and

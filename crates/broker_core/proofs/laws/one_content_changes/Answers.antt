@@ -1,5 +1,5 @@
 use Rattle.std.proofs.Common.{refl}
-use Rattle.broker_core.proofs.OneContent.{with_same, with_unknown, other_index}
+use Rattle.broker_core.proofs.OneContent.{with_same, with_unknown, other_index, other_name}
 use Rattle.broker_core.proofs.laws.one_content_changes.Goals as goal
 
 pub returns-clause-same : goal.returns-clause-same
@@ -13,3 +13,6 @@ returns-clause-unknown c = with_unknown
 
 pub returns-clause-other_index : goal.returns-clause-other_index
 returns-clause-other_index c = λ s name other p q content differs. other_index s.topics name other q p content differs
+
+pub returns-clause-other_name : goal.returns-clause-other_name
+returns-clause-other_name c = λ s name other p q content differs. other_name s.topics name other q p content differs
