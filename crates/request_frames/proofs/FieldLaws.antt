@@ -1,5 +1,5 @@
 -- Reading fields finds exactly their encoding, or their first fault.
-use Rattle.std.proofs.Common.{◌≡◌, ℕ, List, [], ◌++◌, Ok, Err, refl, sym, ap, ◌∙◌, ◌⊎◌, inl, inr}
+use Rattle.std.proofs.Common.{◌≡◌, ℕ, List, [], Ok, Err, refl, sym, ap, ◌∙◌, ◌⊎◌, inl, inr}
 use Rattle.request_frames.specs.declared.error.FieldFault.{FieldFault}
 use Rattle.request_frames.specs.Fields.{Fields, end, one, array, array_or_null, Value, encoded, Fits, Breaks, Encodes}
 use Rattle.request_frames.specs.Reading.{At, read_fields, nothing}
@@ -50,17 +50,17 @@ read_or_fault d bytes h = by (read_fields d bytes) refl
     by (Ok x) is = inl (x.0, x.1, read_encodes d x.0 bytes x.1 h is)
     by (Err e) is = inr (e, read_breaks d e bytes h is)
 
--- Fields have one encoding for a value, and none begins another.
-pub one_encoding : (d : Fields) (v w : Value d) (rest more : List ℕ) → Fits d v → Fits d w → encoded d v ++ rest ≡ encoded d w ++ more → (v ≡ w) × (rest ≡ more)
-one_encoding d v w rest more fits fits' same =
-    done_is v w rest more (sym ((reads d).again v rest fits) ∙ ap (read_fields d) same ∙ (reads d).again w more fits')
-
-pub never_both : (d : Fields) (v : Value d) (rest : List ℕ) (e : FieldFault) → Fits d v → Breaks d e (encoded d v ++ rest) → ⊥
-never_both d v rest e fits broken =
-    let clash = sym ((reads d).again v rest fits) ∙ (reads d).broken e (encoded d v ++ rest) broken in
-    absurd cc
+-- Bytes begin with one encoding of the fields at most.
+pub one_value : (d : Fields) (v w : Value d) (bytes rest more : List ℕ) → Encodes d v bytes rest → Encodes d w bytes more → (v ≡ w) × (rest ≡ more)
+one_value d v w bytes rest more h k =
+    done_is v w rest more (sym (encodes_read d v bytes rest h) ∙ encodes_read d w bytes more k)
 
 pub one_fault : (d : Fields) (e f : FieldFault) (bytes : List ℕ) → Breaks d e bytes → Breaks d f bytes → e ≡ f
 one_fault d e f bytes broken broken' =
     let same = sym ((reads d).broken e bytes broken) ∙ (reads d).broken f bytes broken' in
     cc
+
+pub never_both : (d : Fields) (v : Value d) (bytes rest : List ℕ) (e : FieldFault) → Encodes d v bytes rest → Breaks d e bytes → ⊥
+never_both d v bytes rest e h broken =
+    let clash = sym (encodes_read d v bytes rest h) ∙ breaks_read d e bytes broken in
+    absurd cc

@@ -1,27 +1,25 @@
 -- Frames behind their sizes: what is cut from the front of bytes, and that there is one way to cut them.
-use Rattle.std.proofs.Common.{◌≡◌, ◌⊎◌, inl, inr, ℕ, zero, suc, ◌+◌, ◌^◌, ◌<◌, ◌≤◌, List, [], ◌∷◌, ◌++◌, length, take, drop, get_or, refl, sym, ap, subst, ◌∙◌, append_assoc, arith}
+use Rattle.std.proofs.Common.{◌≡◌, ◌⊎◌, inl, inr, ℕ, zero, suc, ◌+◌, ◌<◌, ◌≤◌, List, [], ◌∷◌, ◌++◌, length, take, drop, get_or, refl, sym, ap, subst, ◌∙◌, append_assoc, arith}
 use Rattle.std.specs.Prelude.{nat_abs, ℤ, pos, negsuc, ◌+ℤ◌, ◌<ℤ◌, ◌≤ℤ◌}
-use Rattle.std.specs.Int.{w8, w32, to_be_bytes, from_be_bytes, cast_signed, cast_unsigned}
-use Rattle.std.proofs.lemmas.List.{take_at, drop_at, take-append-drop, take-take, length-append, length-take, length-drop, get_or-drop, get_or-take, get_or_past}
+use Rattle.std.specs.Int.{w8, w32}
+use Rattle.std.proofs.lemmas.List.{take_at, drop_at, take-append-drop, drop-append-le, length-append, length-take, length-drop}
 use Rattle.std.proofs.lemmas.Bool.{cases_lt}
-use Rattle.std.proofs.lemmas.Nat.{be_bytes_4, from_be_bytes-to_be_bytes_4}
-use Rattle.std.proofs.lemmas.Int.{ints, to_z_pos, of_z-to_z, to_z-of_z}
+use Rattle.std.proofs.lemmas.Int.{ints, to_z-of_z}
 use mir.Val.{Fits, SFits, to_z, of_z}
 use Rattle.request_frames.specs.declared.frame.TheConstants.{MAX_FRAME}
 use Rattle.request_frames.specs.declared.error.FrameError.{FrameError}
 use Rattle.request_frames.specs.declared.error.FrameError.TheVariants.{NegativeSize, TooLarge, ShortHeader, UnknownApi, BadVersion, ShortBody, Malformed, TrailingBytes, OutOfMemory}
 use Rattle.request_frames.specs.Fields.{size32, be}
 use Rattle.request_frames.specs.Frames.{framed, stream, frame_size, IsWithinLimit, IsIncomplete, SizeFault, IsFrames, HasNoFrame, IsFirstFrame, IsBytes}
+use Rattle.request_frames.proofs.Numbers.{IsBytes-drop, number_again, number_back}
 
 -- ---- what a first frame says of the bytes
 
 -- a frame behind its size begins with the number of its bytes
 size_again : (frame rest : List ℕ) → IsWithinLimit (pos (length frame)) → frame_size (framed frame ++ rest) ≡ pos (length frame)
 size_again frame rest within =
-    let n = length frame in
-    let small : n < 2 ^ 31 = omega (arith, ints) in
-    let back : from_be_bytes w32 (to_be_bytes w32 n) ≡ n = from_be_bytes-to_be_bytes_4 n (omega arith) in
-    ap (cast_signed w32) back ∙ to_z_pos w32 n small
+    let size = pos (length frame) in
+    ap frame_size (append_assoc (be size32 size) frame rest) ∙ number_again size32 size (frame ++ rest) (record { sfits = omega (arith, ints) })
 
 first_size_is : (frame bytes rest : List ℕ) → IsFirstFrame frame bytes rest → frame_size bytes ≡ pos (length frame)
 first_size_is frame bytes rest first = ap frame_size first.parts ∙ size_again frame rest first.within
@@ -124,34 +122,18 @@ one_cutting bytes rest other_rest (f ∷ fs) (g ∷ gs) cut none other_cut other
 
 -- ---- some way to cut
 
-take_fits : (n : ℕ) (bytes : List ℕ) → IsBytes bytes → IsBytes (take n bytes)
-take_fits n bytes fits i =
-    elim (cases_lt i n) [
-      | inl lt ↦ rw (get_or-take n bytes i 0 lt) (fits i)
-      | inr le ↦ rw (get_or_past (take n bytes) i 0 (omega (arith, length-take n bytes))) (omega arith)
-    ]
-
-drop_fits : (n : ℕ) (bytes : List ℕ) → IsBytes bytes → IsBytes (drop n bytes)
-drop_fits n bytes fits i = rw get_or-drop (fits (n + i))
-
-below_32 : (field : List ℕ) → IsBytes field → from_be_bytes w32 field < 2 ^ 32
-below_32 field fits = omega (arith, fits 0, fits 1, fits 2, fits 3)
-
 -- bytes that are long enough for the size that they begin with begin with a frame
 frame_back : (bytes : List ℕ) (n : ℕ) → IsBytes bytes → 4 + n ≤ length bytes → frame_size bytes ≡ pos n → IsWithinLimit (pos n) → IsFirstFrame (drop 4 (take (4 + n) bytes)) bytes (drop (4 + n) bytes)
 frame_back bytes n fits long size within =
-    let m = from_be_bytes w32 (take 4 bytes) in
-    let field = take 4 bytes in
     let whole = take (4 + n) bytes in
     let frame = drop 4 whole in
-    let field_fits : (i : ℕ) → get_or field i 0 < 256 = take_fits 4 bytes fits in
-    let m_is : m ≡ n = sym (of_z-to_z w32 m (below_32 field field_fits)) ∙ ap (cast_unsigned w32) size in
+    let rest = drop (4 + n) bytes in
     let len : length frame ≡ n = omega (arith, length-drop 4 whole, length-take (4 + n) bytes) in
-    let encoding : to_be_bytes w32 n ≡ field = be_bytes_4 field n (omega (arith, length-take 4 bytes)) field_fits (sym m_is) in
-    let front : to_be_bytes w32 n ++ frame ≡ whole = ap (λ (x : List ℕ). x ++ frame) (encoding ∙ sym (take-take 4 (4 + n) bytes (omega arith))) ∙ take-append-drop 4 whole in
-    let framed_is : framed frame ≡ whole = ap (λ (k : ℕ). to_be_bytes w32 k ++ frame) len ∙ front in
+    let enough : 4 ≤ length whole = omega (arith, length-take (4 + n) bytes) in
+    let number : be size32 (frame_size bytes) ≡ be size32 (pos (length frame)) = ap (be size32) (size ∙ ap (λ (k : ℕ). pos k) (sym len)) in
+    let behind : drop 4 bytes ≡ frame ++ rest = sym (ap (drop 4) (take-append-drop (4 + n) bytes)) ∙ drop-append-le 4 whole rest enough in
     record {
-      parts = sym (ap (λ (x : List ℕ). x ++ drop (4 + n) bytes) framed_is ∙ take-append-drop (4 + n) bytes);
+      parts = number_back size32 bytes fits (omega arith) ∙ (λ i. number i ++ behind i) ∙ sym (append_assoc (be size32 (pos (length frame))) frame rest);
       within = let P : ℕ → Type 0 = λ k. IsWithinLimit (pos k) in subst P (sym len) within;
     }
 
@@ -197,7 +179,7 @@ one_more frame bytes rest first frames last cut =
 
 rest_fits : (frame bytes rest : List ℕ) → IsBytes bytes → IsFirstFrame frame bytes rest → IsBytes rest
 rest_fits frame bytes rest fits first =
-    subst IsBytes (ap (drop (length (framed frame))) first.parts ∙ drop_at (framed frame) rest (length (framed frame)) refl) (drop_fits (length (framed frame)) bytes fits)
+    subst IsBytes (ap (drop (length (framed frame))) first.parts ∙ drop_at (framed frame) rest (length (framed frame)) refl) (IsBytes-drop (length (framed frame)) bytes fits)
 
 pub some_cutting : (n : ℕ) (bytes : List ℕ) → length bytes ≤ n → IsBytes bytes → (frames : List (List ℕ)) × (rest : List ℕ) × IsFrames bytes frames rest × HasNoFrame rest
 some_cutting zero bytes short fits = ([], bytes, record { parts = refl; within = tt }, inl (inl (omega arith)))

@@ -8,7 +8,7 @@ use Rattle.request_frames.specs.declared.error.FieldFault.TheVariants.{ShortBody
 use Rattle.request_frames.specs.Fields.{Size, width, be, number_at, IsCut, FitsLength}
 use Rattle.request_frames.specs.Reading.{◌>>=◌, At, map_read, read_number}
 use Rattle.request_frames.proofs.Numbers.{IsBytes, IsBytes-drop, size_of, null_fits, number_fits, number_back, number_cut, number_read, read_number_again}
-use Rattle.request_frames.proofs.ReaderLaws.{Reads, done_is, map_ok, map_err}
+use Rattle.request_frames.proofs.ReaderLaws.{Reads, done_is, map_read_ok, map_read_err}
 
 -- ---- a number, and what it announces
 
@@ -134,7 +134,7 @@ module _ {X : Type 0} (s : Size) (count : X → ℕ) (payload : X → List ℕ) 
 
   null_takes : (z : ℤ) (bytes : List ℕ) (o : Option X) (rest : List ℕ) → FitsSigned (width s) z → IsBytes bytes → body z bytes ≡ Ok (o, rest) → FitsOrNull fits o × (null_or count o ≡ z) × (bytes ≡ nothing_or payload o ++ rest)
   null_takes (pos n) bytes o rest f h e =
-      let m = map_ok Some (read n bytes) o rest (sym (b.counts n bytes) ∙ e) in
+      let m = map_read_ok Some (read n bytes) o rest (sym (b.counts n bytes) ∙ e) in
       let t = p.takes n bytes m.0 rest f h m.1 in
       subst (λ q. FitsOrNull fits q × (null_or count q ≡ pos n) × (bytes ≡ nothing_or payload q ++ rest)) m.2 (t.0, ap pos t.1, t.2)
   null_takes (negsuc zero) bytes o rest f h e =
@@ -149,7 +149,7 @@ module _ {X : Type 0} (s : Size) (count : X → ℕ) (payload : X → List ℕ) 
   null_broken z e bytes (inr h) = ap (λ (x : ℤ). body x bytes) h.1 ∙ b.counts h.0 bytes ∙ ap (map_read Some) (p.broken h.0 e bytes h.2)
 
   null_fault : (z : ℤ) (e : FieldFault) (bytes : List ℕ) → IsBytes bytes → body z bytes ≡ Err e → BreaksCount (negsuc 0) breaks z e bytes
-  null_fault (pos n) e bytes h k = inr (n, refl, p.fault n e bytes h (map_err Some (read n bytes) e (sym (b.counts n bytes) ∙ k)))
+  null_fault (pos n) e bytes h k = inr (n, refl, p.fault n e bytes h (map_read_err Some (read n bytes) e (sym (b.counts n bytes) ∙ k)))
   null_fault (negsuc zero) e bytes h k = let clash = sym k ∙ b.null bytes in absurd cc
   null_fault (negsuc (suc n)) e bytes h k = let same = sym k ∙ b.refuses n bytes in inl (omega (arith, ints), cc)
 

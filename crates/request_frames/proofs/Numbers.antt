@@ -1,5 +1,5 @@
 -- Numbers of a fixed width: what is read is what was written, and the other way round.
-use Rattle.std.proofs.Common.{◌≡◌, ℕ, suc, ◌+◌, ◌^◌, ◌<◌, ◌≤◌, ℤ, negsuc, List, [], ◌∷◌, ◌++◌, length, get_or, take, drop, Ok, Err, refl, sym, ap, ◌∙◌, arith, inl, inr}
+use Rattle.std.proofs.Common.{◌≡◌, ℕ, suc, ◌+◌, ◌^◌, ◌<◌, ◌≤◌, ℤ, negsuc, List, [], ◌∷◌, ◌++◌, length, take, drop, Ok, Err, refl, sym, ap, ◌∙◌, arith, inl, inr}
 use Rattle.std.specs.Prelude.{FitsSigned}
 use Rattle.std.specs.Int.{Width, w8, byte_len, from_be_bytes, to_be_bytes, cast_signed, cast_unsigned}
 use mir.Val.{bits}
@@ -10,11 +10,9 @@ use Rattle.std.proofs.lemmas.Nat.{be_bytes_2, be_bytes_4, be_bytes_8, from_be_by
 use Rattle.request_frames.specs.declared.error.FieldFault.TheVariants.{ShortBody}
 use Rattle.request_frames.specs.Fields.{Size, size8, size16, size32, size64, width, be, number_at, IsCut}
 use Rattle.request_frames.specs.Reading.{read_number}
+pub use Rattle.request_frames.specs.Frames.{IsBytes}
 
 -- ---- bytes
-
-abbrev pub IsBytes : List ℕ → Type 0
-IsBytes bytes = (i : ℕ) → get_or bytes i 0 < 256
 
 pub IsBytes-drop : (n : ℕ) (bytes : List ℕ) → IsBytes bytes → IsBytes (drop n bytes)
 IsBytes-drop n bytes h i = rw get_or-drop (h (n + i))

@@ -19,24 +19,24 @@ done_is {A = A} x y a b e =
     let p : here ≡ there = cc in
     (ap (λ q. q.0) p, ap (λ q. q.1) p)
 
-pub map_ok : {A B : Type 0} (f : A → B) (r : At A) (v : B) (rest : List ℕ) → map_read f r ≡ Ok (v, rest) → (u : A) × (r ≡ Ok (u, rest)) × (f u ≡ v)
-map_ok f (Ok x) v rest e =
+pub map_read_ok : {A B : Type 0} (f : A → B) (r : At A) (v : B) (rest : List ℕ) → map_read f r ≡ Ok (v, rest) → (u : A) × (r ≡ Ok (u, rest)) × (f u ≡ v)
+map_read_ok f (Ok x) v rest e =
     let p = done_is (f x.0) v x.1 rest e in
     (x.0, ap (λ (t : List ℕ). done x.0 t) p.1, p.0)
-map_ok f (Err e') v rest e = absurd cc
+map_read_ok f (Err e') v rest e = absurd cc
 
-pub map_err : {A B : Type 0} (f : A → B) (r : At A) (e : FieldFault) → map_read f r ≡ Err e → r ≡ Err e
-map_err f (Ok x) e h = absurd cc
-map_err f (Err e') e h = cc
+pub map_read_err : {A B : Type 0} (f : A → B) (r : At A) (e : FieldFault) → map_read f r ≡ Err e → r ≡ Err e
+map_read_err f (Ok x) e h = absurd cc
+map_read_err f (Err e') e h = cc
 
 then_ok : {A B : Type 0} (r : At A) (next : List ℕ → At B) (v : A × B) (rest : List ℕ) → then_read r next ≡ Ok (v, rest) → (tail : List ℕ) × (r ≡ Ok (v.0, tail)) × (next tail ≡ Ok (v.1, rest))
 then_ok (Ok x) next v rest e =
-    let m = map_ok (λ y. (x.0, y)) (next x.1) v rest e in
+    let m = map_read_ok (λ y. (x.0, y)) (next x.1) v rest e in
     (x.1, ap (λ q. done q.0 x.1) m.2, m.1 ∙ ap (λ q. done q.1 rest) m.2)
 then_ok (Err e') next v rest e = absurd cc
 
 then_err : {A B : Type 0} (r : At A) (next : List ℕ → At B) (e : FieldFault) → then_read r next ≡ Err e → (r ≡ Err e) ⊎ ((x : A) × (tail : List ℕ) × (r ≡ Ok (x, tail)) × (next tail ≡ Err e))
-then_err (Ok x) next e h = inr (x.0, x.1, refl, map_err (λ y. (x.0, y)) (next x.1) e h)
+then_err (Ok x) next e h = inr (x.0, x.1, refl, map_read_err (λ y. (x.0, y)) (next x.1) e h)
 then_err (Err e') next e h = inl cc
 
 then_done : {A B : Type 0} (r : At A) (next : List ℕ → At B) (x : A) (tail : List ℕ) (y : B) (rest : List ℕ) → r ≡ Ok (x, tail) → next tail ≡ Ok (y, rest) → then_read r next ≡ Ok ((x, y), rest)
@@ -135,7 +135,7 @@ module _ {X : Type 0} (enc : X → List ℕ) (fits : X → Type 0) (breaks : Fie
       let d = done_is [] xs bytes rest e in
       subst (λ (ys : List X). (length ys ≡ 0) × AllByRecursion fits ys × (bytes ≡ flat_map enc ys ++ rest)) d.0 (refl, tt, d.1)
   times_takes (suc n) bytes xs rest h e =
-      let m = map_ok front_of (then_read (read bytes) (read_times read n)) xs rest e in
+      let m = map_read_ok front_of (then_read (read bytes) (read_times read n)) xs rest e in
       let x = m.0.0 in
       let others = m.0.1 in
       let s = then_ok (read bytes) (read_times read n) m.0 rest m.1 in
@@ -158,7 +158,7 @@ module _ {X : Type 0} (enc : X → List ℕ) (fits : X → Type 0) (breaks : Fie
   unfolding read_times
   times_fault zero e bytes h k = absurd cc
   times_fault (suc n) e bytes h k =
-      elim (then_err (read bytes) (read_times read n) e (map_err front_of (then_read (read bytes) (read_times read n)) e k)) [
+      elim (then_err (read bytes) (read_times read n) e (map_read_err front_of (then_read (read bytes) (read_times read n)) e k)) [
         | inl first ↦ ([], bytes, tt, omega arith, refl, p.fault e bytes h first)
         | inr s ↦
             let x = s.0 in

@@ -1,11 +1,12 @@
--- The parts of a response, one behind the other, are its fields.
-use Rattle.std.proofs.Common.{◌≡◌, ℕ, List, [], ◌∷◌, ◌++◌, length, refl, sym, ap, ◌∙◌, append_assoc, append-nil}
-use Rattle.std.specs.Prelude.{ℤ, pos, map}
+-- The parts of a response, one after the other, are the encoding of its fields; and the limits of the fields.
+use Rattle.std.proofs.Common.{◌≡◌, ℕ, ◌≤◌, List, [], ◌∷◌, ◌++◌, length, refl, sym, ap, ◌∙◌, append_assoc, append-nil, arith}
+use Rattle.std.specs.Prelude.{ℤ, pos, map, ◌↔◌}
 use Rattle.std.specs.List.{flat_map}
 use Rattle.std.proofs.lemmas.List.{length-map}
+use Rattle.request_frames.specs.declared.response.TheConstants.{MAX_STRING_BYTES, MAX_COUNT, MAX_BODY_BYTES}
 use Rattle.request_frames.specs.declared.response.produce.ProducedPartition.{ProducedPartition}
 use Rattle.request_frames.specs.declared.response.list_offsets.ListedPartition.{ListedPartition}
-use Rattle.request_frames.specs.Fields.{size8, size16, size32, Fields, end, array, Value, be, elements, field, encoded}
+use Rattle.request_frames.specs.Fields.{size8, size16, size32, FitsLength, Fields, end, array, Value, be, elements, field, encoded}
 use Rattle.request_frames.specs.Types.{string, int32, bytes, flag, ◌⨾◌}
 use Rattle.request_frames.specs.Responses.{framed, response_head, TopicOf, topic_values, topic_bytes, produce_response, produce_value, produce_head, produced_fields, produced_value, produced_bytes, produce_tail, Fetched, fetched_fields, fetched_value, fetch_response, fetch_value, fetch_head, fetched_bytes, listed_fields, listed_value, list_offsets_response, list_offsets_value, list_offsets_head, listed_bytes, Broker, broker_fields, broker_value, TopicMetadata, metadata_partition_bytes, metadata_partition_value, metadata_partition_fields, metadata_topic_fields, metadata_topic_value, metadata_response, metadata_value, metadata_head, metadata_topic_bytes}
 
@@ -77,3 +78,16 @@ pub finished : (old new : List ℕ) (start : ℕ) → ((front size body : List �
 unfolding response_head
 finished old new start frames front fields correlation is at =
     frames front (be size32 (pos 0)) (be size32 correlation ++ fields) (is ∙ append_assoc front (response_head correlation) fields) at refl
+
+-- ---- the limits
+
+pub string_limit : (n : ℕ) → (n ≤ MAX_STRING_BYTES) ↔ FitsLength size16 n
+string_limit n = (λ small. record { sfits = omega (arith, small) }, λ fits. omega (arith, fits.sfits))
+
+pub count_limit : (n : ℕ) → (n ≤ MAX_COUNT) ↔ FitsLength size32 n
+count_limit n = (λ small. record { sfits = omega (arith, small) }, λ fits. omega (arith, fits.sfits))
+
+pub size_limit : (n : ℕ) → (n ≤ MAX_BODY_BYTES) ↔ FitsLength size32 n
+size_limit n = (λ small. record { sfits = omega (arith, small) }, λ fits. omega (arith, fits.sfits))
+
+pub ruleset limits = (string_limit, count_limit, size_limit)

@@ -15,6 +15,7 @@ use Rattle.request_frames.specs.Reading.{◌>>=◌, At, map_read, then_read, rea
 use Rattle.request_frames.specs.Requests.{BodyValue, fields_of, body_fields, body_value, body_of, correlation_of, IsOf, IsRequest, HasFault, IsRefused}
 use Rattle.request_frames.specs.Bodies.{read_body, read_request}
 use Rattle.request_frames.proofs.Numbers.{IsBytes, IsBytes-drop}
+use Rattle.request_frames.proofs.ReaderLaws.{map_read_ok, map_read_err}
 use Rattle.request_frames.proofs.FieldLaws.{read_encodes, read_breaks}
 
 -- ---- reading as the code goes, and by descriptions
@@ -39,30 +40,14 @@ request_is api bytes = behind_client api (read_field nullable_string bytes)
 
 -- ---- what the frame is
 
-abbrev okay : {A : Type 0} → A → Result A FieldFault
-okay x = Ok x
-
 abbrev faulty : {A : Type 0} → FieldFault → Result A FieldFault
 faulty e = Err e
-
-was_read : {A B : Type 0} (f : A → B) (r : At A) (y : B) (rest : List ℕ) → map_read f r ≡ Ok (y, rest) → (x : A) × (r ≡ Ok (x, rest)) × (y ≡ f x)
-was_read f (Ok x) y rest e =
-    let same : (f x.0, x.1) ≡ (y, rest) = pair_is _ _ e in
-    (x.0, ap (λ (t : List ℕ). Ok (x.0, t)) (ap (λ p. p.1) same), sym (ap (λ p. p.0) same))
-  where
-    pair_is : {C : Type 0} (p q : C) → okay p ≡ okay q → p ≡ q
-    pair_is p q h = cc
-was_read f (Err d) y rest e = absurd cc
-
-was_fault : {A B : Type 0} (f : A → B) (r : At A) (e : FieldFault) → map_read f r ≡ Err e → r ≡ Err e
-was_fault f (Ok x) e h = absurd cc
-was_fault f (Err d) e h = cc
 
 encodes_body : (api : Api) (bytes : List ℕ) (body : BodyValue) (rest : List ℕ) → IsBytes bytes → read_request api bytes ≡ Ok (body, rest)
     → (v : Value (body_fields api)) × Encodes (body_fields api) v bytes rest × (body ≡ body_value api v.1)
 encodes_body api bytes body rest fits read =
-    let w = was_read (λ v. body_value api v.1) (read_fields (body_fields api) bytes) body rest (sym (request_is api bytes) ∙ read) in
-    (w.0, read_encodes (body_fields api) w.0 bytes rest fits w.1, w.2)
+    let w = map_read_ok (λ v. body_value api v.1) (read_fields (body_fields api) bytes) body rest (sym (request_is api bytes) ∙ read) in
+    (w.0, read_encodes (body_fields api) w.0 bytes rest fits w.1, sym w.2)
 
 module _ (api : Api) (bytes : List ℕ) (fits : IsBytes bytes) (is : IsOf api bytes) (behind : List ℕ) (there : behind ≡ body_of bytes) where
   pub all_read : (body : BodyValue) (rest : List ℕ) → read_request api behind ≡ Ok (body, rest) → length rest ≡ 0
@@ -80,7 +65,7 @@ module _ (api : Api) (bytes : List ℕ) (fits : IsBytes bytes) (is : IsOf api by
   pub fault_found : (e f : FieldFault) → e ≡ f → read_request api behind ≡ Err e → HasFault f bytes
   fault_found e f same read =
       let fault : read_request api (body_of bytes) ≡ faulty f = ap (read_request api) (sym there) ∙ read ∙ ap faulty same in
-      let broken = was_fault (λ v. body_value api v.1) (read_fields (body_fields api) (body_of bytes)) f (sym (request_is api (body_of bytes)) ∙ fault) in
+      let broken = map_read_err (λ v. body_value api v.1) (read_fields (body_fields api) (body_of bytes)) f (sym (request_is api (body_of bytes)) ∙ fault) in
       (api, is, read_breaks (body_fields api) f (body_of bytes) (IsBytes-drop 8 bytes fits) broken)
 
 -- a number that was passed on, and the correlation id of the frame

@@ -73,7 +73,7 @@ fetched_fields last = int32 ⨾ int16 ⨾ int64 ⨾ int64 ⨾ array_or_null (int
 abbrev pub fetch_response : Fields
 fetch_response = int32 ⨾ topics_of (fetched_fields bytes) end
 
--- what is answered of a partition, and the records' bytes
+-- the answer for a partition, and the records' bytes
 pub record Fetched : Type 0 where
   pub partition : FetchedPartition
   pub records : List ℕ
@@ -153,7 +153,7 @@ pub record TopicMetadata : Type 0 where
 abbrev pub broker_value : (node_id : ℤ) (host : List ℕ) (port : ℕ) → Value broker_fields
 broker_value node_id host port = (node_id, (host, (pos port, (None, tt))))
 
--- a leader's number, -1 where there is none
+-- a leader's node id, -1 where there is none
 abbrev pub leader_id : Option ℤ → ℤ
 leader_id None = negsuc 0
 leader_id (Some node) = node

@@ -5,7 +5,7 @@ ghost use Rattle.request_frames.specs.Apis.{api_key, api_version, IsApi, IsNoApi
 
 use crate::error::FrameError;
 
-/// A request that is read, of one version.
+/// A kind of request that is read, in its one version.
 #[derive(Clone, Copy, Debug)]
 pub enum Api {
     /// Produce, version 3.

@@ -19,14 +19,18 @@ pub trait Element<'a>: Sized {
     ghost fields: { Fields };
 
     /// The fields' values, apart from where their bytes lie.
-    ghost said: { Self → Value fields };
+    ghost value: { Self → Value fields };
 
     /// The element at the front, and the bytes after it.
+    ///
+    /// # Errors
+    ///
+    /// The fault of the first field that has one.
     fn read(bytes: &'a [u8]) -> Result<(Self, &'a [u8]), FieldFault>
-        ensures { Gives (λ x. (said x.0, x.1.now)) result (read_fields fields bytes.now) };
+        ensures { Gives (λ x. (value x.0, x.1.now)) result (read_fields fields bytes.now) };
 }
 
-/// An array's elements, in order. An iterator, which borrows the frame's bytes.
+/// An iterator over an array's elements, in order. It borrows the frame's bytes.
 #[derive(Drop)]
 pub struct Array<'a, E> {
     left: u32,
@@ -58,7 +62,7 @@ impl<'a, E> Array<'a, E> {
 impl<'a, E: Element<'a>> Iterator for Array<'a, E> {
     type Item = E;
 
-    ghost next_gives = { YieldsFirstBy E.said (values E.fields) };
+    ghost next_gives = { YieldsFirstBy E.value (values E.fields) };
 
     ghost remaining = { item_count (values E.fields) };
 

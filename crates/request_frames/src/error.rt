@@ -37,7 +37,7 @@ pub enum FrameError {
     /// All fields are right, and bytes are left.
     #[error("TrailingBytes")]
     TrailingBytes,
-    /// The frame is right so far, and the allocation failed.
+    /// A complete frame is there, and the allocation failed.
     #[error("OutOfMemory")]
     OutOfMemory,
 }

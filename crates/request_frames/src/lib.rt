@@ -18,7 +18,7 @@ pub use api::Api;
 pub use array::{Array, Element};
 pub use error::{FieldFault, FrameError};
 pub use frame::{MAX_FRAME, take_frame};
-pub use laws::{frames_once, one_outcome};
+pub use laws::{fields_once, frames_once, one_outcome};
 pub use names::{MAX_TOPIC_NAME, is_topic_name};
 pub use parsing::{Request, RequestBody, parse};
 pub use requests::{

@@ -1,7 +1,7 @@
 //! What requests say, borrowed from their frames.
 
 ghost use Rattle.request_frames.specs.Reading.{Gives, map_read, read_fields, nothing};
-ghost use Rattle.request_frames.specs.Views.{produced, fetched, offsets_listed, names_asked};
+ghost use Rattle.request_frames.specs.Views.{produce_view, fetch_view, list_offsets_view, metadata_view};
 ghost use Rattle.request_frames.specs.Fields.{end};
 ghost use Rattle.request_frames.specs.Types.{string, topic, ◌⨾◌};
 ghost use Rattle.request_frames.specs.Arrays.{values};
@@ -15,7 +15,7 @@ use crate::fields::{int8, int16, int32, int64, nullable_bytes, nullable_string, 
 /// A topic of a request, with an entry for each of its partitions.
 #[derive(Drop)]
 pub struct Topic<'a, E> {
-    /// The name, as sent: nothing is known of it.
+    /// The name, as sent. It need not be the name of a topic.
     pub name: &'a [u8],
     /// The entries, in order.
     pub partitions: Array<'a, E>,
@@ -24,7 +24,7 @@ pub struct Topic<'a, E> {
 impl<'a, E: Element<'a> + Drop> Element<'a> for Topic<'a, E> {
     ghost fields = { topic E.fields };
 
-    ghost said = { λ t. (t.name.now, (values E.fields t.partitions, nothing)) };
+    ghost value = { λ t. (t.name.now, (values E.fields t.partitions, nothing)) };
 
     #[tactic(auto, unfolding(crate::specs::Reading::read_fields))]
     fn read(bytes: &'a [u8]) -> Result<(Self, &'a [u8]), FieldFault> {
@@ -37,7 +37,7 @@ impl<'a, E: Element<'a> + Drop> Element<'a> for Topic<'a, E> {
 /// What a Produce request asks of a partition.
 #[derive(Clone, Copy, Debug)]
 pub struct ProducePartition<'a> {
-    /// The partition's number.
+    /// The partition's index, as sent.
     pub index: i32,
     /// A record batch, as sent, or `None` where it is null.
     pub records: Option<&'a [u8]>,
@@ -46,7 +46,7 @@ pub struct ProducePartition<'a> {
 impl<'a> Element<'a> for ProducePartition<'a> {
     ghost fields = { produce_partition };
 
-    ghost said = { λ p. (p.index, (option_map (λ bytes. bytes.now) p.records, nothing)) };
+    ghost value = { λ p. (p.index, (option_map (λ bytes. bytes.now) p.records, nothing)) };
 
     #[tactic(auto, unfolding(crate::specs::Reading::read_fields))]
     fn read(bytes: &'a [u8]) -> Result<(Self, &'a [u8]), FieldFault> {
@@ -59,18 +59,18 @@ impl<'a> Element<'a> for ProducePartition<'a> {
 /// What a Fetch request asks of a partition.
 #[derive(Clone, Copy, Debug)]
 pub struct FetchPartition {
-    /// The partition's number.
+    /// The partition's index, as sent.
     pub partition: i32,
     /// The first offset that is wanted.
     pub offset: i64,
-    /// The most bytes of records that are wanted; below 0 as 0.
+    /// The most bytes of records that are wanted. A negative number counts as 0.
     pub max_bytes: i32,
 }
 
 impl<'a> Element<'a> for FetchPartition {
     ghost fields = { fetch_partition };
 
-    ghost said = { λ p. (p.partition, (p.offset, (p.max_bytes, nothing))) };
+    ghost value = { λ p. (p.partition, (p.offset, (p.max_bytes, nothing))) };
 
     #[tactic(auto, unfolding(crate::specs::Reading::read_fields))]
     fn read(bytes: &'a [u8]) -> Result<(Self, &'a [u8]), FieldFault> {
@@ -89,16 +89,17 @@ impl<'a> Element<'a> for FetchPartition {
 /// What a ListOffsets request asks of a partition.
 #[derive(Clone, Copy, Debug)]
 pub struct ListOffsetsPartition {
-    /// The partition's number.
+    /// The partition's index, as sent.
     pub partition: i32,
-    /// A time in milliseconds, -1 for the log's end, or -2 for its start.
+    /// A time in milliseconds, -1 for the log's end, or -2 for its start. Any number may
+    /// have been sent.
     pub time: i64,
 }
 
 impl<'a> Element<'a> for ListOffsetsPartition {
     ghost fields = { list_offsets_partition };
 
-    ghost said = { λ p. (p.partition, (p.time, nothing)) };
+    ghost value = { λ p. (p.partition, (p.time, nothing)) };
 
     #[tactic(auto, unfolding(crate::specs::Reading::read_fields))]
     fn read(bytes: &'a [u8]) -> Result<(Self, &'a [u8]), FieldFault> {
@@ -111,14 +112,14 @@ impl<'a> Element<'a> for ListOffsetsPartition {
 /// A topic's name.
 #[derive(Clone, Copy, Debug)]
 pub struct Name<'a>(
-    /// The name, as sent: nothing is known of it.
+    /// The name, as sent. It need not be the name of a topic.
     pub &'a [u8],
 );
 
 impl<'a> Element<'a> for Name<'a> {
     ghost fields = { string ⨾ end };
 
-    ghost said = { λ n. (n.0.now, nothing) };
+    ghost value = { λ n. (n.0.now, nothing) };
 
     #[tactic(auto, unfolding(crate::specs::Reading::read_fields))]
     fn read(bytes: &'a [u8]) -> Result<(Self, &'a [u8]), FieldFault> {
@@ -132,7 +133,7 @@ impl<'a> Element<'a> for Name<'a> {
 pub struct ProduceRequest<'a> {
     /// The id of a transaction, or `None` where it is null.
     pub transactional_id: Option<&'a [u8]>,
-    /// How many copies have to acknowledge: 0, 1, or -1 for all.
+    /// How many copies have to acknowledge: 0, 1, or -1 for all. Any number may have been sent.
     pub acks: i16,
     /// The batches, by topic and partition.
     pub topics: Array<'a, Topic<'a, ProducePartition<'a>>>,
@@ -140,7 +141,7 @@ pub struct ProduceRequest<'a> {
 
 #[tactic(auto, unfolding(crate::specs::Reading::read_fields))]
 pub(crate) fn produce_at(bytes: &[u8]) -> Result<(ProduceRequest<'_>, &[u8]), FieldFault>
-    ensures { Gives (λ x. (produced x.0, x.1.now)) result
+    ensures { Gives (λ x. (produce_view x.0, x.1.now)) result
         (map_read produce_request (read_fields produce_fields bytes.now)) }
 {
     let (transactional_id, rest) = nullable_string(bytes)?;
@@ -158,7 +159,7 @@ pub(crate) fn produce_at(bytes: &[u8]) -> Result<(ProduceRequest<'_>, &[u8]), Fi
 /// A Fetch request.
 #[derive(Drop)]
 pub struct FetchRequest<'a> {
-    /// The most bytes of records that are wanted in all; below 0 as 0.
+    /// The most bytes of records that are wanted in all. A negative number counts as 0.
     pub max_bytes: i32,
     /// What is wanted, by topic and partition.
     pub topics: Array<'a, Topic<'a, FetchPartition>>,
@@ -166,7 +167,7 @@ pub struct FetchRequest<'a> {
 
 #[tactic(auto, unfolding(crate::specs::Reading::read_fields))]
 pub(crate) fn fetch_at(bytes: &[u8]) -> Result<(FetchRequest<'_>, &[u8]), FieldFault>
-    ensures { Gives (λ x. (fetched x.0, x.1.now)) result
+    ensures { Gives (λ x. (fetch_view x.0, x.1.now)) result
         (map_read fetch_request (read_fields fetch_fields bytes.now)) }
 {
     let (_replica_id, rest) = int32(bytes)?;
@@ -187,7 +188,7 @@ pub struct ListOffsetsRequest<'a> {
 
 #[tactic(auto, unfolding(crate::specs::Reading::read_fields))]
 pub(crate) fn list_offsets_at(bytes: &[u8]) -> Result<(ListOffsetsRequest<'_>, &[u8]), FieldFault>
-    ensures { Gives (λ x. (offsets_listed x.0, x.1.now)) result
+    ensures { Gives (λ x. (list_offsets_view x.0, x.1.now)) result
         (map_read list_offsets_request (read_fields list_offsets_fields bytes.now)) }
 {
     let (_replica_id, rest) = int32(bytes)?;
@@ -204,7 +205,7 @@ pub struct MetadataRequest<'a> {
 
 #[tactic(auto, unfolding(crate::specs::Reading::read_fields))]
 pub(crate) fn metadata_at(bytes: &[u8]) -> Result<(MetadataRequest<'_>, &[u8]), FieldFault>
-    ensures { Gives (λ x. (names_asked x.0, x.1.now)) result
+    ensures { Gives (λ x. (metadata_view x.0, x.1.now)) result
         (map_read metadata_request (read_fields metadata_fields bytes.now)) }
 {
     let (names, rest) = nullable_array_at(bytes)?;

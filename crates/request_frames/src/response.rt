@@ -10,6 +10,9 @@
 //! end_produce(&mut out)?;
 //! finish_response(&mut out, start);
 //! ```
+//!
+//! A part is the encoding of its fields whatever they are. What is written of a count, a name or a
+//! body above the limits below has a length that can't be read again.
 
 ghost use Rattle.std.specs.Prelude.{◌≡◌, ◌≤◌, ◌+◌, ◌-◌, ◌++◌, pos, List, ℕ, ℤ, length, IsOk, OnOk, OnErr};
 ghost use Rattle.std.specs.Vec.{vec_len, vec_capacity};
@@ -50,7 +53,6 @@ pub(crate) fn append_around<A: Allocator + Copy>(
     after: &[u8],
 ) -> Result<(), AllocError>
     requires before { length before.now ≤ 64 }
-    requires name { length name.now ≤ MAX_STRING_BYTES }
     requires after { length after.now ≤ 64 }
     ensures appends { OnOk result
         (out.new.items ≡ out.old.items ++ (before.now ++ (name.now ++ after.now))) }
@@ -96,8 +98,7 @@ pub fn begin_response<A: Allocator + Copy>(
 
 /// Sets the INT32 at an offset.
 fn set_int32(bytes: &mut [u8], at: usize, value: u32)
-    requires is_there { at + 4 ≤ length bytes.old }
-    requires fits { value ≤ MAX_COUNT }
+    requires { at + 4 ≤ length bytes.old }
     ensures { (front field rest : List ℕ) → bytes.old ≡ front ++ (field ++ rest) → length front ≡ at
         → length field ≡ 4 → bytes.new ≡ front ++ (be size32 (pos value) ++ rest) }
 {
@@ -106,20 +107,18 @@ fn set_int32(bytes: &mut [u8], at: usize, value: u32)
 
 /// Sets the size at an offset to the number of bytes behind it.
 fn set_size(bytes: &mut [u8], start: usize)
-    requires is_begun { start + 4 ≤ length bytes.old }
-    requires fits { length bytes.old ≤ start + 4 + MAX_BODY_BYTES }
+    requires { start + 4 ≤ length bytes.old }
     ensures { (front size body : List ℕ) → bytes.old ≡ front ++ (size ++ body)
         → length front ≡ start → length size ≡ 4 → bytes.new ≡ front ++ framed body }
 {
-    let size = bytes.len() - start - 4;
-    set_int32(bytes, start, size as u32);
+    let size = (bytes.len() - start - 4).to_be_bytes();
+    bytes[start..start + 4].copy_from_slice(&size[4..8]);
 }
 
 /// Finishes the response that begins at byte `start` of the output, by setting its size to the
-/// number of bytes behind the size, at most `MAX_BODY_BYTES`.
+/// number of bytes behind the size. Of more than `MAX_BODY_BYTES` the size can't be read.
 pub fn finish_response<A: Allocator + Copy>(out: &mut Vec<u8, A>, start: usize)
-    requires is_begun { start + 4 ≤ vec_len out.old }
-    requires fits { vec_len out.old ≤ start + 4 + MAX_BODY_BYTES }
+    requires { start + 4 ≤ vec_len out.old }
     ensures frames { (front size body : List ℕ) → out.old.items ≡ front ++ (size ++ body)
         → length front ≡ start → length size ≡ 4 → out.new.items ≡ front ++ framed body }
     // The same of a response whose fields follow what `begin_response` wrote.
@@ -134,8 +133,7 @@ pub fn finish_response<A: Allocator + Copy>(out: &mut Vec<u8, A>, start: usize)
 
 /// Sets the count at byte `at` of the output, where one was written before it was known.
 pub fn set_count<A: Allocator + Copy>(out: &mut Vec<u8, A>, at: usize, count: u32)
-    requires is_there { at + 4 ≤ vec_len out.old }
-    requires fits { count ≤ MAX_COUNT }
+    requires { at + 4 ≤ vec_len out.old }
     ensures sets { (front field rest : List ℕ) → out.old.items ≡ front ++ (field ++ rest)
         → length front ≡ at → length field ≡ 4
         → out.new.items ≡ front ++ (be size32 (pos count) ++ rest) }
@@ -157,8 +155,6 @@ pub fn begin_topic<A: Allocator + Copy>(
     name: &[u8],
     partition_count: u32,
 ) -> Result<(), AllocError>
-    requires name { length name.now ≤ MAX_STRING_BYTES }
-    requires count { partition_count ≤ MAX_COUNT }
     ensures appends { OnOk result
         (out.new.items ≡ out.old.items ++ topic_head name.now partition_count) }
     ensures unchanged_on_error { OnErr result (out.new.items ≡ out.old.items) }
@@ -168,11 +164,6 @@ pub fn begin_topic<A: Allocator + Copy>(
         → IsOk result }
     ensures keeps_capacity { vec_capacity out.old ≤ vec_capacity out.new }
 {
-    let length = name.len() as u16;
-    append_around(
-        out,
-        &length.to_be_bytes(),
-        name,
-        &partition_count.to_be_bytes(),
-    )
+    let length = name.len().to_be_bytes();
+    append_around(out, &length[6..8], name, &partition_count.to_be_bytes())
 }

@@ -8,8 +8,8 @@ use request_frames::response::produce::{
     put_produced_partition,
 };
 use request_frames::response::{
-    COUNT_BYTES, MAX_STRING_BYTES, RESPONSE_HEAD_BYTES, TOPIC_HEAD_BYTES, begin_response,
-    begin_topic, finish_response,
+    COUNT_BYTES, RESPONSE_HEAD_BYTES, TOPIC_HEAD_BYTES, begin_response, begin_topic,
+    finish_response,
 };
 use request_frames::response_laws::produce_parts;
 use std::alloc::{AllocError, Allocator};
@@ -32,7 +32,6 @@ pub fn put_one<A: Allocator + Copy>(
     name: &[u8],
     partition: ProducedPartition,
 ) -> Result<(), AllocError>
-    requires { length name.now ≤ MAX_STRING_BYTES }
     ensures appends_response { OnOk result (out.new.items ≡ out.old.items ++ response correlation
         produce_response (produce_value (record { name = name.now; entries = partition ∷ [] } ∷ []))) }
     ensures unchanged_on_error { OnErr result (out.new.items ≡ out.old.items) }

@@ -5,7 +5,6 @@ ghost use Rattle.std.specs.Prelude.{◌≡◌, ◌≤◌, ◌+◌, ◌++◌, IsO
 ghost use Rattle.std.specs.Vec.{vec_len, vec_capacity};
 ghost use Rattle.request_frames.specs.Responses.{fetch_head, fetched_head};
 
-use crate::response::MAX_COUNT;
 use byteorder::{BigEndian, ByteOrder};
 use std::alloc::{AllocError, Allocator};
 
@@ -15,7 +14,7 @@ pub const FETCH_HEAD_BYTES: usize = 8;
 /// The number of bytes before a partition's records.
 pub const FETCHED_HEAD_BYTES: usize = 30;
 
-/// What is answered of a partition, before its records.
+/// The answer for a partition, without its records.
 #[derive(Clone, Copy)]
 pub struct FetchedPartition {
     /// The partition's index.
@@ -45,7 +44,6 @@ pub fn begin_fetch<A: Allocator + Copy>(
     out: &mut Vec<u8, A>,
     topic_count: u32,
 ) -> Result<(), AllocError>
-    requires { topic_count ≤ MAX_COUNT }
     ensures appends { OnOk result (out.new.items ≡ out.old.items ++ fetch_head topic_count) }
     ensures unchanged_on_error { OnErr result (out.new.items ≡ out.old.items) }
     ensures len { OnOk result (vec_len out.new ≡ vec_len out.old + FETCH_HEAD_BYTES) }
@@ -69,8 +67,7 @@ fn partition_head_bytes(partition: FetchedPartition, size: u32) -> [u8; FETCHED_
     bytes
 }
 
-/// Appends what is answered of a partition, and the number of bytes of its records. These bytes
-/// follow.
+/// Appends the answer for a partition, and the number of bytes of its records. These bytes follow.
 ///
 /// # Errors
 ///
@@ -80,7 +77,6 @@ pub fn begin_fetched_partition<A: Allocator + Copy>(
     partition: FetchedPartition,
     size: u32,
 ) -> Result<(), AllocError>
-    requires { size ≤ MAX_COUNT }
     ensures appends { OnOk result (out.new.items ≡ out.old.items ++ fetched_head partition size) }
     ensures unchanged_on_error { OnErr result (out.new.items ≡ out.old.items) }
     ensures len { OnOk result (vec_len out.new ≡ vec_len out.old + FETCHED_HEAD_BYTES) }

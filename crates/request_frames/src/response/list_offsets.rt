@@ -5,14 +5,14 @@ ghost use Rattle.std.specs.Prelude.{◌≡◌, ◌≤◌, ◌+◌, ◌++◌, IsO
 ghost use Rattle.std.specs.Vec.{vec_len, vec_capacity};
 ghost use Rattle.request_frames.specs.Responses.{list_offsets_head, listed_bytes};
 
-use crate::response::{COUNT_BYTES, MAX_COUNT};
+use crate::response::COUNT_BYTES;
 use byteorder::{BigEndian, ByteOrder};
 use std::alloc::{AllocError, Allocator};
 
 /// The number of bytes of a partition.
 pub const LISTED_PARTITION_BYTES: usize = 22;
 
-/// What is answered of a partition.
+/// The answer for a partition.
 #[derive(Clone, Copy)]
 pub struct ListedPartition {
     /// The partition's index.
@@ -35,7 +35,6 @@ pub fn begin_list_offsets<A: Allocator + Copy>(
     out: &mut Vec<u8, A>,
     topic_count: u32,
 ) -> Result<(), AllocError>
-    requires { topic_count ≤ MAX_COUNT }
     ensures appends { OnOk result (out.new.items ≡ out.old.items ++ list_offsets_head topic_count) }
     ensures unchanged_on_error { OnErr result (out.new.items ≡ out.old.items) }
     ensures len { OnOk result (vec_len out.new ≡ vec_len out.old + COUNT_BYTES) }
@@ -57,7 +56,7 @@ fn partition_bytes(partition: ListedPartition) -> [u8; LISTED_PARTITION_BYTES]
     bytes
 }
 
-/// Appends what is answered of a partition.
+/// Appends the answer for a partition.
 ///
 /// # Errors
 ///

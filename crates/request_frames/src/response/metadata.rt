@@ -5,7 +5,7 @@ ghost use Rattle.std.specs.Prelude.{◌≡◌, ◌≤◌, ◌+◌, ◌++◌, len
 ghost use Rattle.std.specs.Vec.{vec_len, vec_capacity};
 ghost use Rattle.request_frames.specs.Responses.{metadata_head, metadata_topic_head, metadata_partition_bytes};
 
-use crate::response::{MAX_COUNT, MAX_STRING_BYTES, append_around};
+use crate::response::append_around;
 use byteorder::{BigEndian, ByteOrder};
 use std::alloc::{AllocError, Allocator};
 
@@ -24,7 +24,7 @@ const LEADERLESS_BYTES: usize = 18;
 /// The broker that answers.
 #[derive(Clone, Copy)]
 pub struct MetadataBroker<'a> {
-    /// Its number.
+    /// Its node id.
     pub node_id: i32,
     /// Where it is reached: a name or an address.
     pub host: &'a [u8],
@@ -32,7 +32,7 @@ pub struct MetadataBroker<'a> {
     pub port: u16,
 }
 
-/// What is answered of a topic, before its partitions.
+/// The answer for a topic, without its partitions.
 #[derive(Clone, Copy)]
 pub struct MetadataTopic<'a> {
     /// The error code, 0 for none.
@@ -43,18 +43,18 @@ pub struct MetadataTopic<'a> {
     pub is_internal: bool,
 }
 
-/// What is answered of a partition.
+/// The answer for a partition.
 #[derive(Clone, Copy)]
 pub struct MetadataPartition {
     /// The error code, 0 for none.
     pub code: i16,
     /// The partition's index.
     pub index: i32,
-    /// The number of its leader, which is its one replica, or none.
+    /// The node id of its leader, which is its one replica, or none.
     pub leader: Option<i32>,
 }
 
-/// Appends the one broker, the controller's number, -1 for none, and the count of the topics.
+/// Appends the one broker, the controller's node id, -1 for none, and the count of the topics.
 ///
 /// # Errors
 ///
@@ -66,8 +66,6 @@ pub fn begin_metadata<A: Allocator + Copy>(
     controller: i32,
     topic_count: u32,
 ) -> Result<(), AllocError>
-    requires host { length broker.host.now ≤ MAX_STRING_BYTES }
-    requires count { topic_count ≤ MAX_COUNT }
     ensures appends { OnOk result (out.new.items ≡ out.old.items ++ metadata_head
         broker.entry.node_id broker.entry.host.now broker.entry.port controller topic_count) }
     ensures unchanged_on_error { OnErr result (out.new.items ≡ out.old.items) }
@@ -80,7 +78,7 @@ pub fn begin_metadata<A: Allocator + Copy>(
     let mut before = [0; 10];
     BigEndian::write_i32(&mut before[0..4], 1);
     BigEndian::write_i32(&mut before[4..8], broker.node_id);
-    BigEndian::write_u16(&mut before[8..10], broker.host.len() as u16);
+    before[8..10].copy_from_slice(&broker.host.len().to_be_bytes()[6..8]);
     let mut after = [0; 14];
     BigEndian::write_u32(&mut after[0..4], u32::from(broker.port));
     BigEndian::write_i16(&mut after[4..6], -1);
@@ -101,8 +99,6 @@ pub fn begin_metadata_topic<A: Allocator + Copy>(
     topic: MetadataTopic<'_>,
     partition_count: u32,
 ) -> Result<(), AllocError>
-    requires name { length topic.name.now ≤ MAX_STRING_BYTES }
-    requires count { partition_count ≤ MAX_COUNT }
     ensures appends { OnOk result (out.new.items ≡ out.old.items ++ metadata_topic_head
         topic.entry.code topic.entry.name.now topic.entry.is_internal partition_count) }
     ensures unchanged_on_error { OnErr result (out.new.items ≡ out.old.items) }
@@ -114,7 +110,7 @@ pub fn begin_metadata_topic<A: Allocator + Copy>(
 {
     let mut before = [0; 4];
     BigEndian::write_i16(&mut before[0..2], topic.code);
-    BigEndian::write_u16(&mut before[2..4], topic.name.len() as u16);
+    before[2..4].copy_from_slice(&topic.name.len().to_be_bytes()[6..8]);
     let mut after = [0; 5];
     after[0] = u8::from(topic.is_internal);
     BigEndian::write_u32(&mut after[1..5], partition_count);
@@ -149,7 +145,7 @@ fn without_leader(code: i16, index: i32) -> [u8; LEADERLESS_BYTES]
     bytes
 }
 
-/// Appends what is answered of a partition.
+/// Appends the answer for a partition.
 ///
 /// # Errors
 ///

@@ -5,7 +5,7 @@ ghost use Rattle.std.specs.Prelude.{◌≡◌, ◌≤◌, ◌+◌, ◌++◌, IsO
 ghost use Rattle.std.specs.Vec.{vec_len, vec_capacity};
 ghost use Rattle.request_frames.specs.Responses.{produce_head, produced_bytes, produce_tail};
 
-use crate::response::{COUNT_BYTES, MAX_COUNT};
+use crate::response::COUNT_BYTES;
 use byteorder::{BigEndian, ByteOrder};
 use std::alloc::{AllocError, Allocator};
 
@@ -15,7 +15,7 @@ pub const PRODUCED_PARTITION_BYTES: usize = 22;
 /// The number of bytes after the topics.
 pub const PRODUCE_TAIL_BYTES: usize = 4;
 
-/// What is answered of a partition.
+/// The answer for a partition.
 #[derive(Clone, Copy)]
 pub struct ProducedPartition {
     /// The partition's index.
@@ -36,7 +36,6 @@ pub fn begin_produce<A: Allocator + Copy>(
     out: &mut Vec<u8, A>,
     topic_count: u32,
 ) -> Result<(), AllocError>
-    requires { topic_count ≤ MAX_COUNT }
     ensures appends { OnOk result (out.new.items ≡ out.old.items ++ produce_head topic_count) }
     ensures unchanged_on_error { OnErr result (out.new.items ≡ out.old.items) }
     ensures len { OnOk result (vec_len out.new ≡ vec_len out.old + COUNT_BYTES) }
@@ -58,7 +57,7 @@ fn partition_bytes(partition: ProducedPartition) -> [u8; PRODUCED_PARTITION_BYTE
     bytes
 }
 
-/// Appends what is answered of a partition.
+/// Appends the answer for a partition.
 ///
 /// # Errors
 ///

@@ -1,0 +1,11 @@
+use Rattle.std.proofs.Common.{rules}
+use Rattle.broker_core.specs.State.{group_topic}
+use Rattle.broker_core.specs.ConfigValues.{topic_config}
+use Rattle.broker_core.proofs.NewTopics.{all_made}
+use Rattle.broker_core.proofs.node.new_topics.Goals as goal
+
+-- src/node.rt:67:1
+pub returns : goal.returns
+returns g c =
+    all_made c.args.config.now.role topic_config c.deref-topic-items.result.now c.args.config.now.topics.items c.loop-topic.topic-index c.loop-topic.topics.items _ c.in_ok-new_topic-2.field-0
+    (record { name = group_topic; partitions = 1 }) c.loop-topic.invariant (search rules) c.deref-topic-items.ensures.value c.in_ok-new_topic-2.ensures c.in_ok-push-2.ensures.items

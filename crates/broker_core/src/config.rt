@@ -1,0 +1,37 @@
+//! How a broker is configured.
+
+use std::alloc::Allocator;
+use std::string::String;
+
+/// What a broker is to its partitions.
+#[derive(Clone, Copy, Debug, PartialEq, Eq)]
+pub enum Role {
+    /// It gives out their offsets.
+    Leader,
+    /// It holds copies of them.
+    Follower,
+}
+
+/// A topic that a broker is to keep.
+#[derive(Debug, Drop)]
+pub struct TopicConfig<A: Allocator> {
+    /// Its name.
+    pub name: String<A>,
+    /// The number of its partitions.
+    pub partitions: u32,
+}
+
+/// How a broker is configured.
+#[derive(Debug, Drop)]
+pub struct Config<A: Allocator> {
+    /// What the broker is to its partitions.
+    pub role: Role,
+    /// The broker's number.
+    pub node_id: i32,
+    /// The host at which clients reach it.
+    pub host: String<A>,
+    /// The port at which clients reach it.
+    pub port: u16,
+    /// The topics that it keeps, beside the one for groups.
+    pub topics: Vec<TopicConfig<A>, A>,
+}

@@ -1,0 +1,180 @@
+//! A broker: its configuration, and the partitions of its topics.
+
+ghost use Rattle.std.specs.Prelude.{◌≡◌, IfOk, IfErr, map, replicate, bytes_eq};
+ghost use Rattle.std.specs.List.{find};
+ghost use Rattle.std.specs.Option.{option_map, option_and_then};
+ghost use Rattle.content.specs.Content.{empty};
+ghost use Rattle.broker_core.specs.State.{new_state, all_topics, partition_of, partition_at};
+ghost use Rattle.broker_core.specs.Configs.{IsValidConfig, ConfigFault};
+ghost use Rattle.broker_core.specs.ConfigValues.{config_value, topic_config};
+ghost use Rattle.broker_core.specs.Parts.{new_parts, topic_contents};
+
+use crate::config::{Config, Role};
+use crate::error::ConfigError;
+use crate::judging::config_fault;
+use crate::limits::GROUP_TOPIC;
+use crate::partition::Partition;
+use partition_log::PartitionLog;
+use segment::BatchStore;
+use std::alloc::AllocError;
+use std::marker::Model;
+
+/// A topic's partitions, from 0 on.
+#[derive(Drop)]
+struct TopicLogs<S: BatchStore> {
+    name: Vec<u8, S::Alloc>,
+    partitions: Vec<Partition<S>, S::Alloc>,
+}
+
+impl<S: BatchStore> Model for TopicLogs<S> {
+    ghost use Rattle.broker_core.specs.Parts.{TopicParts};
+
+    ghost Value = { TopicParts };
+
+    ghost view = { λ t. record { name = t.name.items; partitions = t.partitions.items } };
+}
+
+impl<S: BatchStore> TopicLogs<S> {
+    /// The partition of a number.
+    fn partition(&self, number: i32) -> Option<&Partition<S>>
+        ensures { option_map (λ p. p.now.content) result
+            ≡ partition_of number (topic_contents self.now) }
+    {
+        if number < 0 {
+            return None;
+        }
+        self.partitions.get(number as usize)
+    }
+}
+
+/// The topic of a name.
+fn topic_of<'a, S: BatchStore>(topics: &'a [TopicLogs<S>], name: &[u8]) -> Option<&'a TopicLogs<S>>
+    ensures { option_map (λ t. t.now) result ≡ find (λ t. bytes_eq t.name name.now) topics.now }
+{
+    for topic in topics {
+        if topic.name.as_slice() == name {
+            return Some(topic);
+        }
+    }
+    None
+}
+
+/// The partition of a topic's name and a number.
+#[tactic(auto, using(crate::proofs::NewStates::in_topic, crate::proofs::NewStates::in_no_topic))]
+fn partition_of<'a, S: BatchStore>(
+    topics: &'a [TopicLogs<S>],
+    name: &[u8],
+    number: i32,
+) -> Option<&'a Partition<S>>
+    ensures { option_map (λ p. p.now.content) result ≡ option_and_then (partition_of number)
+        (find (λ t. bytes_eq t.name name.now) (map topic_contents topics.now)) }
+{
+    match topic_of(topics, name) {
+        Some(topic) => topic.partition(number),
+        None => None,
+    }
+}
+
+fn new_partitions<S: BatchStore>(
+    alloc: S::Alloc,
+    role: Role,
+    count: u32,
+) -> Result<Vec<Partition<S>, S::Alloc>, AllocError>
+    ensures { IfOk result (λ partitions. partitions.items
+        ≡ replicate count (record { role = role; content = empty })) }
+{
+    let mut partitions = Vec::new(alloc);
+    for _ in 0..count {
+        partitions.push(Partition::new(alloc, role))?;
+    }
+    Ok(partitions)
+}
+
+fn new_topic<S: BatchStore>(
+    alloc: S::Alloc,
+    role: Role,
+    name: &[u8],
+    count: u32,
+) -> Result<TopicLogs<S>, AllocError>
+    ensures { IfOk result (λ topic. topic
+        ≡ new_parts role (record { name = name.now; partitions = count })) }
+{
+    Ok(TopicLogs {
+        name: Vec::from_slice(alloc, name)?,
+        partitions: new_partitions(alloc, role, count)?,
+    })
+}
+
+/// The topics of a configuration, and the group topic.
+fn new_topics<S: BatchStore>(
+    alloc: S::Alloc,
+    config: &Config<S::Alloc>,
+) -> Result<Vec<TopicLogs<S>, S::Alloc>, AllocError>
+    ensures { IfOk result (λ topics. topics.items
+        ≡ map (new_parts config.now.role) (all_topics (config_value config.now))) }
+{
+    let mut topics = Vec::new(alloc);
+    for topic in &config.topics {
+        topics.push(new_topic(alloc, config.role, topic.name.as_bytes(), topic.partitions)?)?;
+    }
+    topics.push(new_topic(alloc, config.role, GROUP_TOPIC, 1)?)?;
+    Ok(topics)
+}
+
+/// A broker: its configuration, and the partitions of its topics.
+#[derive(Drop)]
+pub struct Node<S: BatchStore> {
+    config: Config<S::Alloc>,
+    topics: Vec<TopicLogs<S>, S::Alloc>,
+}
+
+impl<S: BatchStore> Model for Node<S> {
+    ghost use Rattle.std.specs.Prelude.{map};
+    ghost use Rattle.broker_core.specs.State.{State};
+    ghost use Rattle.broker_core.specs.Configs.{IsValidConfig};
+    ghost use Rattle.broker_core.specs.ConfigValues.{config_value};
+    ghost use Rattle.broker_core.specs.Parts.{AreTopicsOf, topic_contents};
+
+    ghost Value = { State };
+
+    ghost view = { λ n. record { config = config_value n.config; topics = map topic_contents n.topics.items } };
+
+    ghost invariant = { λ n. IsValidConfig (config_value n.config)
+        × AreTopicsOf (config_value n.config) n.topics.items };
+}
+
+impl<S: BatchStore> Node<S> {
+    /// A broker of this configuration. Every partition is empty; the group topic comes beside the
+    /// topics of the configuration.
+    ///
+    /// # Errors
+    ///
+    /// The first fault of the configuration, in the order of `ConfigError`; `OutOfMemory` where it has
+    /// none, and there is no memory for its topics.
+    pub fn new(alloc: S::Alloc, config: Config<S::Alloc>) -> Result<Node<S>, ConfigError>
+        ensures valid { IfOk result (λ _. IsValidConfig (config_value config)) }
+        ensures is_new { IfOk result (λ node. node ≡ new_state (config_value config)) }
+        ensures refuses { IfErr result (ConfigFault (config_value config)) }
+    {
+        match config_fault(&config) {
+            Some(fault) => return Err(fault),
+            None => {}
+        }
+        match new_topics(alloc, &config) {
+            Ok(topics) => Ok(Node { config, topics }),
+            Err(_) => Err(ConfigError::OutOfMemory),
+        }
+    }
+
+    /// The copy of a topic's partition; none of a topic that isn't configured, or that has no such
+    /// partition. It takes no memory.
+    pub fn log(&self, topic: &[u8], partition: i32) -> Option<&PartitionLog<S>>
+        ensures { option_map (λ log. log.now) result
+            ≡ partition_at self.now topic.now partition }
+    {
+        match partition_of(&self.topics, topic, partition) {
+            Some(found) => Some(found.copy()),
+            None => None,
+        }
+    }
+}
