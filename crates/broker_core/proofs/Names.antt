@@ -1,5 +1,5 @@
 -- Which names are taken.
-use Rattle.std.proofs.Common.{◌≡◌, ℕ, Bool, true, false, ◌||◌, List, [], ◌∷◌, refl, sym, ap, ◌∙◌, arith}
+use Rattle.std.proofs.Common.{◌≡◌, ℕ, Bool, true, false, ◌||◌, List, [], ◌∷◌, refl, sym, ap, ◌∙◌}
 use Rattle.std.specs.Prelude.{map, bytes_eq}
 use Rattle.std.specs.List.{fold, list_any}
 use Rattle.broker_core.specs.State.{TopicConfig, group_topic}

@@ -11,7 +11,7 @@ use Rattle.broker_core.specs.declared.limits.TheConstants.{MAX_TOPICS, MAX_PARTI
 use Rattle.broker_core.specs.declared.error.ConfigError.{ConfigError}
 use Rattle.broker_core.specs.declared.error.ConfigError.TheVariants.{BadHost, TooManyTopics, BadTopic, BadPartitions, TopicTwice, OutOfMemory}
 use Rattle.broker_core.specs.Lists.{fault_if, first_some}
-use Rattle.broker_core.specs.State.{TopicConfig, ConfigValue, Topic, new_topic, group_topic, all_topics, partition_of}
+use Rattle.broker_core.specs.State.{TopicConfig, ConfigValue, new_topic, group_topic, all_topics, partition_of}
 use Rattle.broker_core.specs.Configs.{topic_fault, topics_fault, config_fault, ConfigFault}
 use Rattle.broker_core.specs.Partitions.{PartitionValue}
 use Rattle.broker_core.specs.Parts.{TopicParts, topic_contents, topic_shape, HasRole, AreTopicsOf, new_parts}

@@ -1,9 +1,9 @@
 -- The topics of a new broker.
-use Rattle.std.proofs.Common.{◌≡◌, ℕ, ◌≤◌, List, [], ◌∷◌, ◌++◌, length, take, refl, sym, ap, ◌∙◌}
+use Rattle.std.proofs.Common.{◌≡◌, ℕ, ◌≤◌, List, [], ◌∷◌, ◌++◌, length, take, refl, ap, ◌∙◌}
 use Rattle.std.specs.Prelude.{map}
 use Rattle.std.proofs.lemmas.List.{take_all}
 use Rattle.broker_core.specs.declared.config.Role.{Role}
-use Rattle.broker_core.specs.State.{TopicConfig, group_topic}
+use Rattle.broker_core.specs.State.{TopicConfig}
 use Rattle.broker_core.specs.Parts.{TopicParts, new_parts}
 
 one_more : {X Y Z : Type 0} (f : X → Y) (g : Y → Z) (xs : List X) (y : Y) → map (λ x. g (f x)) xs ++ g y ∷ [] ≡ map g (map f xs ++ y ∷ [])

@@ -1,5 +1,5 @@
 -- What a configuration says, apart from where it lies in memory.
-use Rattle.std.specs.Prelude.{ℕ, map}
+use Rattle.std.specs.Prelude.{map}
 use Rattle.std.specs.String.{string_bytes}
 use Rattle.broker_core.specs.declared.config.Config.{Config}
 use Rattle.broker_core.specs.declared.config.TopicConfig as declared

@@ -12,7 +12,6 @@
 
 mod codes;
 mod config;
-mod entries;
 mod error;
 pub mod examples;
 mod judging;

@@ -56,6 +56,7 @@ be s z = to_be_bytes (width s) (cast_unsigned (width s) z)
 abbrev pub number_at : Size → List ℕ → ℤ
 number_at s bytes = cast_signed (width s) (from_be_bytes (width s) (take (byte_len (width s)) bytes))
 
+-- bytes behind a number: how many they are, or how many elements they hold
 abbrev pub counted : Size → ℕ → List ℕ → List ℕ
 counted s n bytes = be s (pos n) ++ bytes
 
@@ -72,6 +73,7 @@ abbrev pub elements_or_null : {X : Type 0} → (X → List ℕ) → Option (List
 elements_or_null f None = be size32 (negsuc 0)
 elements_or_null f (Some xs) = elements f xs
 
+-- the fields' encodings, one after the other
 unfoldable pub encoded : (d : Fields) → Value d → List ℕ
 encoded end v = []
 encoded (one f d) v = field f v.0 ++ encoded d v.1
@@ -80,6 +82,7 @@ encoded (array_or_null x d) v = elements_or_null (encoded x) v.0 ++ encoded d v.
 
 -- ---- which values have an encoding
 
+-- a length or a count that the number can hold
 abbrev pub FitsLength : Size → ℕ → Type 0
 FitsLength s n = FitsSigned (width s) (pos n)
 
@@ -109,6 +112,7 @@ pub record Encodes (d : Fields) (v : Value d) (bytes rest : List ℕ) : Type 0 w
 
 -- ---- faults
 
+-- fewer bytes than the number has
 abbrev pub IsCut : Size → List ℕ → Type 0
 IsCut s bytes = length bytes < byte_len (width s)
 
@@ -116,9 +120,11 @@ IsCut s bytes = length bytes < byte_len (width s)
 abbrev pub IsShorter : Size → List ℕ → Type 0
 IsShorter s bytes = (byte_len (width s) ≤ length bytes) × (pos (length bytes - byte_len (width s)) <ℤ number_at s bytes)
 
+-- the number is there, and below the least that is allowed
 abbrev pub IsBelow : ℤ → Size → List ℕ → Type 0
 IsBelow least s bytes = (byte_len (width s) ≤ length bytes) × (number_at s bytes <ℤ least)
 
+-- the fault of one field
 abbrev pub FieldBreaks : Field → FieldFault → List ℕ → Type 0
 FieldBreaks (number s) ShortBody bytes = IsCut s bytes
 FieldBreaks (number s) Malformed bytes = ⊥
@@ -127,6 +133,7 @@ FieldBreaks (sized s) Malformed bytes = IsBelow (pos 0) s bytes
 FieldBreaks (sized_or_null s) ShortBody bytes = IsCut s bytes ⊎ IsShorter s bytes
 FieldBreaks (sized_or_null s) Malformed bytes = IsBelow (negsuc 0) s bytes
 
+-- the fault of an array's count
 abbrev pub CountBreaks : ℤ → FieldFault → List ℕ → Type 0
 CountBreaks least ShortBody bytes = IsCut size32 bytes
 CountBreaks least Malformed bytes = IsBelow least size32 bytes
@@ -144,6 +151,7 @@ AnElementBreaks {X = X} enc fits breaks e bytes =
     (count : ℕ) × (before : List X) × (tail : List ℕ) × FitsLength size32 count × AllByRecursion fits before
     × (length before < count) × (bytes ≡ counted size32 count (flat_map enc before) ++ tail) × breaks e tail
 
+-- an array's count has the fault, or one of its elements
 abbrev pub ElementsBreak : {X : Type 0} → ℤ → (X → List ℕ) → (X → Type 0) → (FieldFault → List ℕ → Type 0)
     → FieldFault → List ℕ → Type 0
 ElementsBreak least enc fits breaks e bytes = CountBreaks least e bytes ⊎ AnElementBreaks enc fits breaks e bytes

@@ -19,7 +19,7 @@ pub trait Element<'a>: Sized {
     ghost fields: { Fields };
 
     /// The fields' values, apart from where their bytes lie.
-    ghost said: { Self → Value fields };
+    ghost value: { Self → Value fields };
 
     /// The element at the front, and the bytes after it.
     ///
@@ -27,7 +27,7 @@ pub trait Element<'a>: Sized {
     ///
     /// The fault of the first field that has one.
     fn read(bytes: &'a [u8]) -> Result<(Self, &'a [u8]), FieldFault>
-        ensures { Gives (λ x. (said x.0, x.1.now)) result (read_fields fields bytes.now) };
+        ensures { Gives (λ x. (value x.0, x.1.now)) result (read_fields fields bytes.now) };
 }
 
 /// An iterator over an array's elements, in order. It borrows the frame's bytes.
@@ -79,7 +79,7 @@ impl<'a, E: Element<'a> + Drop> Array<'a, E> {
 impl<'a, E: Element<'a>> Iterator for Array<'a, E> {
     type Item = E;
 
-    ghost next_gives = { YieldsFirstBy E.said (values E.fields) };
+    ghost next_gives = { YieldsFirstBy E.value (values E.fields) };
 
     ghost remaining = { item_count (values E.fields) };
 

@@ -1,7 +1,7 @@
 //! What requests say, borrowed from their frames.
 
 ghost use Rattle.request_frames.specs.Reading.{Gives, map_read, read_fields, nothing};
-ghost use Rattle.request_frames.specs.Views.{produced, fetched, offsets_listed, names_asked};
+ghost use Rattle.request_frames.specs.Views.{produce_view, fetch_view, list_offsets_view, metadata_view};
 ghost use Rattle.request_frames.specs.Fields.{end};
 ghost use Rattle.request_frames.specs.Types.{string, topic, ◌⨾◌};
 ghost use Rattle.request_frames.specs.Arrays.{values};
@@ -24,7 +24,7 @@ pub struct Topic<'a, E> {
 impl<'a, E: Element<'a> + Drop> Element<'a> for Topic<'a, E> {
     ghost fields = { topic E.fields };
 
-    ghost said = { λ t. (t.name.now, (values E.fields t.partitions, nothing)) };
+    ghost value = { λ t. (t.name.now, (values E.fields t.partitions, nothing)) };
 
     #[tactic(auto, unfolding(crate::specs::Reading::read_fields))]
     fn read(bytes: &'a [u8]) -> Result<(Self, &'a [u8]), FieldFault> {
@@ -46,7 +46,7 @@ pub struct ProducePartition<'a> {
 impl<'a> Element<'a> for ProducePartition<'a> {
     ghost fields = { produce_partition };
 
-    ghost said = { λ p. (p.index, (option_map (λ bytes. bytes.now) p.records, nothing)) };
+    ghost value = { λ p. (p.index, (option_map (λ bytes. bytes.now) p.records, nothing)) };
 
     #[tactic(auto, unfolding(crate::specs::Reading::read_fields))]
     fn read(bytes: &'a [u8]) -> Result<(Self, &'a [u8]), FieldFault> {
@@ -70,7 +70,7 @@ pub struct FetchPartition {
 impl<'a> Element<'a> for FetchPartition {
     ghost fields = { fetch_partition };
 
-    ghost said = { λ p. (p.partition, (p.offset, (p.max_bytes, nothing))) };
+    ghost value = { λ p. (p.partition, (p.offset, (p.max_bytes, nothing))) };
 
     #[tactic(auto, unfolding(crate::specs::Reading::read_fields))]
     fn read(bytes: &'a [u8]) -> Result<(Self, &'a [u8]), FieldFault> {
@@ -99,7 +99,7 @@ pub struct ListOffsetsPartition {
 impl<'a> Element<'a> for ListOffsetsPartition {
     ghost fields = { list_offsets_partition };
 
-    ghost said = { λ p. (p.partition, (p.time, nothing)) };
+    ghost value = { λ p. (p.partition, (p.time, nothing)) };
 
     #[tactic(auto, unfolding(crate::specs::Reading::read_fields))]
     fn read(bytes: &'a [u8]) -> Result<(Self, &'a [u8]), FieldFault> {
@@ -119,7 +119,7 @@ pub struct Name<'a>(
 impl<'a> Element<'a> for Name<'a> {
     ghost fields = { string ⨾ end };
 
-    ghost said = { λ n. (n.0.now, nothing) };
+    ghost value = { λ n. (n.0.now, nothing) };
 
     #[tactic(auto, unfolding(crate::specs::Reading::read_fields))]
     fn read(bytes: &'a [u8]) -> Result<(Self, &'a [u8]), FieldFault> {
@@ -141,7 +141,7 @@ pub struct ProduceRequest<'a> {
 
 #[tactic(auto, unfolding(crate::specs::Reading::read_fields))]
 pub(crate) fn produce_at(bytes: &[u8]) -> Result<(ProduceRequest<'_>, &[u8]), FieldFault>
-    ensures { Gives (λ x. (produced x.0, x.1.now)) result
+    ensures { Gives (λ x. (produce_view x.0, x.1.now)) result
         (map_read produce_request (read_fields produce_fields bytes.now)) }
 {
     let (transactional_id, rest) = nullable_string(bytes)?;
@@ -167,7 +167,7 @@ pub struct FetchRequest<'a> {
 
 #[tactic(auto, unfolding(crate::specs::Reading::read_fields))]
 pub(crate) fn fetch_at(bytes: &[u8]) -> Result<(FetchRequest<'_>, &[u8]), FieldFault>
-    ensures { Gives (λ x. (fetched x.0, x.1.now)) result
+    ensures { Gives (λ x. (fetch_view x.0, x.1.now)) result
         (map_read fetch_request (read_fields fetch_fields bytes.now)) }
 {
     let (_replica_id, rest) = int32(bytes)?;
@@ -188,7 +188,7 @@ pub struct ListOffsetsRequest<'a> {
 
 #[tactic(auto, unfolding(crate::specs::Reading::read_fields))]
 pub(crate) fn list_offsets_at(bytes: &[u8]) -> Result<(ListOffsetsRequest<'_>, &[u8]), FieldFault>
-    ensures { Gives (λ x. (offsets_listed x.0, x.1.now)) result
+    ensures { Gives (λ x. (list_offsets_view x.0, x.1.now)) result
         (map_read list_offsets_request (read_fields list_offsets_fields bytes.now)) }
 {
     let (_replica_id, rest) = int32(bytes)?;
@@ -205,7 +205,7 @@ pub struct MetadataRequest<'a> {
 
 #[tactic(auto, unfolding(crate::specs::Reading::read_fields))]
 pub(crate) fn metadata_at(bytes: &[u8]) -> Result<(MetadataRequest<'_>, &[u8]), FieldFault>
-    ensures { Gives (λ x. (names_asked x.0, x.1.now)) result
+    ensures { Gives (λ x. (metadata_view x.0, x.1.now)) result
         (map_read metadata_request (read_fields metadata_fields bytes.now)) }
 {
     let (names, rest) = nullable_array_at(bytes)?;

@@ -1,4 +1,4 @@
-use Rattle.std.proofs.Common.{◌≡◌, ◌≤◌, [], ◌∷◌, take, drop, length}
+use Rattle.std.proofs.Common.{◌≡◌, [], ◌∷◌, take, drop}
 use Rattle.std.specs.Prelude.{map}
 use Rattle.broker_core.specs.State.{group_topic}
 use Rattle.broker_core.specs.ConfigValues.{topic_config}

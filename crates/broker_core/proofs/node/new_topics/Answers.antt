@@ -1,4 +1,4 @@
-use Rattle.std.proofs.Common.{rules, ◌≤◌, length}
+use Rattle.std.proofs.Common.{rules}
 use Rattle.broker_core.specs.State.{group_topic}
 use Rattle.broker_core.specs.ConfigValues.{topic_config}
 use Rattle.broker_core.proofs.NewTopics.{all_made}

@@ -1,4 +1,4 @@
-use Rattle.std.proofs.Common.{refl, sym, ap, ◌∙◌}
+use Rattle.std.proofs.Common.{sym}
 use Rattle.broker_core.specs.ConfigValues.{config_value}
 use Rattle.broker_core.proofs.NewStates.{fault_refuses, new_topics_are, new_topics_hold_nothing}
 use Rattle.broker_core.proofs.node.Node.new.Goals as goal
