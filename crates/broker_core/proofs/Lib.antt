@@ -6,3 +6,4 @@ pub mod OneContent
 pub mod Names
 pub mod NewTopics
 pub mod NewStates
+pub mod Written

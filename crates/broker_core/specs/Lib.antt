@@ -15,3 +15,4 @@ pub mod Partitions
 pub mod ConfigValues
 pub mod Taken
 pub mod Parts
+pub mod Listings
