@@ -7,3 +7,4 @@ pub mod Names
 pub mod NewTopics
 pub mod NewStates
 pub mod Written
+pub mod UnchangedStates

@@ -1,9 +1,8 @@
 -- Responses written entry by entry.
-use Rattle.std.proofs.Common.{◌≡◌, ℕ, ◌+◌, ◌≤◌, ℤ, arith, List, [], ◌∷◌, ◌++◌, length, refl, sym, ap, ◌∙◌, append_assoc, append-nil}
+use Rattle.std.proofs.Common.{◌≡◌, ℕ, ◌+◌, ◌≤◌, ℤ, arith, List, [], ◌∷◌, ◌++◌, length, sym, ap, ◌∙◌, append_assoc, append-nil}
 use Rattle.std.specs.Prelude.{map}
 use Rattle.std.specs.List.{flat_map}
 use Rattle.std.proofs.lemmas.List.{length-map, length-append}
-use Rattle.request_frames.specs.Types.{TopicOf}
 use Rattle.request_frames.specs.Responses.{response_head, topic_head, topic_bytes}
 use Rattle.broker_core.specs.Listings.{Begins}
 
@@ -22,9 +21,9 @@ module _ {V R : Type 0} (enc : R → List ℕ) (f : V → R) where
       → out ++ flat_map enc (map f vs) ≡ total → next ++ flat_map enc (map f more) ≡ total
   one_written out next total r v vs more first is e so_far =
       let parts : next ++ flat_map enc (map f more) ≡ out ++ (enc (f v) ++ flat_map enc (map f more)) =
-              ap (λ (x : List ℕ). x ++ flat_map enc (map f more)) e
-              ∙ append_assoc out (enc r) (flat_map enc (map f more))
-              ∙ ap (λ (x : R). out ++ (enc x ++ flat_map enc (map f more))) is in
+      ap (λ (x : List ℕ). x ++ flat_map enc (map f more)) e
+      ∙ append_assoc out (enc r) (flat_map enc (map f more))
+      ∙ ap (λ (x : R). out ++ (enc x ++ flat_map enc (map f more))) is in
       parts ∙ sym (ap (λ (x : List V). out ++ flat_map enc (map f x)) first) ∙ so_far
 
   pub all_written : (out total : List ℕ) (vs : List V) → vs ≡ [] → out ++ flat_map enc (map f vs) ≡ total → out ≡ total

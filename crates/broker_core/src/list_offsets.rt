@@ -7,7 +7,9 @@ ghost use Rattle.request_frames.specs.Types.{topic};
 ghost use Rattle.request_frames.specs.Arrays.{values};
 ghost use Rattle.request_frames.specs.Requests.{list_offsets_partition};
 ghost use Rattle.request_frames.specs.Responses.{response, response_head, topic_bytes, listed_bytes, list_offsets_response, list_offsets_value};
-ghost use Rattle.broker_core.specs.Listings.{Begins, listed_topic, listed_topics};
+ghost use Rattle.broker_core.specs.Listings.{Begins, listed_topic, listed_topics, listing_request};
+ghost use Rattle.broker_core.specs.Replies.{reply};
+ghost use Rattle.broker_core.specs.Streams.{sent};
 
 use crate::entries::list_offsets;
 use crate::node::Node;
@@ -43,7 +45,7 @@ fn put_topics<'a, S: BatchStore, A: Allocator + Copy>(
 ) -> Result<(), AllocError>
     ensures appends { OnOk result (out.new.items ≡ out.old.items
         ++ flat_map (topic_bytes listed_bytes) (map (listed_topic node.now)
-            (values (topic list_offsets_partition) topics.entry))) }
+        (values (topic list_offsets_partition) topics.entry))) }
     ensures begins { OnErr result (Begins out.old.items out.new.items) }
 {
     for topic in topics {
@@ -69,12 +71,8 @@ fn put_response<S: BatchStore, A: Allocator + Copy>(
     put_topics(node, request.topics.duplicate(), out)
 }
 
-/// Appends the response to a ListOffsets request.
-///
-/// # Errors
-///
-/// `AllocError` where there is no room for it; the output is then as before.
-pub(crate) fn answer_list_offsets<S: BatchStore, A: Allocator + Copy>(
+/// Appends the whole response, or nothing.
+fn append_response<S: BatchStore, A: Allocator + Copy>(
     node: &Node<S>,
     correlation: i32,
     request: &ListOffsetsRequest<'_>,
@@ -94,5 +92,25 @@ pub(crate) fn answer_list_offsets<S: BatchStore, A: Allocator + Copy>(
             out.truncate(start);
             Err(refused)
         }
+    }
+}
+
+impl<S: BatchStore> Node<S> {
+    /// Appends the response to a ListOffsets request. It changes nothing else.
+    ///
+    /// # Errors
+    ///
+    /// `AllocError` where there is no memory for the response; the output is then as before.
+    pub fn list_offsets<A: Allocator + Copy>(
+        &self,
+        correlation: i32,
+        request: &ListOffsetsRequest<'_>,
+        out: &mut Vec<u8, A>,
+    ) -> Result<(), AllocError>
+        ensures replies { OnOk result (out.new.items ≡ out.old.items
+            ++ sent (reply self.now (listing_request correlation request.now)).0) }
+        ensures unchanged_on_error { OnErr result (out.new.items ≡ out.old.items) }
+    {
+        append_response(self, correlation, request, out)
     }
 }

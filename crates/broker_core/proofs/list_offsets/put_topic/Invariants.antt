@@ -10,5 +10,5 @@ use Rattle.broker_core.proofs.list_offsets.put_topic.Given as goal
 abbrev pub invariant-loop-entry : goal.invariant-loop-entry
 invariant-loop-entry g l =
     (l.out.items ++ flat_map listed_bytes (map (listed_entry l.node l.topic.name.now) (values list_offsets_partition l.entry-iterator))
-        ≡ l.fn.out.items ++ topic_bytes listed_bytes (listed_topic l.fn.node (l.fn.topic.name.now, (values list_offsets_partition l.fn.topic.partitions, tt))))
+    ≡ l.fn.out.items ++ topic_bytes listed_bytes (listed_topic l.fn.node (l.fn.topic.name.now, (values list_offsets_partition l.fn.topic.partitions, tt))))
     × Begins l.fn.out.items l.out.items

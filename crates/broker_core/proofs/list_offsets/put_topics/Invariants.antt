@@ -11,5 +11,5 @@ use Rattle.broker_core.proofs.list_offsets.put_topics.Given as goal
 abbrev pub invariant-loop-topic : goal.invariant-loop-topic
 invariant-loop-topic g l =
     (l.out.items ++ flat_map (topic_bytes listed_bytes) (map (listed_topic l.node) (values (topic list_offsets_partition) l.topic-iterator))
-        ≡ l.fn.out.items ++ flat_map (topic_bytes listed_bytes) (map (listed_topic l.fn.node) (values (topic list_offsets_partition) l.fn.topics)))
+    ≡ l.fn.out.items ++ flat_map (topic_bytes listed_bytes) (map (listed_topic l.fn.node) (values (topic list_offsets_partition) l.fn.topics)))
     × Begins l.fn.out.items l.out.items
