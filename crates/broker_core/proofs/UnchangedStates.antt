@@ -16,7 +16,7 @@ use Rattle.broker_core.specs.Work.{Work, answer, answer_after}
 use Rattle.broker_core.specs.Entries.{list_offsets_work}
 use Rattle.broker_core.specs.Plans.{over_entries, over_topics}
 use Rattle.broker_core.specs.Replies.{reply}
-use Rattle.broker_core.specs.Listings.{listed_topic, listed_topics}
+use Rattle.broker_core.specs.ListedOffsets.{listed_topic, listed_topics}
 
 map_twice : {X Y Z : Type 0} (f : X → Y) (g : Y → Z) (xs : List X) → map g (map f xs) ≡ map (λ x. g (f x)) xs
 map_twice f g [] = refl

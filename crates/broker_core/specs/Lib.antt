@@ -15,4 +15,5 @@ pub mod Partitions
 pub mod ConfigValues
 pub mod Taken
 pub mod Parts
-pub mod Listings
+pub mod Output
+pub mod ListedOffsets

@@ -2,7 +2,7 @@ use Rattle.std.proofs.Common.{sym, ap, ◌∙◌, ◌++◌}
 use Rattle.std.specs.Int.{w32}
 use Rattle.std.proofs.lemmas.Int.{to_z-of_z}
 use Rattle.request_frames.specs.Responses.{response, list_offsets_response, list_offsets_value}
-use Rattle.broker_core.specs.Listings.{listed_topics}
+use Rattle.broker_core.specs.ListedOffsets.{listed_topics}
 use Rattle.broker_core.specs.Streams.{sent}
 use Rattle.broker_core.proofs.UnchangedStates.{on_ok, listing_is_reply}
 use Rattle.broker_core.proofs.node.Node.list_offsets.Goals as goal

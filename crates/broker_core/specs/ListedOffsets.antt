@@ -1,5 +1,5 @@
 -- ListOffsets: the request as a value, and the response as the code goes.
-use Rattle.std.specs.Prelude.{◌≡◌, ℕ, ℤ, List, ◌++◌, map}
+use Rattle.std.specs.Prelude.{ℕ, ℤ, List, map}
 use Rattle.request_frames.specs.declared.response.list_offsets.ListedPartition.{ListedPartition}
 use Rattle.request_frames.specs.declared.requests.ListOffsetsRequest.{ListOffsetsRequest}
 use Rattle.request_frames.specs.Arrays.{values}
@@ -11,10 +11,6 @@ use Rattle.request_frames.specs.Requests.{RequestValue, list_offsets_partition, 
 use Rattle.broker_core.specs.State.{State}
 use Rattle.broker_core.specs.Work.{answer}
 use Rattle.broker_core.specs.Entries.{list_offsets_work}
-
--- what was there stands in front
-abbrev pub Begins : List ℕ → List ℕ → Type 0
-Begins old new = (more : List ℕ) × (new ≡ old ++ more)
 
 abbrev pub listed_entry : State → List ℕ → Value list_offsets_partition → ListedPartition
 listed_entry s name e = (answer (list_offsets_work s name (list_offsets_partition_value e)) s).0
