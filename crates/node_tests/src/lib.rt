@@ -4,6 +4,8 @@
 #[cfg(test)]
 mod configs;
 #[cfg(test)]
+mod list_offsets;
+#[cfg(test)]
 mod logs;
 #[cfg(test)]
 mod memory;
