@@ -6,3 +6,5 @@ pub mod OneContent
 pub mod Names
 pub mod NewTopics
 pub mod NewStates
+pub mod Written
+pub mod UnchangedStates

@@ -15,3 +15,5 @@ pub mod Partitions
 pub mod ConfigValues
 pub mod Taken
 pub mod Parts
+pub mod Output
+pub mod ListedOffsets

@@ -12,11 +12,13 @@
 
 mod codes;
 mod config;
+mod entries;
 mod error;
 pub mod examples;
 mod judging;
 mod laws;
 mod limits;
+mod list_offsets;
 mod node;
 mod partition;
 

@@ -177,4 +177,11 @@ impl<S: BatchStore> Node<S> {
             None => None,
         }
     }
+
+    /// What the broker is to its partitions.
+    pub(crate) fn role(&self) -> Role
+        ensures { result ≡ self.now.config.role }
+    {
+        self.config.role
+    }
 }

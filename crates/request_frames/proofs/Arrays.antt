@@ -1,5 +1,5 @@
 -- An array read element by element.
-use Rattle.std.proofs.Common.{◌≡◌, ℕ, zero, suc, ◌+◌, ◌-◌, ◌<◌, ◌≤◌, List, [], ◌∷◌, Result, Ok, Err, refl, ap, sym, ◌∙◌, arith}
+use Rattle.std.proofs.Common.{◌≡◌, ℕ, zero, suc, ◌+◌, ◌-◌, ◌<◌, ◌≤◌, List, [], ◌∷◌, length, Result, Ok, Err, refl, ap, sym, ◌∙◌, arith}
 use Rattle.request_frames.specs.declared.error.FieldFault.{FieldFault}
 use Rattle.request_frames.specs.Reading.{At, map_ok, map_read, then_read, read_times}
 use Rattle.request_frames.specs.Arrays.{first_and, elements_at}
@@ -77,6 +77,30 @@ module _ {X : Type 0} (read : List ℕ → At X) where
 
   pub fault_read : (n : ℕ) (bytes : List ℕ) (e : FieldFault) → map_ok (λ p. p.1) (read_times read n bytes) ≡ Err e → read_times read n bytes ≡ Err e
   fault_read n bytes e h = fault_kept (λ p. p.1) (read_times read n bytes) e h
+
+  more_of : (n : ℕ) (bytes : List ℕ) (x : X) (next : List ℕ) → read bytes ≡ Ok (x, next) → length (elements_at read (suc n) bytes) ≡ suc (length (elements_at read n next))
+  unfolding elements_at
+  more_of n bytes x next found = ap (λ r. length (first_and r (elements_at read n))) found
+
+  pub count_one_more : (n i total : ℕ) (bytes : List ℕ) (x : X) (next : List ℕ) → i < n → read bytes ≡ Ok (x, next)
+      → i + length (elements_at read (n - i) bytes) ≡ total → (i + 1) + length (elements_at read (n - (i + 1)) next) ≡ total
+  count_one_more n i total bytes x next lt found so_far =
+      let k : n - i ≡ suc (n - (i + 1)) = omega arith in
+      let one : length (elements_at read (n - i) bytes) ≡ suc (length (elements_at read (n - (i + 1)) next)) = rw k (more_of (n - (i + 1)) bytes x next found) in
+      omega (arith, one, so_far)
+
+  pub count_at_fault : (n i total : ℕ) (bytes : List ℕ) (e : FieldFault) → read bytes ≡ Err e → i + length (elements_at read (n - i) bytes) ≡ total → i ≡ total
+  count_at_fault n i total bytes e fault so_far =
+      let none : length (elements_at read (n - i) bytes) ≡ 0 = ap length (none_read (n - i) bytes e fault) in
+      omega (arith, none, so_far)
+
+  pub count_at_end : (n i total : ℕ) (bytes : List ℕ) → i ≡ n → i + length (elements_at read (n - i) bytes) ≡ total → n ≡ total
+  count_at_end n i total bytes e so_far =
+      let none : length (elements_at read (n - i) bytes) ≡ 0 = ap length (none_left (n - i) bytes (omega arith)) in
+      omega (arith, none, so_far, e)
+
+-- the loop that counts an array's elements
+pub ruleset count_elements = (count_one_more, count_at_fault, count_at_end)
 
 -- an array's next element
 pub ruleset next_element = (none_left, none_read, one_read)

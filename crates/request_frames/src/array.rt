@@ -1,6 +1,6 @@
 //! Arrays of a frame, read again element by element from the frame's bytes.
 
-ghost use Rattle.std.specs.Prelude.{◌≡◌};
+ghost use Rattle.std.specs.Prelude.{◌≡◌, length};
 ghost use Rattle.std.specs.Option.{option_map};
 ghost use Rattle.std.specs.Iterator.{YieldsFirstBy, item_count};
 ghost use Rattle.request_frames.specs.Reading.{Gives, map_ok, read_array, read_array_or_null, read_count, read_times, read_fields};
@@ -56,6 +56,23 @@ impl<'a, E> Array<'a, E> {
             bytes: self.bytes,
             element: PhantomData,
         }
+    }
+}
+
+impl<'a, E: Element<'a> + Drop> Array<'a, E> {
+    /// How many elements are left. It reads them, and takes no memory.
+    #[tactic(auto, using(crate::proofs::Arrays::count_elements))]
+    pub fn len(&self) -> u32
+        ensures { result ≡ length (values E.fields self.now) }
+    {
+        let mut rest = self.bytes;
+        for count in 0..self.left {
+            rest = match E::read(rest) {
+                Ok((_element, next)) => next,
+                Err(_) => return count,
+            };
+        }
+        self.left
     }
 }
 
