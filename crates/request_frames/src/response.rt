@@ -116,7 +116,8 @@ fn set_size(bytes: &mut [u8], start: usize)
 }
 
 /// Finishes the response that begins at byte `start` of the output, by setting its size to the
-/// number of bytes behind the size. Of more than `MAX_BODY_BYTES` the size can't be read.
+/// number of bytes behind the size. Of more than `MAX_BODY_BYTES` the size can't be read. The four
+/// bytes of the size must be there, as they are once `begin_response` has answered `Ok` at `start`.
 pub fn finish_response<A: Allocator + Copy>(out: &mut Vec<u8, A>, start: usize)
     requires { start + 4 ≤ vec_len out.old }
     ensures frames { (front size body : List ℕ) → out.old.items ≡ front ++ (size ++ body)
@@ -131,7 +132,8 @@ pub fn finish_response<A: Allocator + Copy>(out: &mut Vec<u8, A>, start: usize)
     set_size(out, start);
 }
 
-/// Sets the count at byte `at` of the output, where one was written before it was known.
+/// Sets the count at byte `at` of the output, where one was written before it was known. Its four
+/// bytes must be there.
 pub fn set_count<A: Allocator + Copy>(out: &mut Vec<u8, A>, at: usize, count: u32)
     requires { at + 4 ≤ vec_len out.old }
     ensures sets { (front field rest : List ℕ) → out.old.items ≡ front ++ (field ++ rest)

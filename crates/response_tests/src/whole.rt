@@ -13,7 +13,9 @@ use request_frames::response::metadata::{
     begin_metadata, begin_metadata_topic, put_metadata_partition,
 };
 use request_frames::response::produce::{begin_produce, end_produce, put_produced_partition};
-use request_frames::response::{begin_response, begin_topic, finish_response};
+use request_frames::response::{
+    RESPONSE_HEAD_BYTES, begin_response, begin_topic, finish_response, set_count,
+};
 use std::alloc::{AllocError, Allocator};
 use std::test::Fail;
 
@@ -185,9 +187,11 @@ fn put_list_offsets_of_one<A: Allocator + Copy>(out: &mut Vec<u8, A>) -> Result<
         offset: 0,
     };
     begin_response(out, 7)?;
-    begin_list_offsets(out, 1)?;
+    begin_list_offsets(out, 0)?;
     begin_topic(out, b"t", 1)?;
     put_listed_partition(out, partition)?;
+    // The count of topics, once it is known.
+    set_count(out, start + RESPONSE_HEAD_BYTES, 1);
     finish_response(out, start);
     Ok(())
 }
