@@ -4,7 +4,7 @@ use Rattle.std.specs.Prelude.{map}
 use Rattle.std.specs.List.{flat_map}
 use Rattle.std.proofs.lemmas.List.{length-map, length-append}
 use Rattle.request_frames.specs.Responses.{response_head, topic_head, topic_bytes}
-use Rattle.broker_core.specs.Output.{Begins}
+use Rattle.batch_codec.specs.Writing.{Begins}
 
 pub begins_same : (a b : List ℕ) → b ≡ a → Begins a b
 begins_same a b e = ([], e ∙ sym (append-nil a))

@@ -15,5 +15,4 @@ pub mod Partitions
 pub mod ConfigValues
 pub mod Taken
 pub mod Parts
-pub mod Output
 pub mod ListedOffsets

@@ -7,7 +7,7 @@ ghost use Rattle.request_frames.specs.Types.{topic};
 ghost use Rattle.request_frames.specs.Arrays.{values};
 ghost use Rattle.request_frames.specs.Requests.{list_offsets_partition};
 ghost use Rattle.request_frames.specs.Responses.{response, response_head, topic_bytes, listed_bytes, list_offsets_response, list_offsets_value};
-ghost use Rattle.broker_core.specs.Output.{Begins};
+ghost use Rattle.batch_codec.specs.Writing.{Begins};
 ghost use Rattle.broker_core.specs.ListedOffsets.{listed_topic, listed_topics, listing_request};
 ghost use Rattle.broker_core.specs.Replies.{reply};
 ghost use Rattle.broker_core.specs.Streams.{sent};

@@ -4,7 +4,7 @@ use Rattle.std.specs.List.{flat_map}
 use Rattle.request_frames.specs.Arrays.{values}
 use Rattle.request_frames.specs.Requests.{list_offsets_partition}
 use Rattle.request_frames.specs.Responses.{topic_bytes, listed_bytes}
-use Rattle.broker_core.specs.Output.{Begins}
+use Rattle.batch_codec.specs.Writing.{Begins}
 use Rattle.broker_core.specs.ListedOffsets.{listed_entry, listed_topic}
 use Rattle.broker_core.proofs.list_offsets.put_topic.Given as goal
 
