@@ -10,6 +10,8 @@ pub mod Listing
 pub mod Plans
 pub mod Replies
 pub mod Streams
+pub mod Handling
+pub mod Sessions
 pub mod Examples
 pub mod Partitions
 pub mod ConfigValues
