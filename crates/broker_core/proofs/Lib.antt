@@ -2,9 +2,15 @@ pub mod AnsweredFrames
 pub mod AnswersOfAll
 pub mod PlannedReplies
 pub mod AppendFaults
+pub mod LogAppends
+pub mod StoredBatches
+pub mod ProducedEntries
 pub mod OneContent
 pub mod Names
 pub mod NewTopics
 pub mod NewStates
+pub mod PlacedTopics
 pub mod Written
 pub mod UnchangedStates
+pub mod AnswersSoFar
+pub mod ProducedReplies

@@ -13,6 +13,9 @@ pub mod Streams
 pub mod Handling
 pub mod Sessions
 pub mod Examples
+pub mod Appending
+pub mod Producing
+pub mod ProducedRoom
 pub mod Partitions
 pub mod ConfigValues
 pub mod Taken

@@ -25,6 +25,7 @@ mod metadata;
 mod node;
 mod partition;
 mod produce;
+mod producing;
 mod session;
 
 pub use codes::ErrorCode;

@@ -1,20 +1,23 @@
 //! A broker: its configuration, and the partitions of its topics.
 
-ghost use Rattle.std.specs.Prelude.{◌≡◌, IfOk, IfErr, map, replicate, bytes_eq};
+ghost use Rattle.std.specs.Prelude.{◌≡◌, true, is_some, IfOk, IfErr, map, replicate, position, bytes_eq};
 ghost use Rattle.std.specs.List.{find};
 ghost use Rattle.std.specs.Option.{option_map, option_and_then};
 ghost use Rattle.content.specs.Content.{empty};
-ghost use Rattle.broker_core.specs.State.{new_state, all_topics, partition_of, partition_at};
+ghost use Rattle.broker_core.specs.State.{new_state, all_topics, partition_of, partition_at, is_known};
+ghost use Rattle.broker_core.specs.Appending.{AppendsIn, AppendsAt};
+ghost use Rattle.broker_core.specs.declared.config.Role.TheVariants.{Leader};
 ghost use Rattle.broker_core.specs.Configs.{IsValidConfig, ConfigFault};
 ghost use Rattle.broker_core.specs.ConfigValues.{config_value, topic_config};
-ghost use Rattle.broker_core.specs.Parts.{new_parts, topic_contents};
+ghost use Rattle.broker_core.specs.Parts.{new_parts, topic_contents, topic_shape, HasRole};
 
 use crate::config::{Config, Role};
 use crate::error::ConfigError;
 use crate::judging::config_fault;
 use crate::limits::GROUP_TOPIC;
 use crate::partition::Partition;
-use partition_log::PartitionLog;
+use batch_codec::BatchView;
+use partition_log::{AppendError, Appended, PartitionLog};
 use segment::BatchStore;
 use std::alloc::AllocError;
 use std::marker::Model;
@@ -45,6 +48,27 @@ impl<S: BatchStore> TopicLogs<S> {
         }
         self.partitions.get(number as usize)
     }
+
+    /// Appends a batch to a partition that is there.
+    fn append(&mut self, number: i32, batch: &BatchView<'_>) -> Result<Appended, AppendError>
+        requires is_there { is_some (partition_of number (topic_contents self.old)) ≡ true }
+        requires leads { HasRole Leader self.old }
+        ensures appends { AppendsIn (topic_contents self.old) number batch.now result
+            (topic_contents self.new) }
+        ensures shape { topic_shape self.new ≡ topic_shape self.old }
+        ensures roles { HasRole Leader self.new }
+    {
+        self.partitions[number as usize].append(batch)
+    }
+}
+
+/// The place of the topic of a name.
+fn place_of<S: BatchStore>(topics: &[TopicLogs<S>], name: &[u8]) -> Option<usize>
+    ensures { result ≡ position (λ t. bytes_eq t.name name.now) topics.now }
+{
+    topics
+        .iter()
+        .position(|topic| topic.name.as_slice() == name)
 }
 
 /// The topic of a name.
@@ -183,5 +207,26 @@ impl<S: BatchStore> Node<S> {
         ensures { result ≡ self.now.config.role }
     {
         self.config.role
+    }
+
+    /// Appends a batch to a partition that the broker leads.
+    ///
+    /// # Errors
+    ///
+    /// The first fault of the batch; nothing changes.
+    pub(crate) fn append(
+        &mut self,
+        topic: &[u8],
+        partition: i32,
+        batch: &BatchView<'_>,
+    ) -> Result<Appended, AppendError>
+        requires is_known { is_known self.old topic.now partition ≡ true }
+        requires leads { self.old.config.role ≡ Leader }
+        ensures { AppendsAt self.old topic.now partition batch.now result self.new }
+    {
+        let Some(place) = place_of(&self.topics, topic) else {
+            unreachable!()
+        };
+        self.topics[place].append(partition, batch)
     }
 }
