@@ -18,3 +18,4 @@ pub mod ConfigValues
 pub mod Taken
 pub mod Parts
 pub mod ListedOffsets
+pub mod FetchedTopics
