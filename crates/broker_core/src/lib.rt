@@ -16,6 +16,7 @@ mod entries;
 mod error;
 pub mod examples;
 mod fetch;
+mod fetching;
 mod handling;
 mod judging;
 mod laws;
@@ -25,6 +26,7 @@ mod metadata;
 mod node;
 mod partition;
 mod produce;
+mod room;
 mod session;
 
 pub use codes::ErrorCode;
