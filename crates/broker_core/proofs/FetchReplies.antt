@@ -3,11 +3,11 @@ use Rattle.std.proofs.Common.{◌≡◌, ℕ, suc, ℤ, List, [], ◌∷◌, ◌
 use Rattle.std.specs.Prelude.{map}
 use Rattle.std.specs.List.{flat_map}
 use Rattle.request_frames.specs.declared.requests.FetchRequest.{FetchRequest}
-use Rattle.request_frames.specs.Types.{topic}
-use Rattle.request_frames.specs.Fields.{Value}
-use Rattle.request_frames.specs.Arrays.{values}
+use Rattle.request_frames.specs.Types.{TopicOf, topic}
+use Rattle.request_frames.specs.Fields.{Value, encoded}
+use Rattle.request_frames.specs.Arrays.{ArrayBytes, values}
 use Rattle.request_frames.specs.Requests.{FetchPartitionValue, topic_request, fetch_partition, fetch_partition_value}
-use Rattle.request_frames.specs.Responses.{response, topic_head, topic_bytes, fetch_response, fetch_value}
+use Rattle.request_frames.specs.Responses.{response, topic_head, topic_bytes, Fetched, fetched_bytes, fetch_head, fetch_response, fetch_value}
 use Rattle.request_frames.specs.Views.{fetch_view}
 use Rattle.broker_core.specs.Lists.{map_accum}
 use Rattle.broker_core.specs.State.{State}
@@ -69,3 +69,17 @@ module _ (s : State) where
   pub fetch_is_reply : (correlation : ℤ) (q : FetchRequest)
       → reply s (fetching_request correlation q) ≡ (Some (response correlation fetch_response (fetch_value (fetched_topics s q))), s)
   fetch_is_reply correlation q = λ i. (Some (response correlation fetch_response (fetch_value (topics_fetched q i))), s)
+
+-- behind a response's head, what comes before the topics and the topics give the fields
+pub fetch_written : (s : State) (q : FetchRequest) (room : FetchRoom) (topics : ArrayBytes) (begun headed out : List ℕ) (n : ℕ) → room ≡ first_room q.max_bytes → topics ≡ q.topics
+    → n ≡ length (values (topic fetch_partition) q.topics)
+    → ((ts : List (TopicOf Fetched)) → encoded fetch_response (fetch_value ts) ≡ fetch_head (length ts) ++ flat_map (topic_bytes fetched_bytes) ts)
+    → headed ≡ begun ++ fetch_head n → out ≡ headed ++ flat_map (topic_bytes fetched_bytes) (map_accum (fetched_topic s) room (values (topic fetch_partition) topics)).0
+    → out ≡ begun ++ encoded fetch_response (fetch_value (fetched_topics s q))
+fetch_written s q room topics begun headed out n first all counts parts heads written =
+    let ts = fetched_topics s q in
+    let same : n ≡ length ts = counts ∙ sym (accum_length (fetched_topic s) (first_room q.max_bytes) (values (topic fetch_partition) q.topics)) in
+    written ∙ (λ i. headed ++ flat_map (topic_bytes fetched_bytes) (map_accum (fetched_topic s) (first i) (values (topic fetch_partition) (all i))).0)
+    ∙ ap (λ (x : List ℕ). x ++ flat_map (topic_bytes fetched_bytes) ts) (heads ∙ ap (λ (k : ℕ). begun ++ fetch_head k) same)
+    ∙ append_assoc begun (fetch_head (length ts)) (flat_map (topic_bytes fetched_bytes) ts)
+    ∙ ap (λ (x : List ℕ). begun ++ x) (sym (parts ts))

@@ -10,8 +10,8 @@ use Rattle.broker_core.proofs.fetch.put_topic.Given as goal
 
 abbrev pub invariant-loop-entry : goal.invariant-loop-entry
 invariant-loop-entry g l =
-    let topic = (l.fn.topic.name.now, (values fetch_partition l.fn.topic.partitions, tt)) in
-    let left = map_accum (fetched_entry l.node l.topic.name.now) l.room (values fetch_partition l.entry-iterator) in
-    (l.out.items ++ flat_map fetched_bytes left.0 ≡ l.fn.out.items ++ topic_bytes fetched_bytes (fetched_topic l.fn.node l.fn.room topic).0)
-    × (left.1 ≡ (fetched_topic l.fn.node l.fn.room topic).1)
+    (l.out.items ++ flat_map fetched_bytes (map_accum (fetched_entry l.node l.topic.name.now) l.room (values fetch_partition l.entry-iterator)).0
+    ≡ l.fn.out.items ++ topic_bytes fetched_bytes (fetched_topic l.fn.node l.fn.room (l.fn.topic.name.now, (values fetch_partition l.fn.topic.partitions, tt))).0)
+    × ((map_accum (fetched_entry l.node l.topic.name.now) l.room (values fetch_partition l.entry-iterator)).1
+    ≡ (fetched_topic l.fn.node l.fn.room (l.fn.topic.name.now, (values fetch_partition l.fn.topic.partitions, tt))).1)
     × Begins l.fn.out.items l.out.items
