@@ -10,3 +10,6 @@ pub mod Written
 pub mod UnchangedStates
 pub mod Runs
 pub mod FetchReplies
+pub mod Shapes
+pub mod Listings
+pub mod EachOnce

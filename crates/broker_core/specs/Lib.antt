@@ -19,3 +19,5 @@ pub mod Taken
 pub mod Parts
 pub mod ListedOffsets
 pub mod FetchedTopics
+pub mod AskedTopics
+pub mod NameSets

@@ -10,6 +10,7 @@
 //! what is done where all pass, and what is answered where one fails.
 #![tactic(auto)]
 
+mod asked;
 mod codes;
 mod config;
 mod entries;
@@ -21,6 +22,7 @@ mod handling;
 mod judging;
 mod laws;
 mod limits;
+mod listing;
 mod list_offsets;
 mod metadata;
 mod node;
