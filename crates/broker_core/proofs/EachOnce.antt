@@ -34,8 +34,8 @@ in_by_equal : (names : Names) (name other : List ℕ) → is_in names name ≡ t
 in_by_equal names name other there = by (bytes_eq other name) refl
   where
     by : (b : Bool) → bytes_eq other name ≡ b → (not (is_in names other) && not b) ≡ not (is_in names other)
-    by true e = let has : is_in names other ≡ true = ap (is_in names) (same_name other name e) ∙ there in grind (has)
-    by false e = grind (e)
+    by true e = let has : is_in names other ≡ true = ap (is_in names) (same_name other name e) ∙ there in grind (arith, has)
+    by false e = grind (arith, e)
 
 not_either : (a b : Bool) → (not a && not b) ≡ not (a || b)
 not_either true b = refl
