@@ -14,3 +14,8 @@ pub mod Written
 pub mod UnchangedStates
 pub mod AnswersSoFar
 pub mod ProducedReplies
+pub mod Runs
+pub mod FetchReplies
+pub mod Shapes
+pub mod Listings
+pub mod EachOnce

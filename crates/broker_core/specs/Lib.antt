@@ -21,3 +21,6 @@ pub mod ConfigValues
 pub mod Taken
 pub mod Parts
 pub mod ListedOffsets
+pub mod FetchedTopics
+pub mod AskedTopics
+pub mod NameSets

@@ -10,22 +10,26 @@
 //! what is done where all pass, and what is answered where one fails.
 #![tactic(auto)]
 
+mod asked;
 mod codes;
 mod config;
 mod entries;
 mod error;
 pub mod examples;
 mod fetch;
+mod fetching;
 mod handling;
 mod judging;
 mod laws;
 mod limits;
+mod listing;
 mod list_offsets;
 mod metadata;
 mod node;
 mod partition;
 mod produce;
 mod producing;
+mod room;
 mod session;
 
 pub use codes::ErrorCode;
