@@ -8,3 +8,4 @@ pub mod NewTopics
 pub mod NewStates
 pub mod Written
 pub mod UnchangedStates
+pub mod HandledReplies
