@@ -10,6 +10,7 @@
 //! what is done where all pass, and what is answered where one fails.
 #![tactic(auto)]
 
+mod answering;
 mod codes;
 mod config;
 mod entries;
@@ -25,6 +26,7 @@ mod metadata;
 mod node;
 mod partition;
 mod produce;
+mod receiving;
 mod session;
 
 pub use codes::ErrorCode;

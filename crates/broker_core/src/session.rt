@@ -3,7 +3,10 @@
 ghost use Rattle.std.specs.Prelude.{IfOk, IfErr};
 ghost use Rattle.broker_core.specs.Sessions.{EndsAs, StopsAs};
 
+use crate::answering::answer_frames;
 use crate::node::Node;
+use crate::receiving::read_more;
+use bytes::BytesMut;
 use request_frames::FrameError;
 use segment::BatchStore;
 use std::alloc::Allocator;
@@ -37,6 +40,13 @@ pub enum SessionError {
     OutOfMemory,
 }
 
+/// The most reads of one session.
+const MAX_READS: u64 = 4_294_967_296;
+
+/// No read is made once so many frames were answered, so that their number can't overflow. They came
+/// in more bytes than `MAX_READS`.
+const MAX_FRAMES: u64 = 9_223_372_036_854_775_808;
+
 /// Answers the frames that come from the source, in order, each as soon as it is complete. Each reply
 /// goes to the sink before the next frame is handled.
 ///
@@ -53,5 +63,18 @@ pub fn serve<S: BatchStore, R: Read, W: Write, A: Allocator + Copy>(
     ensures ends { IfOk result (EndsAs node.old source.old source.new sink.old sink.new node.new) }
     ensures stops { IfErr result (StopsAs node.old source.old source.new sink.old sink.new node.new) }
 {
-    Err(SessionError::OutOfMemory)
+    let mut buffer = BytesMut::new(alloc);
+    let mut out = Vec::new(alloc);
+    let mut frames = 0;
+    for _ in 0..MAX_READS {
+        if frames >= MAX_FRAMES {
+            return Err(SessionError::Read);
+        }
+        if !read_more(source, &mut buffer)? {
+            let rest = buffer.len();
+            return Ok(Ended { frames, rest });
+        }
+        frames = answer_frames(node, &mut buffer, frames, sink, &mut out)?;
+    }
+    Err(SessionError::Read)
 }

@@ -1,0 +1,90 @@
+//! The complete frames among the bytes that a session holds, answered in turn.
+
+ghost use Rattle.std.specs.Prelude.{◌≡◌, ◌+◌, ◌^◌, ◌<◌, true, length, MatchBool, IfOk, IfErr, OnOk, OnErr};
+ghost use Rattle.std.specs.Io.KnownBytes.{Appends};
+ghost use Rattle.streams.specs.State.{LosesRest};
+ghost use Rattle.request_frames.specs.Frames.{IsIncomplete};
+ghost use Rattle.broker_core.specs.SessionSteps.{AnswersFront, StopsNext, StopsWithin};
+
+use crate::node::Node;
+use crate::session::SessionError;
+use bytes::BytesMut;
+use request_frames::{FrameError, parse, take_frame};
+use segment::BatchStore;
+use std::alloc::Allocator;
+use std::io::Write;
+use streams::{Failed, Sink};
+
+/// Writes a reply, if there is one. A sink of which a write has failed before isn't written again.
+fn send<W: Write>(sink: &mut Sink<W>, reply: &[u8]) -> Result<(), Failed>
+    ensures takes { OnOk result (Appends sink.old.taken sink.new.taken reply.now) }
+    ensures loses { OnErr result (LosesRest sink.old.taken sink.new.taken reply.now) }
+    ensures failed { OnErr result (sink.new.failed ≡ true) }
+{
+    if reply.is_empty() {
+        return Ok(());
+    }
+    if sink.failed() {
+        return Err(Failed);
+    }
+    sink.write_all(reply)
+}
+
+/// Answers the first frame, which has the number `index`, and tells whether it was complete.
+fn answer_next<S: BatchStore, W: Write, A: Allocator + Copy>(
+    node: &mut Node<S>,
+    buffer: &mut BytesMut<A>,
+    index: u64,
+    sink: &mut Sink<W>,
+    out: &mut Vec<u8, A>,
+) -> Result<bool, SessionError>
+    ensures answers { IfOk result (λ more. MatchBool more
+        (AnswersFront node.old node.new sink.old sink.new
+        buffer.old.items buffer.new.items index (index + 1))
+        ((node.new ≡ node.old) × (sink.new ≡ sink.old)
+        × (buffer.new ≡ buffer.old) × IsIncomplete buffer.new.items)) }
+    ensures stops { IfErr result (StopsNext node.old node.new sink.old sink.new
+        buffer.old.items index) }
+{
+    let frame = match take_frame(buffer) {
+        Ok(Some(frame)) => frame,
+        Ok(None) => return Ok(false),
+        Err(FrameError::OutOfMemory) => return Err(SessionError::OutOfMemory),
+        Err(why) => return Err(SessionError::Frame { index, why }),
+    };
+    let request = match parse(frame.as_slice()) {
+        Ok(request) => request,
+        Err(why) => return Err(SessionError::Frame { index, why }),
+    };
+    out.clear();
+    if node.handle(&request, out).is_err() {
+        return Err(SessionError::OutOfMemory);
+    }
+    if send(sink, out).is_err() {
+        return Err(SessionError::Write);
+    }
+    Ok(true)
+}
+
+/// Answers each complete frame, the first of which has the number `first`. Gives the number of the
+/// incomplete one that is left.
+pub(crate) fn answer_frames<S: BatchStore, W: Write, A: Allocator + Copy>(
+    node: &mut Node<S>,
+    buffer: &mut BytesMut<A>,
+    first: u64,
+    sink: &mut Sink<W>,
+    out: &mut Vec<u8, A>,
+) -> Result<u64, SessionError>
+    requires fits { first + length buffer.old.items < 2 ^ 64 }
+    ensures answers { IfOk result (λ index. AnswersFront node.old node.new sink.old sink.new
+        buffer.old.items buffer.new.items first index) }
+    ensures incomplete { OnOk result (IsIncomplete buffer.new.items) }
+    ensures stops { IfErr result (StopsWithin node.old node.new sink.old sink.new
+        buffer.old.items first) }
+{
+    let mut index = first;
+    while answer_next(node, buffer, index, sink, out)? {
+        index += 1;
+    }
+    Ok(index)
+}
