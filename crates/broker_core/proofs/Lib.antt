@@ -9,3 +9,4 @@ pub mod NewStates
 pub mod Written
 pub mod UnchangedStates
 pub mod HandledReplies
+pub mod ServedFrames

@@ -57,12 +57,12 @@ fn answer_next<S: BatchStore, W: Write, A: Allocator + Copy>(
         Err(why) => return Err(SessionError::Frame { index, why }),
     };
     out.clear();
-    if node.handle(&request, out).is_err() {
+    let Ok(_) = node.handle(&request, out) else {
         return Err(SessionError::OutOfMemory);
-    }
-    if send(sink, out).is_err() {
+    };
+    let Ok(()) = send(sink, out) else {
         return Err(SessionError::Write);
-    }
+    };
     Ok(true)
 }
 

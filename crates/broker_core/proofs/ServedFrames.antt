@@ -1,0 +1,112 @@
+-- Frames that a session holds: the first one answered, some and then others, and how many they can be.
+use Rattle.std.proofs.Common.{◌≡◌, ℕ, ◌+◌, ◌≤◌, arith, Bool, true, false, List, [], ◌∷◌, ◌++◌, length, Result, Ok, Err, inl, refl, sym, ap, subst, ◌∙◌, append_assoc, append-nil}
+use Rattle.std.specs.Prelude.{pos, is_err, IfOk, OnOk, OnErr}
+use Rattle.std.specs.List.{flat_map, AllByRecursion}
+use Rattle.std.specs.Io.KnownBytes.{Appends}
+use Rattle.std.proofs.KnownBytes.{Appends-nil, Appends-trans}
+use Rattle.std.proofs.lemmas.Grind.{flat_map-append}
+use Rattle.std.proofs.lemmas.List.{length-append}
+use Rattle.streams.specs.State.{SinkState, LosesRest}
+use Rattle.request_frames.specs.Fields.{size32, be}
+use Rattle.request_frames.specs.Frames.{framed, stream, IsWithinLimit, IsFrames, IsFirstFrame}
+use Rattle.request_frames.specs.Requests.{RequestValue, IsRequest}
+use Rattle.broker_core.specs.declared.handling.Answer.{Answer}
+use Rattle.broker_core.specs.State.{State}
+use Rattle.broker_core.specs.Streams.{sent, IsAnswered, AreAnswered, Answered}
+use Rattle.broker_core.specs.Handling.{Handles}
+use Rattle.broker_core.specs.SessionSteps.{AnswersFront, CutsFirst, StopsNext, StopsWithin}
+
+-- ---- one frame
+
+-- what was handled into an empty output answers the frame
+pub frame_answered : (s after : State) (frame slice cleared out reply : List ℕ) (q : RequestValue) (answer : Answer)
+    → slice ≡ frame → IsRequest slice q → cleared ≡ [] → Handles s q cleared out answer after → reply ≡ out → IsAnswered s frame reply after
+frame_answered s after frame slice cleared out reply q answer same reads empty h is = record {
+  request = q;
+  response = h.response;
+  reads = subst (λ bytes. IsRequest bytes q) same reads;
+  replies = h.replies;
+  sends = is ∙ h.appends ∙ ap (λ (x : List ℕ). x ++ sent h.response) empty;
+}
+
+one_cut : (held frame rest : List ℕ) → IsFirstFrame frame held rest → IsFrames held (frame ∷ []) rest
+one_cut held frame rest first = record {
+  parts = first.parts ∙ ap (λ (x : List ℕ). x ++ rest) (sym (append-nil (framed frame)));
+  within = (first.within, tt);
+}
+
+-- the first frame is answered, and the sink took its reply
+pub first_answered : (s after : State) (sink sink' : SinkState) (held frame rest reply : List ℕ) (index : ℕ)
+    → IsFirstFrame frame held rest → IsAnswered s frame reply after → Appends sink.taken sink'.taken reply
+    → AnswersFront s after sink sink' held rest index (index + 1)
+first_answered s after sink sink' held frame rest reply index first answered takes = record {
+  frames = frame ∷ [];
+  output = reply;
+  takes = takes;
+  answers = record {
+    cut = one_cut held frame rest first;
+    answers = (reply, [], after, answered, sym (append-nil reply), (refl, refl));
+  };
+  counts = refl;
+}
+
+-- ---- frames, and then others
+
+all_append : {X : Type 0} (P : X → Type 0) (xs ys : List X) → AllByRecursion P xs → AllByRecursion P ys → AllByRecursion P (xs ++ ys)
+all_append P [] ys a b = b
+all_append P (x ∷ xs) ys a b = (a.0, all_append P xs ys a.1 b)
+
+cut_append : (held mid rest : List ℕ) (fs gs : List (List ℕ)) → IsFrames held fs mid → IsFrames mid gs rest → IsFrames held (fs ++ gs) rest
+cut_append held mid rest fs gs a b = record {
+  parts = a.parts ∙ ap (λ (x : List ℕ). stream fs ++ x) b.parts ∙ sym (append_assoc (stream fs) (stream gs) rest) ∙ ap (λ (x : List ℕ). x ++ rest) (sym (flat_map-append framed fs gs));
+  within = all_append (λ frame. IsWithinLimit (pos (length frame))) fs gs a.within b.within;
+}
+
+answered_append : (s m after : State) (fs gs : List (List ℕ)) (out more : List ℕ) → AreAnswered s fs out m → AreAnswered m gs more after → AreAnswered s (fs ++ gs) (out ++ more) after
+answered_append s m after [] gs out more a b =
+    subst (λ x. AreAnswered s gs (x ++ more) after) (sym a.0) (subst (λ x. AreAnswered x gs more after) (sym a.1) b)
+answered_append s m after (f ∷ fs) gs out more a b = (
+  a.0,
+  a.1 ++ more,
+  a.2,
+  a.3,
+  ap (λ (x : List ℕ). x ++ more) a.4 ∙ append_assoc a.0 a.1 more,
+  answered_append a.2 m after fs gs a.1 more a.5 b,
+)
+
+pub front_none : (s : State) (sink : SinkState) (held : List ℕ) (count : ℕ) → AnswersFront s s sink sink held held count count
+front_none s sink held count = record {
+  frames = [];
+  output = [];
+  takes = Appends-nil sink.taken;
+  answers = record { cut = record { parts = refl; within = tt }; answers = (refl, refl) };
+  counts = omega arith;
+}
+
+pub front_then : (s m after : State) (sink mid_sink sink' : SinkState) (held mid rest : List ℕ) (a b c : ℕ)
+    → AnswersFront s m sink mid_sink held mid a b → AnswersFront m after mid_sink sink' mid rest b c → AnswersFront s after sink sink' held rest a c
+front_then s m after sink mid_sink sink' held mid rest a b c p q = record {
+  frames = p.frames ++ q.frames;
+  output = p.output ++ q.output;
+  takes = Appends-trans sink.taken mid_sink.taken sink'.taken p.output q.output p.takes q.takes;
+  answers = record {
+    cut = cut_append held mid rest p.frames q.frames p.answers.cut q.answers.cut;
+    answers = answered_append s m after p.frames q.frames p.output q.output p.answers.answers q.answers.answers;
+  };
+  counts = omega (arith, p.counts, q.counts, length-append p.frames q.frames);
+}
+
+-- ---- how many they can be
+
+framed_length : (frame : List ℕ) → length (framed frame) ≡ 4 + length frame
+framed_length frame = length-append (be size32 (pos (length frame))) frame
+
+stream_length : (fs : List (List ℕ)) → length fs ≤ length (stream fs)
+stream_length [] = omega arith
+stream_length (f ∷ fs) = omega (arith, stream_length fs, length-append (framed f) (stream fs), framed_length f)
+
+-- a frame is held in four bytes at least, so there are fewer frames than bytes
+pub front_fits : (s after : State) (sink sink' : SinkState) (held rest : List ℕ) (a b : ℕ) → AnswersFront s after sink sink' held rest a b
+    → b + length rest ≤ a + length held
+front_fits s after sink sink' held rest a b p =
+    omega (arith, p.counts, stream_length p.frames, ap length p.answers.cut.parts, length-append (stream p.frames) rest)
