@@ -10,3 +10,4 @@ pub mod Written
 pub mod UnchangedStates
 pub mod HandledReplies
 pub mod ServedFrames
+pub mod ServedSessions

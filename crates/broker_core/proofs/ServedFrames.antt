@@ -1,5 +1,5 @@
 -- Frames that a session holds: the first one answered, some and then others, and how many they can be.
-use Rattle.std.proofs.Common.{◌≡◌, ℕ, ◌+◌, ◌≤◌, arith, Bool, true, false, List, [], ◌∷◌, ◌++◌, length, Result, Ok, Err, inl, refl, sym, ap, subst, ◌∙◌, append_assoc, append-nil}
+use Rattle.std.proofs.Common.{◌≡◌, ℕ, ◌+◌, ◌^◌, ◌<◌, ◌≤◌, arith, Fits, w64, Bool, true, false, List, [], ◌∷◌, ◌++◌, length, Result, Ok, Err, inl, refl, sym, ap, subst, ◌∙◌, append_assoc, append-nil}
 use Rattle.std.specs.Prelude.{pos, is_err, IfOk, OnOk, OnErr}
 use Rattle.std.specs.List.{flat_map, AllByRecursion}
 use Rattle.std.specs.Io.KnownBytes.{Appends}
@@ -11,6 +11,7 @@ use Rattle.request_frames.specs.Fields.{size32, be}
 use Rattle.request_frames.specs.Frames.{framed, stream, IsWithinLimit, IsFrames, IsFirstFrame}
 use Rattle.request_frames.specs.Requests.{RequestValue, IsRequest}
 use Rattle.broker_core.specs.declared.handling.Answer.{Answer}
+use Rattle.broker_core.specs.declared.session.SessionError.{SessionError}
 use Rattle.broker_core.specs.State.{State}
 use Rattle.broker_core.specs.Streams.{sent, IsAnswered, AreAnswered, Answered}
 use Rattle.broker_core.specs.Handling.{Handles}
@@ -29,7 +30,7 @@ frame_answered s after frame slice cleared out reply q answer same reads empty h
   sends = is ∙ h.appends ∙ ap (λ (x : List ℕ). x ++ sent h.response) empty;
 }
 
-one_cut : (held frame rest : List ℕ) → IsFirstFrame frame held rest → IsFrames held (frame ∷ []) rest
+pub one_cut : (held frame rest : List ℕ) → IsFirstFrame frame held rest → IsFrames held (frame ∷ []) rest
 one_cut held frame rest first = record {
   parts = first.parts ∙ ap (λ (x : List ℕ). x ++ rest) (sym (append-nil (framed frame)));
   within = (first.within, tt);
@@ -56,7 +57,7 @@ all_append : {X : Type 0} (P : X → Type 0) (xs ys : List X) → AllByRecursion
 all_append P [] ys a b = b
 all_append P (x ∷ xs) ys a b = (a.0, all_append P xs ys a.1 b)
 
-cut_append : (held mid rest : List ℕ) (fs gs : List (List ℕ)) → IsFrames held fs mid → IsFrames mid gs rest → IsFrames held (fs ++ gs) rest
+pub cut_append : (held mid rest : List ℕ) (fs gs : List (List ℕ)) → IsFrames held fs mid → IsFrames mid gs rest → IsFrames held (fs ++ gs) rest
 cut_append held mid rest fs gs a b = record {
   parts = a.parts ∙ ap (λ (x : List ℕ). stream fs ++ x) b.parts ∙ sym (append_assoc (stream fs) (stream gs) rest) ∙ ap (λ (x : List ℕ). x ++ rest) (sym (flat_map-append framed fs gs));
   within = all_append (λ frame. IsWithinLimit (pos (length frame))) fs gs a.within b.within;
@@ -110,3 +111,25 @@ pub front_fits : (s after : State) (sink sink' : SinkState) (held rest : List �
     → b + length rest ≤ a + length held
 front_fits s after sink sink' held rest a b p =
     omega (arith, p.counts, stream_length p.frames, ap length p.answers.cut.parts, length-append (stream p.frames) rest)
+
+pub less_is_held : (s after : State) (sink sink' : SinkState) (held rest : List ℕ) (index : ℕ) → AnswersFront s after sink sink' held rest index (index + 1)
+    → length rest < length held
+less_is_held s after sink sink' held rest index p = omega (arith, front_fits s after sink sink' held rest index (index + 1) p)
+
+-- the number of the next frame has room too
+pub next_fits : (s m after : State) (sink mid_sink sink' : SinkState) (held mid rest : List ℕ) (first index : ℕ)
+    → AnswersFront s m sink mid_sink held mid first index → AnswersFront m after mid_sink sink' mid rest index (index + 1) → first + length held < 2 ^ 64
+    → Fits w64 (index + 1)
+next_fits s m after sink mid_sink sink' held mid rest first index p q fits =
+    record { fits = omega (arith, front_fits s m sink mid_sink held mid first index p, front_fits m after mid_sink sink' mid rest index (index + 1) q) }
+
+pub stops_then : (s m after : State) (sink mid_sink sink' : SinkState) (held rest : List ℕ) (first index : ℕ) (e : SessionError)
+    → AnswersFront s m sink mid_sink held rest first index → StopsNext m after mid_sink sink' rest index e → StopsWithin s after sink sink' held first e
+stops_then s m after sink mid_sink sink' held rest first index e front stops = record {
+  before = m;
+  sink_before = mid_sink;
+  rest = rest;
+  index = index;
+  front = front;
+  stops = stops;
+}
