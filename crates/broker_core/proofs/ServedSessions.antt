@@ -1,5 +1,5 @@
 -- A session, read by read: what it has answered so far, and how it ends or stops.
-use Rattle.std.proofs.Common.{◌≡◌, ◌⊎◌, inl, inr, ℕ, ◌+◌, ◌^◌, ◌<◌, ◌≤◌, arith, List, [], ◌∷◌, ◌++◌, length, refl, sym, ap, subst, ◌∙◌, append_assoc, append-nil}
+use Rattle.std.proofs.Common.{◌≡◌, ◌⊎◌, inl, inr, ℕ, ◌+◌, ◌^◌, ◌<◌, ◌≤◌, arith, List, [], ◌∷◌, ◌++◌, length, refl, sym, ap, subst, ◌∙◌, append_assoc, append-nil, Result, Ok, Err, IfErr}
 use Rattle.std.specs.Io.KnownBytes.{Consumes, Keeps, Appends, IsAtEnd}
 use Rattle.std.proofs.KnownBytes.{Consumes-nil, Consumes-trans, Consumes-kept, Appends-trans}
 use Rattle.std.proofs.lemmas.List.{length-append}
@@ -79,7 +79,7 @@ read_served s m after source mid source' sink mid_sink sink' held held' rest cou
 
 -- ---- how it ends
 
-session_of : (s after : State) (source source' : SourceState) (sink sink' : SinkState) (input held : List ℕ) (count : ℕ)
+abbrev session_of : (s after : State) (source source' : SourceState) (sink sink' : SinkState) (input held : List ℕ) (count : ℕ)
     → Consumes source.left source'.left input → AnswersFront s after sink sink' input held 0 count → Session s source source' sink sink' after
 session_of s after source source' sink sink' input held count leaves front = record {
   input = input;
@@ -165,3 +165,7 @@ answering_stops s m after source mid source' sink mid_sink sink' held held' coun
     let now = more_held s m source mid source' sink mid_sink held held' count reads p more in
     let front = front_then s m stops.before sink mid_sink stops.sink_before now.input held' stops.rest 0 count stops.index now.front stops.front in
     stops_at s stops.before after source source' sink stops.sink_before sink' now.input stops.rest stops.index e now.leaves front stops.stops
+
+pub if_err : {T E : Type 0} (P Q : E → Type 0) (r : Result T E) → ((e : E) → P e → Q e) → IfErr r P → IfErr r Q
+if_err P Q (Ok x) f p = p
+if_err P Q (Err e) f p = f e p

@@ -54,6 +54,7 @@ const MAX_FRAMES: u64 = 9_223_372_036_854_775_808;
 ///
 /// The first thing that stops the session. The frames before it were answered, and the broker is as
 /// they left it; at `Write` the frame whose reply was cut was handled too.
+#[tactic(auto, using(crate::proofs::ServedSessions::nothing_served))]
 pub fn serve<S: BatchStore, R: Read, W: Write, A: Allocator + Copy>(
     alloc: A,
     node: &mut Node<S>,
