@@ -1,21 +1,21 @@
 -- Frames that a session holds: the first one answered, some and then others, and how many they can be.
-use Rattle.std.proofs.Common.{◌≡◌, ℕ, ◌+◌, ◌^◌, ◌<◌, ◌≤◌, arith, Fits, w64, Bool, true, false, List, [], ◌∷◌, ◌++◌, length, Result, Ok, Err, inl, refl, sym, ap, subst, ◌∙◌, append_assoc, append-nil}
-use Rattle.std.specs.Prelude.{pos, is_err, IfOk, OnOk, OnErr}
-use Rattle.std.specs.List.{flat_map, AllByRecursion}
+use Rattle.std.proofs.Common.{◌≡◌, ℕ, ◌+◌, ◌^◌, ◌<◌, ◌≤◌, arith, Fits, w64, List, [], ◌∷◌, ◌++◌, length, refl, sym, ap, subst, ◌∙◌, append_assoc, append-nil}
+use Rattle.std.specs.Prelude.{pos}
+use Rattle.std.specs.List.{AllByRecursion}
 use Rattle.std.specs.Io.KnownBytes.{Appends}
 use Rattle.std.proofs.KnownBytes.{Appends-nil, Appends-trans}
 use Rattle.std.proofs.lemmas.Grind.{flat_map-append}
 use Rattle.std.proofs.lemmas.List.{length-append}
-use Rattle.streams.specs.State.{SinkState, LosesRest}
+use Rattle.streams.specs.State.{SinkState}
 use Rattle.request_frames.specs.Fields.{size32, be}
 use Rattle.request_frames.specs.Frames.{framed, stream, IsWithinLimit, IsFrames, IsFirstFrame}
 use Rattle.request_frames.specs.Requests.{RequestValue, IsRequest}
 use Rattle.broker_core.specs.declared.handling.Answer.{Answer}
 use Rattle.broker_core.specs.declared.session.SessionError.{SessionError}
 use Rattle.broker_core.specs.State.{State}
-use Rattle.broker_core.specs.Streams.{sent, IsAnswered, AreAnswered, Answered}
+use Rattle.broker_core.specs.Streams.{sent, IsAnswered, AreAnswered}
 use Rattle.broker_core.specs.Handling.{Handles}
-use Rattle.broker_core.specs.SessionSteps.{AnswersFront, CutsFirst, StopsNext, StopsWithin}
+use Rattle.broker_core.specs.SessionSteps.{AnswersFront, StopsNext, StopsWithin}
 
 -- ---- one frame
 

@@ -1,17 +1,15 @@
 -- A session, read by read: what it has answered so far, and how it ends or stops.
-use Rattle.std.proofs.Common.{◌≡◌, ◌⊎◌, inl, inr, ℕ, ◌+◌, ◌^◌, ◌<◌, ◌≤◌, arith, List, [], ◌∷◌, ◌++◌, length, refl, sym, ap, subst, ◌∙◌, append_assoc, append-nil, Result, Ok, Err, IfErr}
-use Rattle.std.specs.Io.KnownBytes.{Consumes, Keeps, Appends, IsAtEnd}
+use Rattle.std.proofs.Common.{◌≡◌, ◌⊎◌, inl, inr, ℕ, ◌+◌, ◌^◌, ◌≤◌, arith, List, [], ◌∷◌, ◌++◌, length, sym, ap, subst, ◌∙◌, append_assoc, append-nil, Result, Ok, Err, IfErr}
+use Rattle.std.specs.Io.KnownBytes.{Consumes}
 use Rattle.std.proofs.KnownBytes.{Consumes-nil, Consumes-trans, Consumes-kept, Appends-trans}
 use Rattle.std.proofs.lemmas.List.{length-append}
-use Rattle.streams.specs.State.{SourceState, SinkState, MovesPiece}
-use Rattle.request_frames.specs.declared.error.FrameError.{FrameError}
-use Rattle.request_frames.specs.Frames.{stream, IsFrames, IsIncomplete}
-use Rattle.broker_core.specs.declared.session.Ended.{Ended}
+use Rattle.streams.specs.State.{SourceState, SinkState}
+use Rattle.request_frames.specs.Frames.{stream, IsIncomplete}
 use Rattle.broker_core.specs.declared.session.SessionError.{SessionError}
 use Rattle.broker_core.specs.declared.session.SessionError.TheVariants.{Frame, Read, Write, OutOfMemory}
 use Rattle.broker_core.specs.State.{State}
-use Rattle.broker_core.specs.Streams.{IsAnswered, AreAnswered, Answered}
-use Rattle.broker_core.specs.Sessions.{Session, EndsAs, StopsAs, IsReadOut}
+use Rattle.broker_core.specs.Streams.{IsAnswered}
+use Rattle.broker_core.specs.Sessions.{Session, EndsAs, StopsAs}
 use Rattle.broker_core.specs.SessionSteps.{ReadsMore, ReadsEnd, StopsReading, AnswersFront, StopsNext, StopsWithin, Serves}
 use Rattle.broker_core.proofs.ServedFrames.{cut_append, one_cut, front_none, front_then, front_fits}
 
@@ -138,25 +136,27 @@ stops_at s before after source source' sink mid_sink sink' input held index Read
 stops_at s before after source source' sink mid_sink sink' input held index Write leaves front stops =
     let last = stops.0 in
     let lost = last.loses.0 in
-    let taken = last.loses.2 in
-    (record {
-      input = input;
-      output = front.output;
-      frames = front.frames;
-      frame = last.frame;
-      rest = last.more;
-      before = before;
-      front = taken.front;
-      lost = lost;
-      moves = record {
-        leaves = leaves;
-        takes = Appends-trans sink.taken mid_sink.taken sink'.taken front.output taken.front front.takes taken.appends;
-      };
-      cut = cut_append input held last.more front.frames (last.frame ∷ []) front.answers.cut (one_cut held last.frame last.more last.first);
-      answers = front.answers.answers;
-      answers_last = subst (λ x. IsAnswered before last.frame x after) taken.parts last.answers;
-      loses = last.loses.1;
-    }, stops.1)
+    let taken = last.loses.2 in (
+      record {
+        input = input;
+        output = front.output;
+        frames = front.frames;
+        frame = last.frame;
+        rest = last.more;
+        before = before;
+        front = taken.front;
+        lost = lost;
+        moves = record {
+          leaves = leaves;
+          takes = Appends-trans sink.taken mid_sink.taken sink'.taken front.output taken.front front.takes taken.appends;
+        };
+        cut = cut_append input held last.more front.frames (last.frame ∷ []) front.answers.cut (one_cut held last.frame last.more last.first);
+        answers = front.answers.answers;
+        answers_last = subst (λ x. IsAnswered before last.frame x after) taken.parts last.answers;
+        loses = last.loses.1;
+      },
+      stops.1,
+    )
 
 pub answering_stops : (s m after : State) (source mid source' : SourceState) (sink mid_sink sink' : SinkState) (held held' : List ℕ) (count reads : ℕ) (e : SessionError)
     → Serves s m source mid sink mid_sink held count reads → ReadsMore mid source' held held' → StopsWithin m after mid_sink sink' held' count e

@@ -5,15 +5,17 @@ use Rattle.broker_core.proofs.answering.answer_next.Goals as goal
 
 pub returns-in_default-send-clause-stops : goal.returns-in_default-send-clause-stops
 returns-in_default-send-clause-stops g c =
-    let answered = frame_answered c.args.node.now c.handle.new.self c.in-Ok-Some.frame c.as_slice.result.now c.clear.new.self.items c.handle.new.out.items c.deref.result.now (request_value c.in-Ok.request) c.in-Ok-handle.field-0 (search rules) c.in-Ok.ensures.reads (search rules) c.in-Ok-handle.ensures.handles (search rules) in
-    (record {
-      frame = c.in-Ok-Some.frame;
-      more = c.take_frame.new.buffer.items;
-      reply = c.deref.result.now;
-      first = search rules;
-      answers = answered;
-      loses = c.in_default-send.ensures.loses;
-    }, c.in_default-send.ensures.failed)
+    let answered = frame_answered c.args.node.now c.handle.new.self c.in-Ok-Some.frame c.as_slice.result.now c.clear.new.self.items c.handle.new.out.items c.deref.result.now (request_value c.in-Ok.request) c.in-Ok-handle.field-0 (search rules) c.in-Ok.ensures.reads (search rules) c.in-Ok-handle.ensures.handles (search rules) in (
+      record {
+        frame = c.in-Ok-Some.frame;
+        more = c.take_frame.new.buffer.items;
+        reply = c.deref.result.now;
+        first = search rules;
+        answers = answered;
+        loses = c.in_default-send.ensures.loses;
+      },
+      c.in_default-send.ensures.failed,
+    )
 
 pub returns-clause-answers : goal.returns-clause-answers
 returns-clause-answers g c =
