@@ -1,5 +1,5 @@
 -- Frames that a session holds: the first one answered, some and then others, and how many they can be.
-use Rattle.std.proofs.Common.{◌≡◌, ℕ, ◌+◌, ◌^◌, ◌<◌, ◌≤◌, arith, Fits, w64, List, [], ◌∷◌, ◌++◌, length, refl, sym, ap, subst, ◌∙◌, append_assoc, append-nil}
+use Rattle.std.proofs.Common.{◌≡◌, ℕ, ◌+◌, ◌^◌, ◌<◌, ◌≤◌, arith, Fits, w64, List, [], ◌∷◌, ◌++◌, length, inl, inr, refl, sym, ap, subst, ◌∙◌, append_assoc, append-nil}
 use Rattle.std.specs.Prelude.{pos}
 use Rattle.std.specs.List.{AllByRecursion}
 use Rattle.std.specs.Io.KnownBytes.{Appends}
@@ -12,10 +12,11 @@ use Rattle.request_frames.specs.Frames.{framed, stream, IsWithinLimit, IsFrames,
 use Rattle.request_frames.specs.Requests.{RequestValue, IsRequest}
 use Rattle.broker_core.specs.declared.handling.Answer.{Answer}
 use Rattle.broker_core.specs.declared.session.SessionError.{SessionError}
+use Rattle.broker_core.specs.declared.session.SessionError.TheVariants.{Frame, Read, Write, OutOfMemory}
 use Rattle.broker_core.specs.State.{State}
 use Rattle.broker_core.specs.Streams.{sent, IsAnswered, AreAnswered}
 use Rattle.broker_core.specs.Handling.{Handles}
-use Rattle.broker_core.specs.SessionSteps.{AnswersFront, StopsNext, StopsWithin}
+use Rattle.broker_core.specs.SessionSteps.{StopsTaking, StopsReplying, AnswersFront, StopsNext, StopsWithin}
 
 -- ---- one frame
 
@@ -50,6 +51,21 @@ first_answered s after sink sink' held frame rest reply index first answered tak
   };
   counts = refl;
 }
+
+-- ---- a frame that is refused, or for which there is no memory
+
+pub taking_stops : (s : State) (sink : SinkState) (held : List ℕ) (index : ℕ) (e : SessionError) → StopsTaking held index e → StopsNext s s sink sink held index e
+taking_stops s sink held index (Frame n why) stops = (refl, refl, stops.0, inl stops.1)
+taking_stops s sink held index OutOfMemory stops = (refl, refl)
+taking_stops s sink held index Read stops = stops
+taking_stops s sink held index Write stops = absurd stops
+
+pub replying_stops : (s after : State) (sink : SinkState) (held frame rest : List ℕ) (index : ℕ) (e : SessionError) → IsFirstFrame frame held rest → after ≡ s
+    → StopsReplying frame index e → StopsNext s after sink sink held index e
+replying_stops s after sink held frame rest index (Frame n why) first same stops = (same, refl, stops.0, inr (frame, rest, first, stops.1))
+replying_stops s after sink held frame rest index OutOfMemory first same stops = (same, refl)
+replying_stops s after sink held frame rest index Read first same stops = stops
+replying_stops s after sink held frame rest index Write first same stops = absurd stops
 
 -- ---- frames, and then others
 

@@ -1,14 +1,15 @@
 //! The complete frames among the bytes that a session holds, answered in turn.
 
-ghost use Rattle.std.specs.Prelude.{◌≡◌, ◌+◌, ◌^◌, ◌<◌, true, length, MatchBool, IfOk, IfErr, OnOk, OnErr};
+ghost use Rattle.std.specs.Prelude.{◌≡◌, ◌+◌, ◌^◌, ◌<◌, true, length, MatchBool, MatchOption, IfOk, IfErr, OnOk, OnErr};
 ghost use Rattle.std.specs.Io.KnownBytes.{Appends};
 ghost use Rattle.streams.specs.State.{LosesRest};
-ghost use Rattle.request_frames.specs.Frames.{IsIncomplete};
-ghost use Rattle.broker_core.specs.SessionSteps.{AnswersFront, StopsNext, StopsWithin};
+ghost use Rattle.request_frames.specs.Frames.{IsIncomplete, IsFirstFrame};
+ghost use Rattle.broker_core.specs.Streams.{IsAnswered};
+ghost use Rattle.broker_core.specs.SessionSteps.{StopsTaking, StopsReplying, AnswersFront, StopsNext, StopsWithin};
 
 use crate::node::Node;
 use crate::session::SessionError;
-use bytes::BytesMut;
+use bytes::{Bytes, BytesMut};
 use request_frames::{FrameError, parse, take_frame};
 use segment::BatchStore;
 use std::alloc::Allocator;
@@ -30,7 +31,49 @@ fn send<W: Write>(sink: &mut Sink<W>, reply: &[u8]) -> Result<(), Failed>
     sink.write_all(reply)
 }
 
+/// Takes the first frame, which has the number `index`, if it is complete.
+fn next_frame<A: Allocator + Copy>(
+    buffer: &mut BytesMut<A>,
+    index: u64,
+) -> Result<Option<Bytes<A>>, SessionError>
+    ensures takes { IfOk result (λ found. MatchOption found
+        ((buffer.new ≡ buffer.old) × IsIncomplete buffer.new.items)
+        (λ frame. IsFirstFrame frame buffer.old.items buffer.new.items)) }
+    ensures stops { IfErr result (StopsTaking buffer.old.items index) }
+{
+    match take_frame(buffer) {
+        Ok(found) => Ok(found),
+        Err(FrameError::OutOfMemory) => Err(SessionError::OutOfMemory),
+        Err(why) => Err(SessionError::Frame { index, why }),
+    }
+}
+
+/// Handles the frame that has the number `index`, and puts its reply into the output: nothing where
+/// there is none.
+#[tactic(auto, using(crate::proofs::ServedFrames::frame_answered))]
+fn reply_to<S: BatchStore, A: Allocator + Copy>(
+    node: &mut Node<S>,
+    frame: &[u8],
+    index: u64,
+    out: &mut Vec<u8, A>,
+) -> Result<(), SessionError>
+    ensures answers { OnOk result (IsAnswered node.old frame.now out.new.items node.new) }
+    ensures stops { IfErr result (StopsReplying frame.now index) }
+    ensures unchanged_on_error { OnErr result (node.new ≡ node.old) }
+{
+    out.clear();
+    let request = match parse(frame) {
+        Ok(request) => request,
+        Err(why) => return Err(SessionError::Frame { index, why }),
+    };
+    let Ok(_) = node.handle(&request, out) else {
+        return Err(SessionError::OutOfMemory);
+    };
+    Ok(())
+}
+
 /// Answers the first frame, which has the number `index`, and tells whether it was complete.
+#[tactic(auto, using(crate::proofs::ServedFrames::first_answered, crate::proofs::ServedFrames::taking_stops, crate::proofs::ServedFrames::replying_stops))]
 fn answer_next<S: BatchStore, W: Write, A: Allocator + Copy>(
     node: &mut Node<S>,
     buffer: &mut BytesMut<A>,
@@ -46,20 +89,10 @@ fn answer_next<S: BatchStore, W: Write, A: Allocator + Copy>(
     ensures stops { IfErr result (StopsNext node.old node.new sink.old sink.new
         buffer.old.items index) }
 {
-    let frame = match take_frame(buffer) {
-        Ok(Some(frame)) => frame,
-        Ok(None) => return Ok(false),
-        Err(FrameError::OutOfMemory) => return Err(SessionError::OutOfMemory),
-        Err(why) => return Err(SessionError::Frame { index, why }),
+    let Some(frame) = next_frame(buffer, index)? else {
+        return Ok(false);
     };
-    let request = match parse(frame.as_slice()) {
-        Ok(request) => request,
-        Err(why) => return Err(SessionError::Frame { index, why }),
-    };
-    out.clear();
-    let Ok(_) = node.handle(&request, out) else {
-        return Err(SessionError::OutOfMemory);
-    };
+    reply_to(node, frame.as_slice(), index, out)?;
     let Ok(()) = send(sink, out) else {
         return Err(SessionError::Write);
     };
