@@ -3,9 +3,9 @@ use Rattle.std.proofs.lemmas.Bool.{MatchBool-at_true, MatchBool-at_false}
 use Rattle.broker_core.proofs.ServedSessions.{read_served, session_ends, reading_stops, answering_stops, read_out, if_err}
 use Rattle.broker_core.proofs.session.serve.Goals as goal
 
-pub returns-then-frames-ge-MAX_FRAMES-clause-stops : goal.returns-then-frames-ge-MAX_FRAMES-clause-stops
-returns-then-frames-ge-MAX_FRAMES-clause-stops g c =
-    read_out c.args.node.now c.loop.node c.args.source.now c.loop.source c.args.sink.now c.loop.sink c.loop.buffer.items c.loop.frames c.loop.counter c.loop.invariant (inr (omega (arith, c.if-frames-ge-MAX_FRAMES.true)))
+pub returns-then-frames-ge-MOST_FRAMES-clause-stops : goal.returns-then-frames-ge-MOST_FRAMES-clause-stops
+returns-then-frames-ge-MOST_FRAMES-clause-stops g c =
+    read_out c.args.node.now c.loop.node c.args.source.now c.loop.source c.args.sink.now c.loop.sink c.loop.buffer.items c.loop.frames c.loop.counter c.loop.invariant (inr (omega (arith, c.if-frames-ge-MOST_FRAMES.true)))
 
 pub returns-in_err-read_more-clause-stops : goal.returns-in_err-read_more-clause-stops
 returns-in_err-read_more-clause-stops g c =
