@@ -19,3 +19,6 @@ pub mod FetchReplies
 pub mod Shapes
 pub mod Listings
 pub mod EachOnce
+pub mod HandledReplies
+pub mod ServedFrames
+pub mod ServedSessions

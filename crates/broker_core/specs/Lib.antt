@@ -12,6 +12,7 @@ pub mod Replies
 pub mod Streams
 pub mod Handling
 pub mod Sessions
+pub mod SessionSteps
 pub mod Examples
 pub mod Appending
 pub mod Producing

@@ -29,6 +29,7 @@ impl<S: BatchStore> Node<S> {
     ///
     /// `AllocError` where there is no memory for the response. Then nothing was done, and the output
     /// is as before.
+    #[tactic(auto, using(crate::proofs::HandledReplies::metadata_handled))]
     pub fn handle<A: Allocator + Copy>(
         &mut self,
         request: &Request<'_>,

@@ -10,6 +10,7 @@
 //! what is done where all pass, and what is answered where one fails.
 #![tactic(auto)]
 
+mod answering;
 mod asked;
 mod codes;
 mod config;
@@ -29,6 +30,7 @@ mod node;
 mod partition;
 mod produce;
 mod producing;
+mod receiving;
 mod room;
 mod session;
 
