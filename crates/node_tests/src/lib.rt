@@ -1,13 +1,16 @@
-//! Tests of brokers: which configurations are refused, and what a new broker holds.
+//! Tests of brokers: which configurations are refused, what a new broker holds, and what it answers
+//! to each request.
 #![tactic(auto)]
 
 #[cfg(test)]
 mod configs;
 #[cfg(test)]
-mod list_offsets;
+mod frames;
 #[cfg(test)]
 mod logs;
 #[cfg(test)]
 mod memory;
+#[cfg(test)]
+mod produce;
 #[cfg(test)]
 mod refusals;
