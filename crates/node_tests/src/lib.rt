@@ -5,11 +5,17 @@
 #[cfg(test)]
 mod configs;
 #[cfg(test)]
+mod fetch;
+#[cfg(test)]
 mod frames;
+#[cfg(test)]
+mod list_offsets;
 #[cfg(test)]
 mod logs;
 #[cfg(test)]
 mod memory;
+#[cfg(test)]
+mod metadata;
 #[cfg(test)]
 mod produce;
 #[cfg(test)]

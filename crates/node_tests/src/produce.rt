@@ -5,8 +5,8 @@ use crate::frames::Field::{Bytes, Int16, Int32, Int64, Text};
 use crate::frames::{answer, encoded, framed};
 use broker_core::{Answer, Node, Role};
 use checksum::crc32c;
-use outside_batches::{A_IS_1, EMPTIED, NO_KEY, sent};
-use segment::VecStore;
+use outside_batches::{A_IS_1, A_IS_NULL, EMPTIED, NO_KEY, null_at, one, sent};
+use segment::{BatchStore, VecStore};
 use std::alloc::{AllocError, Allocator};
 use std::test::Fail;
 
@@ -314,4 +314,28 @@ fn acks_0_is_not_answered(rt: HostRuntime) -> Result<(), Fail> {
     assert!(rt; out.is_empty());
     assert!(rt; node.log(b"t", 1).is_some_and(|log| log.end() == 2));
     Ok(())
+}
+
+/// Appends `a` = 1, `b` = 2, `a` null and `b` = 3 to partition 0 of `t`, and gives the four batches
+/// as they are stored.
+pub(crate) fn append_four<S: BatchStore, A: Allocator + Copy>(
+    alloc: A,
+    node: &mut Node<S>,
+) -> Result<Vec<u8, A>, AllocError> {
+    let batches: [&[u8]; 4] = [
+        &one(0, 10, b'a', b'1'),
+        &one(0, 30, b'b', b'2'),
+        &A_IS_NULL,
+        &one(0, 20, b'b', b'3'),
+    ];
+    for records in batches {
+        let frame = request(alloc, 1, "t", 0, records)?;
+        answer(alloc, node, &frame)?;
+    }
+    let mut stored = Vec::new(alloc);
+    stored.extend_from_slice(&one(0, 10, b'a', b'1'))?;
+    stored.extend_from_slice(&one(1, 30, b'b', b'2'))?;
+    stored.extend_from_slice(&null_at(2))?;
+    stored.extend_from_slice(&one(3, 20, b'b', b'3'))?;
+    Ok(stored)
 }
