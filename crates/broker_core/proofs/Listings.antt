@@ -19,6 +19,7 @@ use Rattle.broker_core.specs.Listing.{broker_of, known_leader, listed_topics, pa
 use Rattle.broker_core.specs.Parts.{TopicParts, topic_contents}
 use Rattle.broker_core.specs.AskedTopics.{metadata_body}
 use Rattle.broker_core.proofs.NewStates.{find_map}
+use Rattle.broker_core.proofs.UnchangedStates.{map_twice}
 
 -- ---- a topic by its name
 
@@ -76,10 +77,6 @@ topic_written g t old begun new count counts begins e =
     ∙ ap (λ (n : ℕ). old ++ written n) many
 
 -- ---- all topics, and all names
-
-map_twice : {X Y Z : Type 0} (f : X → Y) (g : Y → Z) (xs : List X) → map g (map f xs) ≡ map (λ x. g (f x)) xs
-map_twice f g [] = refl
-map_twice f g (x ∷ xs) = ap (λ zs. g (f x) ∷ zs) (map_twice f g xs)
 
 -- each is written as a function of what is seen of it
 pub all_seen : {X Y R : Type 0} (enc : R → List ℕ) (see : X → Y) (f : Y → R) (old out : List ℕ) (i : ℕ) (xs : List X) (ys : List Y) → length xs ≤ i → map see xs ≡ ys

@@ -1,4 +1,4 @@
-use Rattle.std.proofs.Common.{refl, arith, rules}
+use Rattle.std.proofs.Common.{refl, rules}
 use Rattle.request_frames.specs.Responses.{metadata_topic_bytes}
 use Rattle.broker_core.specs.Listing.{metadata_at}
 use Rattle.broker_core.proofs.Listings.{all_seen}
