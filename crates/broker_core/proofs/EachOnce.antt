@@ -2,7 +2,7 @@
 use Rattle.std.proofs.Common.{◌≡◌, ℕ, suc, ◌≤◌, arith, Bool, true, false, cond, List, [], ◌∷◌, ◌++◌, length, refl, sym, ap, ◌∙◌, append_assoc, append-nil}
 use Rattle.std.specs.Prelude.{map, not, bytes_eq, ◌&&◌, ◌||◌}
 use Rattle.std.specs.List.{filter, list_any}
-use Rattle.std.proofs.lemmas.List.{map-append}
+use Rattle.std.proofs.lemmas.List.{map-append, length-map}
 use Rattle.std.proofs.lemmas.Slice.Eq.{bytes_eq-Decides}
 use Rattle.indexmap.specs.IndexSet.{insert_key}
 use Rattle.broker_core.specs.Listing.{each_once}
@@ -104,3 +104,9 @@ fewer p (x ∷ xs) = grind (arith, fewer p xs)
 pub no_more : (xs : Names) → length (each_once xs) ≤ length xs
 no_more [] = omega arith
 no_more (x ∷ xs) = omega (arith, no_more xs, fewer (λ other. not (bytes_eq other x)) (each_once xs))
+
+-- so a set has at most as many names as are put into it
+pub set_fits : (keys : List Borrowed) (all : Names) (n : ℕ) → now keys ≡ each_once all → length all ≤ n → length keys ≤ n
+set_fits keys all n is most =
+    let same : length (now keys) ≡ length (each_once all) = ap length is in
+    omega (arith, most, same, no_more all, length-map keys (λ name. name.now))

@@ -1,22 +1,25 @@
 -- What is written of a broker's topics.
-use Rattle.std.proofs.Common.{◌≡◌, ℕ, ◌+◌, arith, Bool, true, false, cond, ℤ, List, [], ◌∷◌, ◌++◌, length, Option, Some, None, refl, sym, ap, subst, ◌∙◌, append_assoc, append-nil}
+use Rattle.std.proofs.Common.{◌≡◌, ℕ, ◌+◌, ◌≤◌, take, arith, Bool, true, false, cond, ℤ, List, [], ◌∷◌, ◌++◌, length, Option, Some, None, refl, sym, ap, subst, ◌∙◌, append_assoc, append-nil}
 use Rattle.std.specs.Prelude.{map, not, bytes_eq, IfSome}
 use Rattle.std.specs.List.{flat_map, find, range_with_len, All}
 use Rattle.std.specs.Option.{option_map}
 use Rattle.std.proofs.lemmas.Grind.{flat_map-append}
-use Rattle.std.proofs.lemmas.List.{length-map}
+use Rattle.std.proofs.lemmas.List.{length-map, take_all}
 use Rattle.std.proofs.lemmas.List.Elements.{All-head, All-tail}
 use Rattle.std.proofs.lemmas.Option.{same_Some}
 use Rattle.std.proofs.lemmas.List.FromFn.{length-map-range_with_len, map-range_with_len_more}
 use Rattle.std.specs.Borrow.{Bor}
 use Rattle.request_frames.specs.Names.{is_topic_name}
-use Rattle.request_frames.specs.Responses.{metadata_topic_head, metadata_topic_bytes, metadata_partition_bytes}
+use Rattle.request_frames.specs.Responses.{Broker, TopicMetadata, metadata_response, metadata_value, leader_id, metadata_head, metadata_topic_head, metadata_topic_bytes, metadata_partition_bytes}
+use Rattle.request_frames.specs.Fields.{encoded}
 use Rattle.broker_core.specs.declared.codes.ErrorCode.TheVariants.{UnknownTopicOrPartition, InvalidTopic}
 use Rattle.broker_core.specs.Codes.{no_error}
 use Rattle.broker_core.specs.State.{ConfigValue, Topic, State, is_group_topic, topic_of}
-use Rattle.broker_core.specs.Listing.{partition_metadata, topic_metadata, failed_topic, metadata_of, metadata_at}
+use Rattle.broker_core.specs.Listing.{broker_of, known_leader, listed_topics, partition_metadata, topic_metadata, failed_topic, metadata_of, metadata_at}
 use Rattle.broker_core.specs.Parts.{TopicParts, topic_contents}
+use Rattle.broker_core.specs.AskedTopics.{metadata_body}
 use Rattle.broker_core.proofs.NewStates.{find_map}
+use Rattle.broker_core.proofs.UnchangedStates.{map_twice}
 
 -- ---- a topic by its name
 
@@ -72,3 +75,27 @@ topic_written g t old begun new count counts begins e =
     ∙ append_assoc old (metadata_topic_head no_error t.name (is_group_topic t.name) count) (flat_map metadata_partition_bytes (partitions count))
     ∙ ap (λ (n : ℕ). old ++ (metadata_topic_head no_error t.name (is_group_topic t.name) n ++ flat_map metadata_partition_bytes (partitions count))) (sym (length-map-range_with_len (partition_metadata g) 0 count))
     ∙ ap (λ (n : ℕ). old ++ written n) many
+
+-- ---- all topics, and all names
+
+-- each is written as a function of what is seen of it
+pub all_seen : {X Y R : Type 0} (enc : R → List ℕ) (see : X → Y) (f : Y → R) (old out : List ℕ) (i : ℕ) (xs : List X) (ys : List Y) → length xs ≤ i → map see xs ≡ ys
+    → out ≡ old ++ flat_map enc (map (λ x. f (see x)) (take i xs)) → out ≡ old ++ flat_map enc (map f ys)
+all_seen enc see f old out i xs ys over same e =
+    e ∙ ap (λ zs. old ++ flat_map enc (map (λ x. f (see x)) zs)) (take_all i xs over)
+    ∙ ap (λ zs. old ++ flat_map enc zs) (sym (map_twice see f xs)) ∙ ap (λ zs. old ++ flat_map enc (map f zs)) same
+
+-- behind a response's head, what comes before the topics and the topics give the fields
+pub body_written : (s : State) (names : Option (List (List ℕ))) (begun headed out : List ℕ) (n : ℕ) → n ≡ length (listed_topics s names)
+    → ((b : Broker) (controller : ℤ) (ts : List TopicMetadata) → encoded metadata_response (metadata_value b controller ts) ≡ metadata_head b.node_id b.host b.port controller (length ts) ++ flat_map metadata_topic_bytes ts)
+    → headed ≡ begun ++ metadata_head s.config.node_id s.config.host s.config.port (leader_id (known_leader s.config)) n
+    → out ≡ headed ++ flat_map metadata_topic_bytes (listed_topics s names) → out ≡ begun ++ metadata_body s names
+body_written s names begun headed out n counts parts heads e =
+    let ts = listed_topics s names in
+    let head = metadata_head s.config.node_id s.config.host s.config.port (leader_id (known_leader s.config)) in
+    e ∙ ap (λ (x : List ℕ). x ++ flat_map metadata_topic_bytes ts) (heads ∙ ap (λ (k : ℕ). begun ++ head k) counts)
+    ∙ append_assoc begun (head (length ts)) (flat_map metadata_topic_bytes ts)
+    ∙ ap (λ (x : List ℕ). begun ++ x) (sym (parts (broker_of s.config) (leader_id (known_leader s.config)) ts))
+
+pub topics_counted : (s : State) (ts : List TopicParts) → map topic_contents ts ≡ s.topics → length ts ≡ length (listed_topics s None)
+topics_counted s ts same = sym (length-map ts topic_contents) ∙ ap length same ∙ sym (length-map s.topics (topic_metadata s.config))

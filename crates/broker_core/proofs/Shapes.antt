@@ -40,9 +40,10 @@ HasFew t = t.partitions ≤ MAX_PARTITIONS
 
 all_few : (taken : List (List ℕ)) (ts : List TopicConfig) → topics_fault taken ts ≡ None → AllByRecursion HasFew (ts ++ record { name = group_topic; partitions = 1 } ∷ [])
 all_few taken [] h = (omega arith, tt)
-all_few taken (t ∷ ts) h =
-    (in_limit t.partitions (small (not (is_topic_name t.name)) _ (list_any (bytes_eq t.name) taken) (first_is_none (topic_fault taken t) (topics_fault (t.name ∷ taken) ts) h)),
-    all_few (t.name ∷ taken) ts (other_is_none (topic_fault taken t) (topics_fault (t.name ∷ taken) ts) h))
+all_few taken (t ∷ ts) h = (
+  in_limit t.partitions (small (not (is_topic_name t.name)) _ (list_any (bytes_eq t.name) taken) (first_is_none (topic_fault taken t) (topics_fault (t.name ∷ taken) ts) h)),
+  all_few (t.name ∷ taken) ts (other_is_none (topic_fault taken t) (topics_fault (t.name ∷ taken) ts) h),
+)
 
 -- ---- what a broker of it has
 
@@ -55,8 +56,10 @@ few_partitions g ts valid are =
     let topics : topics_fault (group_topic ∷ []) g.topics ≡ None = first_is_none _ _ (other_is_none _ _ (other_is_none _ _ valid)) in
     All-from_recursion _ ts (few_shapes ts (subst (AllByRecursion HasFew) (sym are.shapes) (all_few (group_topic ∷ []) g.topics topics)))
 
+few_configured : (g : ConfigValue) → IsValidConfig g → nat_lt MAX_TOPICS (length g.topics) ≡ false
+few_configured g valid = no_fault (nat_lt MAX_TOPICS (length g.topics)) TooManyTopics (first_is_none _ _ (other_is_none _ _ valid))
+
 pub few_topics : (g : ConfigValue) (ts : List TopicParts) → IsValidConfig g → AreTopicsOf g ts → length ts ≤ MAX_TOPICS + 1
 few_topics g ts valid are =
-    let low : nat_lt MAX_TOPICS (length g.topics) ≡ false = no_fault _ TooManyTopics (first_is_none _ _ (other_is_none _ _ valid)) in
     let same : length (map topic_shape ts) ≡ length (all_topics g) = ap length are.shapes in
-    grind (arith, low, same, length-map ts topic_shape, length-append g.topics (record { name = group_topic; partitions = 1 } ∷ []))
+    grind (arith, few_configured g valid, same, length-map ts topic_shape, length-append g.topics (record { name = group_topic; partitions = 1 } ∷ []))

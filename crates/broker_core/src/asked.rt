@@ -1,6 +1,6 @@
 //! The names that a Metadata request asks for.
 
-ghost use Rattle.std.specs.Prelude.{◌≡◌, ◌≤◌, map, length, IfOk};
+ghost use Rattle.std.specs.Prelude.{◌≡◌, map, IfOk};
 ghost use Rattle.broker_core.specs.Listing.{each_once};
 ghost use Rattle.broker_core.specs.AskedTopics.{asked_names};
 

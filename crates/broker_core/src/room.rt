@@ -77,8 +77,8 @@ impl FetchRoom {
     /// Takes the room of so many bytes of records. `has_batch` says whether they have a batch.
     pub(crate) fn take(&mut self, bytes: usize, has_batch: bool)
         ensures { self.new ≡ record {
-            left = self.old.left - bytes;
-            given = self.old.given || has_batch;
+          left = self.old.left - bytes;
+          given = self.old.given || has_batch;
         } }
     {
         self.left = self.left.saturating_sub(bytes);

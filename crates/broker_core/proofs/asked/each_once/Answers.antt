@@ -1,4 +1,4 @@
-use Rattle.std.proofs.Common.{◌≡◌, ◌∷◌, ap, rules}
+use Rattle.std.proofs.Common.{◌≡◌, ◌∷◌, ap}
 use Rattle.std.specs.Prelude.{map}
 use Rattle.broker_core.specs.AskedTopics.{asked_names}
 use Rattle.broker_core.proofs.EachOnce.{none_inserted, one_inserted}

@@ -13,7 +13,9 @@ loop-entry-init g c =
     let answer = fetched_entry c.args.node.now c.args.topic.name.now in
     let begun = c.begin_topic.new.out.items in
     let begins = c.in_ok-begin_topic.ensures.appends in
-    let same : c.into_iter-entry-iterator.result ≡ c.args.topic.partitions = c.into_iter-entry-iterator.ensures.into_iter_gives in
-    (ap (λ entries. begun ++ flat_map fetched_bytes (map_accum answer c.args.room.now (values fetch_partition entries)).0) same
-    ∙ answers_begun fetched_bytes answer c.args.out.now.items begun c.args.topic.name.now c.len.result c.args.room.now (values fetch_partition c.args.topic.partitions) c.len.ensures begins,
-    ap (λ entries. (map_accum answer c.args.room.now (values fetch_partition entries)).1) same, (topic_head c.args.topic.name.now c.len.result, begins))
+    let same : c.into_iter-entry-iterator.result ≡ c.args.topic.partitions = c.into_iter-entry-iterator.ensures.into_iter_gives in (
+      ap (λ entries. begun ++ flat_map fetched_bytes (map_accum answer c.args.room.now (values fetch_partition entries)).0) same
+          ∙ answers_begun fetched_bytes answer c.args.out.now.items begun c.args.topic.name.now c.len.result c.args.room.now (values fetch_partition c.args.topic.partitions) c.len.ensures begins,
+      ap (λ entries. (map_accum answer c.args.room.now (values fetch_partition entries)).1) same,
+      (topic_head c.args.topic.name.now c.len.result, begins),
+    )
