@@ -9,6 +9,8 @@ mod fetch;
 #[cfg(test)]
 mod frames;
 #[cfg(test)]
+mod growth;
+#[cfg(test)]
 mod list_offsets;
 #[cfg(test)]
 mod logs;
