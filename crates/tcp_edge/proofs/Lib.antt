@@ -1,4 +1,5 @@
 mod Arguments
+mod TopicLists
 mod Filled
 mod LineFeeds
 mod Printed
