@@ -3,23 +3,18 @@ use Rattle.std.specs.Prelude.{◌≡◌, ◌⊎◌, ℕ, ◌<◌, List, [], leng
 use Rattle.std.specs.Io.KnownBytes.{Consumes, Appends, IsAtEnd}
 use Rattle.request_frames.specs.declared.error.FrameError.{FrameError}
 use Rattle.request_frames.specs.Frames.{IsIncomplete}
-use Rattle.broker_core.specs.State.{State, ConfigValue, new_state}
+use Rattle.broker_core.specs.State.{State}
 use Rattle.broker_core.specs.Streams.{Answered, RefusesNext}
 
 -- What was read, to the reader's end, is frames, and what was written answers them all, from a state on.
-pub record AnswersFrom (s : State) (left left' held held' : Option (List ℕ)) : Type 0 where
+pub record AnswersFrom (s : State) (left left' held held' : Option (List ℕ)) (after : State) : Type 0 where
   pub input : List ℕ
   pub output : List ℕ
   pub frames : List (List ℕ)
-  pub after : State
   pub reads : Consumes left left' input
   pub at_end : IsAtEnd left'
   pub appends : Appends held held' output
   pub answers : Answered s input output after frames []
-
--- the same, as a new broker of a configuration
-abbrev pub AnswersAll : ConfigValue → (left left' held held' : Option (List ℕ)) → Type 0
-AnswersAll g left left' held held' = AnswersFrom (new_state g) left left' held held'
 
 -- the reader is at its end within a frame, or what comes next is refused
 abbrev pub StopsAt : Option (List ℕ) → List ℕ → Type 0
@@ -27,16 +22,12 @@ StopsAt left rest =
     (IsAtEnd left × IsIncomplete rest × (0 < length rest)) ⊎ (e : FrameError) × RefusesNext e rest
 
 -- What was read is frames, which were answered from a state on, and a rest that is no frame.
-pub record RefusesFrom (s : State) (left left' held held' : Option (List ℕ)) : Type 0 where
+pub record RefusesFrom (s : State) (left left' held held' : Option (List ℕ)) (after : State) : Type 0 where
   pub input : List ℕ
   pub output : List ℕ
   pub frames : List (List ℕ)
   pub rest : List ℕ
-  pub after : State
   pub reads : Consumes left left' input
   pub appends : Appends held held' output
   pub answers : Answered s input output after frames rest
   pub stops : StopsAt left' rest
-
-abbrev pub RefusesInput : ConfigValue → (left left' held held' : Option (List ℕ)) → Type 0
-RefusesInput g left left' held held' = RefusesFrom (new_state g) left left' held held'

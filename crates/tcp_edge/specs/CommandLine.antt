@@ -107,6 +107,6 @@ pub record IsConfigOf (rows : List Row) (port : ℕ) (g : ConfigValue) : Type 0 
   pub port_is : g.port ≡ port
   pub topics : AreTopics (topic_words rows) g.topics
 
--- a session of a broker of this configuration
-abbrev pub AsksForSession : List Text → ConfigValue → Type 0
-AsksForSession arguments g = (rows : List Row) × Finds arguments (codes "session") rows × IsConfigOf rows 9092 g
+-- a session, with these values of its arguments
+abbrev pub AsksForSession : List Text → List Row → Type 0
+AsksForSession arguments rows = Finds arguments (codes "session") rows

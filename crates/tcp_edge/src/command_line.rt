@@ -2,13 +2,10 @@
 
 ghost use Rattle.std.specs.Prelude.{◌≡◌, ◌≢◌, ◌≤◌, ◌⊎◌, ℕ, List, map};
 ghost use Rattle.batch_codec.specs.Values.{BatchValue};
-ghost use Rattle.broker_core.specs.Configs.{IsValidConfig};
-ghost use Rattle.broker_core.specs.State.{ConfigValue};
 ghost use Rattle.clap.specs.Words.{kind_of};
-ghost use Rattle.tcp_edge.specs.Answering.{AnswersAll, RefusesInput};
-ghost use Rattle.tcp_edge.specs.Asked.{IsOutOfMemory};
+ghost use Rattle.tcp_edge.specs.Asked.{IsConfigFault, IsOutOfMemory};
 ghost use Rattle.tcp_edge.specs.declared.error.Refusal.{Refusal};
-ghost use Rattle.tcp_edge.specs.CommandLine.{AsksForTable, AsksForSession};
+ghost use Rattle.tcp_edge.specs.CommandLine.{AsksForTable};
 ghost use Rattle.tcp_edge.specs.Refused.{RefusesStream};
 ghost use Rattle.tcp_edge.specs.Tables.{ReadsLog, PrintsTable};
 
@@ -52,6 +49,8 @@ fn explain<W: Write, E: Write>(error: &Error, out: &mut W, err: &mut E) -> u8
 /// Says why a command line asks for nothing, and answers the status.
 fn refuse_line<W: Write, E: Write>(why: &LineFault, out: &mut W, err: &mut E) -> u8
     ensures is_status { (result ≤ 4) × (result ≢ 1) }
+    ensures out_of_memory { IsOutOfMemory why.now → result ≡ 3 }
+    ensures no_help { IsConfigFault why.now → result ≢ 0 }
     ensures faulty_prints_nothing { result ≡ 2 → out.new ≡ out.old }
     ensures out_of_memory_prints_nothing { result ≡ 3 → out.new ≡ out.old }
 {
@@ -65,6 +64,7 @@ fn refuse_line<W: Write, E: Write>(why: &LineFault, out: &mut W, err: &mut E) ->
 /// done, 1 input refused, 2 a faulty command line or configuration, 3 out of memory, 4 a read or a
 /// write failed. A status of 1, 3 or 4 comes with one line on `err`. Arguments that ask for a broker
 /// that listens are left to `run_serve`: the status is 2, and nothing is printed.
+#[tactic(auto, using(crate::proofs::Arguments::table_asked, crate::proofs::Arguments::table_fault))]
 pub fn run_line<S: AsStr, R: Read, W: Write, E: Write>(
     alloc: Global,
     arguments: &[S],
@@ -74,13 +74,6 @@ pub fn run_line<S: AsStr, R: Read, W: Write, E: Write>(
 ) -> u8
     ensures is_status { result ≤ 4 }
 
-    // A run that is done has printed help and read nothing, printed the table, or answered all that
-    // was read.
-    ensures done_is_help_or_table_or_session { result ≡ 0 → (reader.new ≡ reader.old) ⊎ PrintsTable
-        (R.remaining reader.old) (R.remaining reader.new)
-        (W.contents out.old) (W.contents out.new) ⊎ ((g : ConfigValue) × AnswersAll g
-        (R.remaining reader.old) (R.remaining reader.new)
-        (W.contents out.old) (W.contents out.new)) }
     ensures faulty_prints_nothing { result ≡ 2 → out.new ≡ out.old }
     ensures faulty_reads_nothing { result ≡ 2 → reader.new ≡ reader.old }
 
@@ -99,16 +92,6 @@ pub fn run_line<S: AsStr, R: Read, W: Write, E: Write>(
     ensures failed_table_prints_nothing_before_whole_input { AsksForTable (map S.text arguments.now)
         → result ≡ 4 → (out.new ≡ out.old) ⊎ ((bs : List BatchValue)
         × ReadsLog (R.remaining reader.old) (R.remaining reader.new) bs) }
-
-    // Asked for a session, it answers all that is read, or the status says what stopped it.
-    ensures session_of_valid_is_no_fault { (g : ConfigValue) → AsksForSession (map S.text arguments.now) g
-        → IsValidConfig g → result ≢ 2 }
-    ensures session_answers_all { (g : ConfigValue) → AsksForSession (map S.text arguments.now) g
-        → result ≡ 0 → AnswersAll g (R.remaining reader.old) (R.remaining reader.new)
-        (W.contents out.old) (W.contents out.new) }
-    ensures session_refuses_input { (g : ConfigValue) → AsksForSession (map S.text arguments.now) g
-        → result ≡ 1 → RefusesInput g (R.remaining reader.old) (R.remaining reader.new)
-        (W.contents out.old) (W.contents out.new) }
 {
     match parse(alloc, arguments) {
         Ok(Asked::Table) => run_subcommand(alloc, reader, out, err),

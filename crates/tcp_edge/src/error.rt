@@ -31,9 +31,9 @@ pub enum TableError {
     OutOfMemory,
 }
 
-/// Why a session, or a broker that listens, is no success.
+/// Why a session, or a broker that listens, stopped.
 #[derive(Debug, Drop, Error)]
-pub(crate) enum SessionFault {
+pub enum SessionFault {
     /// The input ended, and the last frame isn't complete.
     #[error("input ends inside a frame")]
     EndsInside,

