@@ -1,14 +1,123 @@
 -- Lemmas on the program's arguments.
-use Rattle.std.proofs.Common.{◌≡◌, true, List, [], ◌∷◌, ap, refl, ◌∙◌, codes}
-use Rattle.clap.specs.Words.{App, Text, takes}
+use Rattle.std.proofs.Common.{Global, ◌≡◌, true, List, [], ◌∷◌, map, ap, refl, sym, subst, inl, inr, false, bytes_eq, ◌∙◌, codes, Option, Some, None}
+use Rattle.std.specs.Prelude.{option_map, unwrap_or}
+use Rattle.std.specs.Borrow.{Bor}
+use Rattle.clap.specs.Words.{App, Row, Text, takes, first_value, first_of, all_of, raw_values, matched_of, rows_of, fault_of, subcommand_of, subcommand_rows_of, subcommand_name_of, is_simple, is_simple_and_free, kind_of, HasKind}
+use Rattle.clap.specs.declared.error.Error.{Error}
+use Rattle.clap.specs.declared.error.kind.ErrorKind.TheVariants.{OutOfMemory}
+use Rattle.tcp_edge.specs.declared.asked.LineFault.{LineFault}
+use Rattle.tcp_edge.specs.declared.asked.LineFault.TheVariants.{Clap, Topic}
+use Rattle.tcp_edge.specs.declared.asked.Asked.{Asked}
+use Rattle.tcp_edge.specs.declared.asked.Asked.TheVariants.{Table, Session, Serve}
+use Rattle.tcp_edge.specs.Asked.{IsAsked, IsConfigFault, IsFaulty, IsOutOfMemory}
+use Rattle.tcp_edge.specs.CommandLine.{AsksForSession, IsConfigOf}
+use Rattle.broker_core.specs.ConfigValues.{config_value}
+use Rattle.broker_core.specs.declared.config.Config.{Config}
+use Rattle.tcp_edge.specs.declared.asked.Plan.{Plan}
+use Rattle.clap.specs.declared.parser.matches.Found.{Found}
+use Rattle.clap.specs.declared.parser.matches.ArgMatches.{ArgMatches}
 use Rattle.clap.proofs.OnLiterals.{clap_on_literals}
-use Rattle.tcp_edge.specs.CommandLine.{kbroker, AsksForTable}
+use Rattle.clap.proofs.WalkLemmas.{first_value-rows, raw_values-rows}
+use Rattle.tcp_edge.specs.CommandLine.{kbroker, AsksForTable, Finds, Roles, IsRoles}
 
-takes_table : (name : Text) → takes kbroker (name ∷ codes "table" ∷ []) ≡ true
+-- ---- the table
+
+no_fault_of_table : (roles : Roles) (name : Text) → fault_of (kbroker roles) (name ∷ codes "table" ∷ []) ≡ []
 unfolding clap_on_literals
-takes_table name = refl
+no_fault_of_table roles name = refl
 
--- a command as `kbroker` takes the arguments that ask for the table
-pub takes_arguments : (app : App) (arguments : List Text) → app ≡ kbroker → AsksForTable arguments → takes app arguments ≡ true
-takes_arguments app arguments is asks =
-    ap (λ (a : App). takes a arguments) is ∙ ap (λ (t : List Text). takes kbroker t) asks.1 ∙ takes_table asks.0
+table_found : (roles : Roles) (name : Text) → subcommand_of (kbroker roles) (name ∷ codes "table" ∷ []) ≡ Some (codes "table", [])
+unfolding clap_on_literals
+table_found roles name = refl
+
+-- arguments that ask for the table are found to do so
+pub finds_table : (arguments : List Text) → AsksForTable arguments → Finds arguments (codes "table") []
+finds_table arguments asks = record {
+  no_fault = λ roles _. subst (λ (t : List Text). fault_of (kbroker roles) t ≡ []) (sym asks.1) (no_fault_of_table roles asks.0);
+  found = λ roles _. subst (λ (t : List Text). subcommand_of (kbroker roles) t ≡ Some (codes "table", [])) (sym asks.1) (table_found roles asks.0);
+}
+
+-- ---- the command is one of which clap's words give the matches
+
+pub is_simple_kbroker : (app : App) (roles : Roles) → app ≡ kbroker roles → is_simple app ≡ true
+is_simple_kbroker app roles is = ap is_simple is
+
+pub is_free_kbroker : (app : App) (roles : Roles) → app ≡ kbroker roles → is_simple_and_free app ≡ true
+is_free_kbroker app roles is = ap is_simple_and_free is
+
+-- ---- what is read of the matches
+
+pub first_row : (f : Found) (id : Text) → first_value f id ≡ first_of id (rows_of f)
+first_row f id = first_value-rows f id
+
+pub all_rows : (f : Found) (id : Text) → option_map raw_values (matched_of f id) ≡ all_of id (rows_of f)
+all_rows f id = raw_values-rows f id
+
+firsts : {X A B : Type 0} (f : X → A) (g : X → B) (x : Option X) → option_map (λ (p : A × B). p.0) (option_map (λ b. (f b, g b)) x) ≡ option_map f x
+firsts f g None = refl
+firsts f g (Some b) = refl
+
+-- the name under which a subcommand was found
+pub name_found : (m : ArgMatches) (name : Text) (rows : List Row) → subcommand_rows_of m ≡ Some (name, rows) → subcommand_name_of m ≡ Some name
+name_found m name rows is = sym (firsts _ _ _) ∙ ap (option_map (λ (p : Text × List Row). p.0)) is
+
+-- the values that were found, or none
+pub words_found : (o : Option (Bor (List (Bor Text)))) (none : Bor (List (Bor Text))) (e : Option (List Text))
+    → option_map (λ (s : Bor (List (Bor Text))). map (λ (w : Bor Text). w.now) s.now) o ≡ e → none.now ≡ []
+    → map (λ (w : Bor Text). w.now) (unwrap_or o none).now ≡ unwrap_or e []
+words_found None none e is empty = rw (← is, empty) refl
+words_found (Some s) none e is empty = rw (← is) refl
+
+-- ---- faults
+
+-- where clap finds no fault, only memory can be short
+pub only_memory : (app : App) (roles : Roles) (arguments : List Text) (error : Error) (name : Text) (rows : List Row)
+    → IsRoles roles → app ≡ kbroker roles → Finds arguments name rows
+    → (is_simple_and_free app ≡ true → HasKind (fault_of app arguments) error) → kind_of error ≡ OutOfMemory
+only_memory app roles arguments error name rows are is finds kinds =
+    let none : fault_of app arguments ≡ [] = ap (λ (a : App). fault_of a arguments) is ∙ finds.no_fault roles are in
+    let has : HasKind [] error = subst (λ (ks : List _). HasKind ks error) none (kinds (is_free_kbroker app roles is)) in
+    elim has [ inl h ↦ h | inr bad ↦ absurd bad ]
+
+pub session_fault : (name : Text) (fault : LineFault) → name ≡ codes "session" → IsConfigFault fault → IsFaulty name fault
+session_fault name (Clap error) is h = h
+session_fault name (Topic why) is h = λ table. let bad : true ≡ false = ap (bytes_eq (codes "session")) (sym is ∙ table) in cc
+
+pub serve_fault : (name : Text) (fault : LineFault) → name ≡ codes "serve" → IsConfigFault fault → IsFaulty name fault
+serve_fault name (Clap error) is h = h
+serve_fault name (Topic why) is h = λ table. let bad : true ≡ false = ap (bytes_eq (codes "serve")) (sym is ∙ table) in cc
+
+-- ---- what a parse gives, where the table is asked for
+
+pub table_asked : (arguments : List Text) (asked : Asked) → AsksForTable arguments
+    → ((name : Text) (rows : List Row) → Finds arguments name rows → IsAsked name rows asked) → asked ≡ Table
+table_asked arguments Table asks is = refl
+table_asked arguments (Session g) asks is =
+    let bad : true ≡ false = ap (bytes_eq (codes "table")) (is (codes "table") [] (finds_table arguments asks)).0 in cc
+table_asked arguments (Serve plan) asks is =
+    let bad : true ≡ false = ap (bytes_eq (codes "table")) (is (codes "table") [] (finds_table arguments asks)) in cc
+
+pub table_fault : (arguments : List Text) (fault : LineFault) → AsksForTable arguments
+    → ((name : Text) (rows : List Row) → Finds arguments name rows → IsFaulty name fault) → IsOutOfMemory fault
+table_fault arguments (Clap error) asks is = is (codes "table") [] (finds_table arguments asks)
+table_fault arguments (Topic why) asks is = absurd (is (codes "table") [] (finds_table arguments asks) refl)
+
+-- ---- and where a session is
+
+pub session_asked : (arguments : List Text) (rows : List Row) (g : Config Global) → AsksForSession arguments rows
+    → ((name : Text) (rows : List Row) → Finds arguments name rows → IsAsked name rows (Session g)) → IsConfigOf rows 9092 (config_value g)
+session_asked arguments rows g asks is = (is (codes "session") rows asks).1
+
+pub session_of_table : (arguments : List Text) (rows : List Row) → AsksForSession arguments rows
+    → ((name : Text) (rows : List Row) → Finds arguments name rows → IsAsked name rows Table) → ⊥
+session_of_table arguments rows asks is = (is (codes "session") rows asks).0 refl
+
+pub session_of_serve : (arguments : List Text) (rows : List Row) (plan : Plan) → AsksForSession arguments rows
+    → ((name : Text) (rows : List Row) → Finds arguments name rows → IsAsked name rows (Serve plan)) → ⊥
+session_of_serve arguments rows plan asks is =
+    let bad : true ≡ false = ap (bytes_eq (codes "session")) (is (codes "session") rows asks) in cc
+
+pub session_fault_only : (arguments : List Text) (rows : List Row) (fault : LineFault) → AsksForSession arguments rows
+    → ((name : Text) (rows : List Row) → Finds arguments name rows → IsFaulty name fault) → IsConfigFault fault
+session_fault_only arguments rows (Clap error) asks is = is (codes "session") rows asks
+session_fault_only arguments rows (Topic why) asks is = tt
