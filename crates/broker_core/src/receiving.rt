@@ -29,9 +29,9 @@ fn lacking(held: &[u8]) -> usize
     }
 }
 
-/// Makes room for a read. A frame announces its size before its bytes come, and memory is taken only
-/// as they do: the room grows to what the frame lacks, but at most doubles what is held. So over all
-/// reads each byte of a frame is moved a few times.
+/// Makes room for a read: what the first frame lacks, but no more than `READ_ROOM` or what is held
+/// already. A frame announces its size before its bytes come, and memory is taken only as they do. As
+/// the room doubles, each byte of a frame is moved a few times over all reads.
 fn make_room<A: Allocator + Copy>(buffer: &mut BytesMut<A>) -> Result<(), AllocError>
     ensures keeps { buffer.new.items ≡ buffer.old.items }
     ensures room { OnOk result (0 < buffer.new.spare) }
@@ -44,8 +44,8 @@ fn make_room<A: Allocator + Copy>(buffer: &mut BytesMut<A>) -> Result<(), AllocE
     buffer.reserve(lacking.min(READ_ROOM.max(held)))
 }
 
-/// Makes one read behind the bytes that are held, and tells whether any came, or the end of input. A
-/// source of which a read has failed before isn't read again.
+/// Makes one read behind the bytes that are held, and tells whether any came, or the end of input.
+/// A source of which a read has failed before isn't read again.
 ///
 /// # Errors
 ///

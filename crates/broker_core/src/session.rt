@@ -48,35 +48,35 @@ const MOST_READS: u64 = 4_294_967_296;
 /// `MOST_READS`, and stopping there says no more of them than stopping at the last read.
 const MOST_FRAMES: u64 = 9_223_372_036_854_775_808;
 
-/// Answers the frames that come from the source, in order, each as soon as it is complete. Each reply
-/// goes to the sink before the next frame is handled, and all complete frames are answered before
-/// more is read. In which pieces the bytes come makes no difference.
+/// Answers the frames that come from the source, in order, each as soon as it is complete. Each
+/// reply goes to the sink before the next frame is handled, and all complete frames are answered
+/// before more is read. In which pieces the bytes come makes no difference. The sink isn't flushed.
 ///
-/// The bytes of an incomplete frame are held; the memory for them grows as they come, whatever size
-/// the frame announces. The sink isn't flushed.
+/// The bytes of an incomplete frame are held. The memory for them grows as they come, whatever size
+/// the frame announces.
 ///
 /// ```
 /// let mut source = Source::new(reader);
 /// let mut sink = Sink::new(writer);
 /// match serve(alloc, &mut node, &mut source, &mut sink) {
 ///     Ok(Ended { frames, rest: 0 }) => {} // so many requests came, and all were answered
-///     Ok(Ended { frames, rest }) => {}    // the client left within a request, which is dropped
+///     Ok(Ended { frames, rest }) => {} // the client left within a request, which is dropped
 ///     Err(SessionError::Frame { index, why }) => {} // the frames before this one were answered
 ///     Err(why) => {}
 /// }
 /// ```
 ///
-/// Where the reader gives a request of 45 bytes behind its size, and the first 2 bytes of another, and
-/// then ends, `serve` answers `Ended { frames: 1, rest: 2 }`, and the writer took one response. Where
-/// 4 bytes of the other came, and they say a negative size, it answers
-/// `Frame { index: 1, why: NegativeSize }`, and doesn't wait for more.
+/// Where the reader gives one request and the first 2 bytes of another, and then ends, the answer is
+/// `Ended { frames: 1, rest: 2 }`, and the writer took one response. Where 4 bytes of the other came,
+/// and they say a negative size, it is `Frame { index: 1, why: NegativeSize }` at once.
 ///
 /// # Errors
 ///
 /// The first thing that stops the session. The frames before it were answered, and the broker is as
-/// they left it; at `Write` the frame whose reply was cut was handled too. A source of which a read
-/// failed before is not read, and the answer is `Read`; a sink of which a write failed before is not
-/// written, and the answer is `Write` at the first reply that isn't empty.
+/// they left it; at `Write` the frame whose reply was cut was handled too.
+///
+/// A source of which a read failed before isn't read: the answer is `Read`. A sink of which a write
+/// failed before isn't written: the answer is `Write` at the first reply that isn't empty.
 #[tactic(auto, using(crate::proofs::ServedSessions::nothing_served))]
 pub fn serve<S: BatchStore, R: Read, W: Write, A: Allocator + Copy>(
     alloc: A,
