@@ -1,5 +1,5 @@
 -- Lemmas on the program's arguments.
-use Rattle.std.proofs.Common.{Global, ◌≡◌, true, List, [], ◌∷◌, map, ap, refl, sym, subst, inl, inr, false, bytes_eq, ◌∙◌, codes, Option, Some, None}
+use Rattle.std.proofs.Common.{◌≡◌, true, List, [], ◌∷◌, map, ap, refl, sym, subst, inl, inr, false, bytes_eq, ◌∙◌, codes, Option, Some, None}
 use Rattle.std.specs.Prelude.{option_map, unwrap_or}
 use Rattle.std.specs.Borrow.{Bor}
 use Rattle.clap.specs.Words.{App, Row, Text, takes, first_value, first_of, all_of, raw_values, matched_of, rows_of, fault_of, subcommand_of, subcommand_rows_of, subcommand_name_of, is_simple, is_simple_and_free, kind_of, HasKind}
@@ -9,10 +9,7 @@ use Rattle.tcp_edge.specs.declared.asked.LineFault.{LineFault}
 use Rattle.tcp_edge.specs.declared.asked.LineFault.TheVariants.{Clap, Topic}
 use Rattle.tcp_edge.specs.declared.asked.Asked.{Asked}
 use Rattle.tcp_edge.specs.declared.asked.Asked.TheVariants.{Table, Session, Serve}
-use Rattle.tcp_edge.specs.Asked.{IsAsked, IsConfigFault, IsFaulty, IsOutOfMemory}
-use Rattle.tcp_edge.specs.CommandLine.{AsksForSession, IsConfigOf}
-use Rattle.broker_core.specs.ConfigValues.{config_value}
-use Rattle.broker_core.specs.declared.config.Config.{Config}
+use Rattle.tcp_edge.specs.Asked.{IsAsked, IsConfigFault, IsFaulty, IsOutOfMemory, IsPlanOf, AsksForOther}
 use Rattle.tcp_edge.specs.declared.asked.Plan.{Plan}
 use Rattle.clap.specs.declared.parser.matches.Found.{Found}
 use Rattle.clap.specs.declared.parser.matches.ArgMatches.{ArgMatches}
@@ -102,22 +99,10 @@ pub table_fault : (arguments : List Text) (fault : LineFault) → AsksForTable a
 table_fault arguments (Clap error) asks is = is (codes "table") [] (finds_table arguments asks)
 table_fault arguments (Topic why) asks is = absurd (is (codes "table") [] (finds_table arguments asks) refl)
 
--- ---- and where a session is
+-- ---- and where something else than a broker that listens is
 
-pub session_asked : (arguments : List Text) (rows : List Row) (g : Config Global) → AsksForSession arguments rows
-    → ((name : Text) (rows : List Row) → Finds arguments name rows → IsAsked name rows (Session g)) → IsConfigOf rows 9092 (config_value g)
-session_asked arguments rows g asks is = (is (codes "session") rows asks).1
-
-pub session_of_table : (arguments : List Text) (rows : List Row) → AsksForSession arguments rows
-    → ((name : Text) (rows : List Row) → Finds arguments name rows → IsAsked name rows Table) → ⊥
-session_of_table arguments rows asks is = (is (codes "session") rows asks).0 refl
-
-pub session_of_serve : (arguments : List Text) (rows : List Row) (plan : Plan) → AsksForSession arguments rows
-    → ((name : Text) (rows : List Row) → Finds arguments name rows → IsAsked name rows (Serve plan)) → ⊥
-session_of_serve arguments rows plan asks is =
-    let bad : true ≡ false = ap (bytes_eq (codes "session")) (is (codes "session") rows asks) in cc
-
-pub session_fault_only : (arguments : List Text) (rows : List Row) (fault : LineFault) → AsksForSession arguments rows
-    → ((name : Text) (rows : List Row) → Finds arguments name rows → IsFaulty name fault) → IsConfigFault fault
-session_fault_only arguments rows (Clap error) asks is = is (codes "session") rows asks
-session_fault_only arguments rows (Topic why) asks is = tt
+pub no_plan : (arguments : List Text) (asked : Asked) (plan : Option Plan) → AsksForOther arguments
+    → ((name : Text) (rows : List Row) → Finds arguments name rows → IsAsked name rows asked) → IsPlanOf asked plan → plan ≡ None
+no_plan arguments Table plan asks is of = of
+no_plan arguments (Session g) plan asks is of = of
+no_plan arguments (Serve p) plan asks is of = absurd (asks.3 (is asks.0 asks.1 asks.2))

@@ -4,7 +4,7 @@ ghost use Rattle.std.specs.Prelude.{◌≡◌, ◌≢◌, ℕ, pos, List, Some, 
 ghost use Rattle.std.specs.Bool.{MatchBool};
 ghost use Rattle.broker_core.specs.ConfigValues.{config_value};
 ghost use Rattle.clap.specs.Words.{Row, Text, found_of, rows_of, subcommand_rows_of};
-ghost use Rattle.tcp_edge.specs.Asked.{IsAsked, IsConfigFault, IsFaulty, IsOutOfMemory};
+ghost use Rattle.tcp_edge.specs.Asked.{IsAsked, IsConfigFault, IsFaulty, IsOutOfMemory, IsPlanOf};
 ghost use Rattle.tcp_edge.specs.CommandLine.{Finds, IsConfigOf, role_of};
 
 use crate::commands::command;
@@ -55,7 +55,9 @@ pub(crate) enum LineFault {
 
 impl Asked {
     /// The broker that listens, if one was asked for.
-    pub(crate) fn plan(self) -> Option<Plan> {
+    pub(crate) fn plan(self) -> Option<Plan>
+        ensures { IsPlanOf self result }
+    {
         match self {
             Asked::Serve(plan) => Some(plan),
             Asked::Table => None,

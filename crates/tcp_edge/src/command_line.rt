@@ -1,9 +1,9 @@
 //! The program's command line.
 
-ghost use Rattle.std.specs.Prelude.{◌≡◌, ◌≢◌, ◌≤◌, ◌⊎◌, ℕ, List, map};
+ghost use Rattle.std.specs.Prelude.{◌≡◌, ◌≢◌, ◌≤◌, ◌⊎◌, ℕ, List, None, IfOk, map};
 ghost use Rattle.batch_codec.specs.Values.{BatchValue};
 ghost use Rattle.clap.specs.Words.{kind_of};
-ghost use Rattle.tcp_edge.specs.Asked.{IsConfigFault, IsOutOfMemory};
+ghost use Rattle.tcp_edge.specs.Asked.{AsksForOther, IsConfigFault, IsOutOfMemory};
 ghost use Rattle.tcp_edge.specs.declared.error.Refusal.{Refusal};
 ghost use Rattle.tcp_edge.specs.CommandLine.{AsksForTable};
 ghost use Rattle.tcp_edge.specs.Refused.{RefusesStream};
@@ -102,7 +102,10 @@ pub fn run_line<S: AsStr, R: Read, W: Write, E: Write>(
 }
 
 /// What the arguments ask of a broker that listens, if they ask for one.
-fn plan_asked<S: AsStr>(alloc: Global, arguments: &[S]) -> Result<Option<Plan>, AllocError> {
+#[tactic(auto, using(crate::proofs::Arguments::no_plan))]
+fn plan_asked<S: AsStr>(alloc: Global, arguments: &[S]) -> Result<Option<Plan>, AllocError>
+    ensures { AsksForOther (map S.text arguments.now) → IfOk result (λ plan. plan ≡ None) }
+{
     match parse(alloc, arguments) {
         Ok(asked) => Ok(asked.plan()),
         Err(why) => {
@@ -120,7 +123,9 @@ fn plan_asked<S: AsStr>(alloc: Global, arguments: &[S]) -> Result<Option<Plan>, 
 /// # Errors
 ///
 /// `AllocError` where there is no memory to look them up.
-pub fn serve_port<S: AsStr>(alloc: Global, arguments: &[S]) -> Result<Option<u16>, AllocError> {
+pub fn serve_port<S: AsStr>(alloc: Global, arguments: &[S]) -> Result<Option<u16>, AllocError>
+    ensures other_has_none { AsksForOther (map S.text arguments.now) → IfOk result (λ port. port ≡ None) }
+{
     match plan_asked(alloc, arguments)? {
         Some(plan) => Ok(Some(plan.config.port)),
         None => Ok(None),
@@ -139,6 +144,9 @@ pub fn run_serve<S: AsStr, W: Write, E: Write>(
     err: &mut E,
 ) -> u8
     ensures is_status { result ≤ 4 }
+    ensures other_is_not_done { AsksForOther (map S.text arguments.now) → (2 ≤ result) × (result ≤ 3)
+        × (out.new ≡ out.old) }
+    ensures other_says_nothing { AsksForOther (map S.text arguments.now) → result ≡ 2 → err.new ≡ err.old }
 {
     match plan_asked(alloc, arguments) {
         Ok(Some(plan)) => listen(alloc, listener, plan, out, err),
