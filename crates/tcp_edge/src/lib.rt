@@ -4,6 +4,7 @@
 mod asked;
 mod command_line;
 mod commands;
+mod connection;
 mod error;
 mod lines;
 mod pending;

@@ -3,6 +3,7 @@
 ghost use Rattle.std.specs.Prelude.{◌≤◌};
 
 use crate::asked::Plan;
+use crate::connection::{Connection, Replies, Requests};
 use crate::error::SessionFault;
 use crate::session::refuse;
 use crate::status::{DONE, fail};
@@ -36,16 +37,21 @@ fn report<W: Write>(
     out.flush()
 }
 
-/// Answers the frames of a connection. Small replies leave at once.
+/// Answers the frames of a connection.
 fn serve_stream(
     alloc: Global,
     node: &mut Node<VecStore<Global>>,
     stream: &TcpStream,
 ) -> Result<Ended, SessionError> {
     let _ = stream.set_nodelay(true);
-    let mut source = Source::new(stream);
-    let mut sink = Sink::new(stream);
-    serve(alloc, node, &mut source, &mut sink)
+    let connection = Connection::new(alloc, stream);
+    let mut source = Source::new(Requests(&connection));
+    let mut sink = Sink::new(Replies(&connection));
+    let answered = serve(alloc, node, &mut source, &mut sink);
+    if connection.send().is_err() || connection.write_failed() {
+        return Err(SessionError::Write);
+    }
+    answered
 }
 
 /// Serves so many connections, and prints a line for each.
