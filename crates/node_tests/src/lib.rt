@@ -1,24 +1,14 @@
-//! Tests of brokers: which configurations are refused, what a new broker holds, and what it answers
-//! to each request.
+//! Tests of brokers: which configurations are refused, what a new broker holds, and how it handles
+//! requests. `tests/rows/requests.rows` has each code of each request.
 #![tactic(auto)]
 
 #[cfg(test)]
 mod configs;
 #[cfg(test)]
-mod fetch;
-#[cfg(test)]
-mod frames;
-#[cfg(test)]
-mod growth;
-#[cfg(test)]
-mod list_offsets;
+mod handling;
 #[cfg(test)]
 mod logs;
 #[cfg(test)]
 mod memory;
-#[cfg(test)]
-mod metadata;
-#[cfg(test)]
-mod produce;
 #[cfg(test)]
 mod refusals;
