@@ -6,7 +6,7 @@ use Rattle.request_frames.specs.declared.requests.FetchRequest.{FetchRequest}
 use Rattle.request_frames.specs.Types.{TopicOf, topic}
 use Rattle.request_frames.specs.Fields.{Value, encoded}
 use Rattle.request_frames.specs.Arrays.{ArrayBytes, values}
-use Rattle.request_frames.specs.Requests.{FetchPartitionValue, topic_request, fetch_partition, fetch_partition_value}
+use Rattle.request_frames.specs.Requests.{topic_request, fetch_partition, fetch_partition_value}
 use Rattle.request_frames.specs.Responses.{response, topic_head, topic_bytes, Fetched, fetched_bytes, fetch_head, fetch_response, fetch_value}
 use Rattle.request_frames.specs.Views.{fetch_view}
 use Rattle.broker_core.specs.Lists.{map_accum}

@@ -1,5 +1,5 @@
 -- How many topics and partitions a valid broker has.
-use Rattle.std.proofs.Common.{◌≡◌, ℕ, ◌+◌, ◌≤◌, arith, Bool, true, false, List, [], ◌∷◌, ◌++◌, length, Option, Some, None, refl, sym, ap, subst, ◌∙◌}
+use Rattle.std.proofs.Common.{◌≡◌, ℕ, ◌+◌, ◌≤◌, arith, Bool, true, false, List, [], ◌∷◌, ◌++◌, length, Option, Some, None, refl, sym, ap, subst}
 use Rattle.std.specs.Prelude.{map, not, nat_lt, bytes_eq}
 use Rattle.std.specs.List.{list_any, All, AllByRecursion}
 use Rattle.std.specs.Option.{option_or}
@@ -7,12 +7,11 @@ use Rattle.std.specs.Int.{is_in_range}
 use Rattle.std.proofs.lemmas.List.{length-append, length-map}
 use Rattle.std.proofs.lemmas.List.Elements.{All-from_recursion}
 use Rattle.request_frames.specs.Names.{is_topic_name}
-use Rattle.broker_core.specs.declared.limits.TheConstants.{MAX_TOPICS, MAX_PARTITIONS, MAX_HOST_BYTES}
-use Rattle.broker_core.specs.declared.error.ConfigError.{ConfigError}
-use Rattle.broker_core.specs.declared.error.ConfigError.TheVariants.{BadHost, TooManyTopics, BadTopic, BadPartitions, TopicTwice}
+use Rattle.broker_core.specs.declared.limits.TheConstants.{MAX_TOPICS, MAX_PARTITIONS}
+use Rattle.broker_core.specs.declared.error.ConfigError.TheVariants.{TooManyTopics, BadTopic, BadPartitions, TopicTwice}
 use Rattle.broker_core.specs.Lists.{fault_if, first_some}
 use Rattle.broker_core.specs.State.{TopicConfig, ConfigValue, group_topic, all_topics}
-use Rattle.broker_core.specs.Configs.{topic_fault, topics_fault, config_fault, IsValidConfig}
+use Rattle.broker_core.specs.Configs.{topic_fault, topics_fault, IsValidConfig}
 use Rattle.broker_core.specs.Parts.{TopicParts, topic_shape, AreTopicsOf}
 
 -- ---- what a configuration without a fault says

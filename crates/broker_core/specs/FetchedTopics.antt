@@ -1,6 +1,5 @@
 -- Fetch: the request as a value, and the response as the code goes.
 use Rattle.std.specs.Prelude.{◌-◌, ℕ, ℤ, List, take, drop}
-use Rattle.batch_codec.specs.Values.{BatchValue}
 use Rattle.request_frames.specs.declared.requests.FetchPartition.{FetchPartition}
 use Rattle.request_frames.specs.declared.requests.FetchRequest.{FetchRequest}
 use Rattle.request_frames.specs.Arrays.{values}

@@ -1,4 +1,4 @@
-use Rattle.std.proofs.Common.{◌≡◌, ◌+◌, [], ◌∷◌, ◌++◌, length, refl, sym, ap, arith, append-nil}
+use Rattle.std.proofs.Common.{◌+◌, [], ◌∷◌, ◌++◌, sym, ap, append-nil}
 use Rattle.std.specs.Prelude.{map}
 use Rattle.std.specs.Vec.{vec_len}
 use Rattle.request_frames.specs.Arrays.{values}
