@@ -12,7 +12,8 @@ const ABOUT: &str = "A message broker with compacted topics";
 const ABOUT_TABLE: &str = "Prints the current state of a topic: reads record batches, end to end, \
 from standard input, and writes a line KEY=VALUE for each key that has a value, by rising key bytes";
 
-const ABOUT_SESSION: &str = "Answers the request frames on standard input, end to end, with response \
+const ABOUT_SESSION: &str =
+    "Answers the request frames on standard input, end to end, with response \
 frames on standard output, as a new broker with these topics";
 
 const ABOUT_SERVE: &str = "Listens on 127.0.0.1 as a new broker with these topics, answers the \
