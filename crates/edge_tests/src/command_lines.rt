@@ -28,7 +28,13 @@ fn sessions(rt: HostRuntime) -> Result<(), Fail> {
     let rows = [
         ("kbroker session t:1", b"".as_slice(), 0, b"".as_slice(), ""),
         ("kbroker session t:1", REQUEST, 0, REPLY, ""),
-        ("kbroker session --role leader t:01 u:2", REQUEST, 0, REPLY, ""),
+        (
+            "kbroker session --role leader t:01 u:2",
+            REQUEST,
+            0,
+            REPLY,
+            "",
+        ),
         (
             "kbroker session t:1",
             &REQUEST[..9],
@@ -73,7 +79,10 @@ fn refused_configurations(rt: HostRuntime) -> Result<(), Fail> {
         ("kbroker session t:1 t:1", "TopicTwice"),
         ("kbroker session __consumer_offsets:1", "TopicTwice"),
         ("kbroker serve --port 0 --connections 0 t", "BadTopic"),
-        ("kbroker serve --port 0 --connections 0 t:-1", "BadPartitions"),
+        (
+            "kbroker serve --port 0 --connections 0 t:-1",
+            "BadPartitions",
+        ),
     ];
     for (line, name) in rows {
         let mut reader = REQUEST;
@@ -93,11 +102,20 @@ fn refused_configurations(rt: HostRuntime) -> Result<(), Fail> {
 fn ports(rt: HostRuntime) -> Result<(), Fail> {
     let rows = [
         ("kbroker serve --port 0 --connections 2 t:1", Some(0)),
-        ("kbroker serve --connections=4294967295 --port=65535 t:1 u:0", Some(65535)),
-        ("kbroker serve --port 9092 --connections 0 --role follower t:1", Some(9092)),
+        (
+            "kbroker serve --connections=4294967295 --port=65535 t:1 u:0",
+            Some(65535),
+        ),
+        (
+            "kbroker serve --port 9092 --connections 0 --role follower t:1",
+            Some(9092),
+        ),
         ("kbroker serve --port 65536 --connections 2 t:1", None),
         ("kbroker serve --port 1 --connections 4294967296 t:1", None),
-        ("kbroker serve --port 1 --connections 1 --role boss t:1", None),
+        (
+            "kbroker serve --port 1 --connections 1 --role boss t:1",
+            None,
+        ),
         ("kbroker serve --port 1 t:1", None),
         ("kbroker serve --connections 1 t:1", None),
         ("kbroker serve --port 1 --connections 1", None),

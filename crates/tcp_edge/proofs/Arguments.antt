@@ -2,20 +2,21 @@
 use Rattle.std.proofs.Common.{◌≡◌, true, List, [], ◌∷◌, map, ap, refl, sym, subst, inl, inr, false, bytes_eq, ◌∙◌, codes, Option, Some, None}
 use Rattle.std.specs.Prelude.{option_map, unwrap_or}
 use Rattle.std.specs.Borrow.{Bor}
-use Rattle.clap.specs.Words.{App, Row, Text, takes, first_value, first_of, all_of, raw_values, matched_of, rows_of, fault_of, subcommand_of, subcommand_rows_of, subcommand_name_of, is_simple, is_simple_and_free, kind_of, HasKind}
+use Rattle.std.proofs.lemmas.Option.{none-some, same_Some}
+use Rattle.clap.specs.Words.{App, Row, Text, first_value, first_of, all_of, raw_values, matched_of, rows_of, fault_of, subcommand_of, subcommand_rows_of, subcommand_name_of, is_simple, is_simple_and_free, kind_of, HasKind, HasMatchesOf}
 use Rattle.clap.specs.declared.error.Error.{Error}
 use Rattle.clap.specs.declared.error.kind.ErrorKind.TheVariants.{OutOfMemory}
 use Rattle.tcp_edge.specs.declared.asked.LineFault.{LineFault}
 use Rattle.tcp_edge.specs.declared.asked.LineFault.TheVariants.{Clap, Topic}
 use Rattle.tcp_edge.specs.declared.asked.Asked.{Asked}
 use Rattle.tcp_edge.specs.declared.asked.Asked.TheVariants.{Table, Session, Serve}
-use Rattle.tcp_edge.specs.Asked.{IsAsked, IsConfigFault, IsFaulty, IsOutOfMemory, IsPlanOf, AsksForOther}
+use Rattle.tcp_edge.specs.Asked.{IsAsked, IsConfigFault, IsFaulty, IsOutOfMemory, IsPlanOf, IfSession, AsksForOther}
 use Rattle.tcp_edge.specs.declared.asked.Plan.{Plan}
 use Rattle.clap.specs.declared.parser.matches.Found.{Found}
 use Rattle.clap.specs.declared.parser.matches.ArgMatches.{ArgMatches}
 use Rattle.clap.proofs.OnLiterals.{clap_on_literals}
 use Rattle.clap.proofs.WalkLemmas.{first_value-rows, raw_values-rows}
-use Rattle.tcp_edge.specs.CommandLine.{kbroker, AsksForTable, Finds, Roles, IsRoles}
+use Rattle.tcp_edge.specs.CommandLine.{kbroker, AsksForTable, Finds, NamesSession, Roles, IsRoles}
 
 -- ---- the table
 
@@ -58,6 +59,31 @@ firsts f g (Some b) = refl
 pub name_found : (m : ArgMatches) (name : Text) (rows : List Row) → subcommand_rows_of m ≡ Some (name, rows) → subcommand_name_of m ≡ Some name
 name_found m name rows is = sym (firsts _ _ _) ∙ ap (option_map (λ (p : Text × List Row). p.0)) is
 
+-- a subcommand that was found under a name has its values
+rows_by_name : (o : Option (Text × List Row)) (name : Text) → option_map (λ (p : Text × List Row). p.0) o ≡ Some name
+    → (rows : List Row) × (o ≡ Some (name, rows))
+rows_by_name None name is = absurd (none-some name is)
+rows_by_name (Some p) name is = (p.1, ap (λ (t : Text). Some (t, p.1)) (same_Some p.0 name is))
+
+-- where a subcommand `session` was found, one is named
+pub session_named : (app : App) (roles : Roles) (arguments : List Text) (m : ArgMatches) → IsRoles roles → app ≡ kbroker roles
+    → HasMatchesOf app arguments m → (is_simple_and_free app ≡ true → fault_of app arguments ≡ [])
+    → subcommand_name_of m ≡ Some (codes "session") → NamesSession arguments
+session_named app roles arguments m are is matches fine name =
+    let by_name : (rows : List Row) × (subcommand_rows_of m ≡ Some (codes "session", rows)) = rows_by_name (subcommand_rows_of m) (codes "session") (firsts _ _ _ ∙ name) in
+    record {
+      roles = roles;
+      are_roles = are;
+      no_fault = sym (ap (λ (a : App). fault_of a arguments) is) ∙ fine (is_free_kbroker app roles is);
+      rows = by_name.0;
+      found = sym (ap (λ (a : App). subcommand_of a arguments) is) ∙ (sym (matches (is_simple_kbroker app roles is)).1 ∙ by_name.1);
+    }
+
+pub if_session_named : (asked : Asked) (P Q : Type 0) → IfSession asked P → (P → Q) → IfSession asked Q
+if_session_named Table P Q is leads = tt
+if_session_named (Session g) P Q is leads = leads is
+if_session_named (Serve plan) P Q is leads = tt
+
 -- the values that were found, or none
 pub words_found : (o : Option (Bor (List (Bor Text)))) (none : Bor (List (Bor Text))) (e : Option (List Text))
     → option_map (λ (s : Bor (List (Bor Text))). map (λ (w : Bor Text). w.now) s.now) o ≡ e → none.now ≡ []
@@ -93,6 +119,13 @@ table_asked arguments (Session g) asks is =
     let bad : true ≡ false = ap (bytes_eq (codes "table")) (is (codes "table") [] (finds_table arguments asks)).0 in cc
 table_asked arguments (Serve plan) asks is =
     let bad : true ≡ false = ap (bytes_eq (codes "table")) (is (codes "table") [] (finds_table arguments asks)) in cc
+
+pub no_session : (arguments : List Text) (asked : Asked) → AsksForTable arguments
+    → ((name : Text) (rows : List Row) → Finds arguments name rows → IsAsked name rows asked) → IfSession asked ⊥
+no_session arguments Table asks is = tt
+no_session arguments (Session g) asks is =
+    let bad : true ≡ false = ap (bytes_eq (codes "table")) (is (codes "table") [] (finds_table arguments asks)).0 in cc
+no_session arguments (Serve plan) asks is = tt
 
 pub table_fault : (arguments : List Text) (fault : LineFault) → AsksForTable arguments
     → ((name : Text) (rows : List Row) → Finds arguments name rows → IsFaulty name fault) → IsOutOfMemory fault

@@ -1,5 +1,5 @@
 -- What a session does, from the bytes that come in to the bytes that go out.
-use Rattle.std.specs.Prelude.{◌≡◌, ◌⊎◌, ℕ, ◌<◌, List, [], length, Option}
+use Rattle.std.specs.Prelude.{◌⊎◌, ℕ, ◌<◌, List, [], length, Option}
 use Rattle.std.specs.Io.KnownBytes.{Consumes, Appends, IsAtEnd}
 use Rattle.request_frames.specs.declared.error.FrameError.{FrameError}
 use Rattle.request_frames.specs.Frames.{IsIncomplete}

@@ -15,6 +15,12 @@ IsAsked name rows Table = (name ≢ codes "session") × (name ≢ codes "serve")
 IsAsked name rows (Session g) = (name ≡ codes "session") × IsConfigOf rows 9092 (config_value g)
 IsAsked name rows (Serve plan) = name ≡ codes "serve"
 
+-- it is a session only if this holds
+abbrev pub IfSession : Asked → Type 0 → Type 0
+IfSession Table P = ⊤
+IfSession (Session g) P = P
+IfSession (Serve plan) P = ⊤
+
 -- there was no memory to look at the arguments
 abbrev pub IsOutOfMemory : LineFault → Type 0
 IsOutOfMemory (Clap error) = kind_of error ≡ kind.OutOfMemory

@@ -107,6 +107,15 @@ pub record IsConfigOf (rows : List Row) (port : ℕ) (g : ConfigValue) : Type 0 
   pub port_is : g.port ≡ port
   pub topics : AreTopics (topic_words rows) g.topics
 
+-- Clap finds no fault in the arguments, and finds the subcommand `session` in them, where the words of roles lie somewhere in
+-- memory.
+pub record NamesSession (arguments : List Text) : Type 0 where
+  pub roles : Roles
+  pub are_roles : IsRoles roles
+  pub no_fault : fault_of (kbroker roles) arguments ≡ []
+  pub rows : List Row
+  pub found : subcommand_of (kbroker roles) arguments ≡ Some (codes "session", rows)
+
 -- a session, with these values of its arguments
 abbrev pub AsksForSession : List Text → List Row → Type 0
 AsksForSession arguments rows = Finds arguments (codes "session") rows

@@ -3,9 +3,9 @@
 ghost use Rattle.std.specs.Prelude.{◌≡◌, ◌≢◌, ℕ, pos, List, Some, IfOk, IfErr, MatchResult, codes, map};
 ghost use Rattle.std.specs.Bool.{MatchBool};
 ghost use Rattle.broker_core.specs.ConfigValues.{config_value};
-ghost use Rattle.clap.specs.Words.{Row, Text, found_of, rows_of, subcommand_rows_of};
-ghost use Rattle.tcp_edge.specs.Asked.{IsAsked, IsConfigFault, IsFaulty, IsOutOfMemory, IsPlanOf};
-ghost use Rattle.tcp_edge.specs.CommandLine.{Finds, IsConfigOf, role_of};
+ghost use Rattle.clap.specs.Words.{Row, Text, found_of, rows_of, subcommand_name_of, subcommand_rows_of};
+ghost use Rattle.tcp_edge.specs.Asked.{IfSession, IsAsked, IsConfigFault, IsFaulty, IsOutOfMemory, IsPlanOf};
+ghost use Rattle.tcp_edge.specs.CommandLine.{Finds, IsConfigOf, NamesSession, role_of};
 
 use crate::commands::command;
 use crate::topics::topics_of;
@@ -133,9 +133,11 @@ fn plan_of(alloc: Global, matches: &ArgMatches<'_>) -> Result<Plan, LineFault>
 /// What the matches ask for. A subcommand was named, so it is `table` if it is none of the others.
 #[tactic(auto, using(crate::proofs::Arguments::name_found, crate::proofs::Arguments::session_fault, crate::proofs::Arguments::serve_fault))]
 fn asked_by(alloc: Global, matches: &ArgMatches<'_>) -> Result<Asked, LineFault>
-    ensures { (name : Text) (rows : List Row)
+    ensures asked { (name : Text) (rows : List Row)
         → subcommand_rows_of matches.now ≡ Some (name, rows)
         → MatchResult result (IsAsked name rows) (IsFaulty name) }
+    ensures session { IfOk result (λ asked.
+        IfSession asked (subcommand_name_of matches.now ≡ Some (codes "session"))) }
 {
     match matches.subcommand_matches("session") {
         Some(inner) => return Ok(Asked::Session(config_of(alloc, inner, SESSION_PORT)?)),
@@ -149,8 +151,10 @@ fn asked_by(alloc: Global, matches: &ArgMatches<'_>) -> Result<Asked, LineFault>
 
 /// Looks the arguments up, of which the first is the program's name.
 pub(crate) fn parse<S: AsStr>(alloc: Global, arguments: &[S]) -> Result<Asked, LineFault>
-    ensures { (name : Text) (rows : List Row) → Finds (map S.text arguments.now) name rows
+    ensures asked { (name : Text) (rows : List Row) → Finds (map S.text arguments.now) name rows
         → MatchResult result (IsAsked name rows) (IsFaulty name) }
+    ensures session { IfOk result (λ asked.
+        IfSession asked (NamesSession (map S.text arguments.now))) }
 {
     match command(alloc)?.try_get_matches_from(arguments) {
         Ok(matches) => asked_by(alloc, &matches),

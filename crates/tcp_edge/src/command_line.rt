@@ -5,7 +5,7 @@ ghost use Rattle.batch_codec.specs.Values.{BatchValue};
 ghost use Rattle.clap.specs.Words.{kind_of};
 ghost use Rattle.tcp_edge.specs.Asked.{AsksForOther, IsConfigFault, IsOutOfMemory};
 ghost use Rattle.tcp_edge.specs.declared.error.Refusal.{Refusal};
-ghost use Rattle.tcp_edge.specs.CommandLine.{AsksForTable};
+ghost use Rattle.tcp_edge.specs.CommandLine.{AsksForTable, NamesSession};
 ghost use Rattle.tcp_edge.specs.Refused.{RefusesStream};
 ghost use Rattle.tcp_edge.specs.Tables.{ReadsLog, PrintsTable};
 
@@ -77,6 +77,12 @@ pub fn run_line<S: AsStr, R: Read, W: Write, E: Write>(
     ensures faulty_prints_nothing { result ≡ 2 → out.new ≡ out.old }
     ensures faulty_reads_nothing { result ≡ 2 → reader.new ≡ reader.old }
 
+    // A run that is done has printed help and read nothing, or it has printed the table, or it was
+    // asked for a session.
+    ensures done_prints_help_or_table_or_serves_a_session { result ≡ 0
+        → (reader.new ≡ reader.old) ⊎ PrintsTable
+        (R.remaining reader.old) (R.remaining reader.new)
+        (W.contents out.old) (W.contents out.new) ⊎ NamesSession (map S.text arguments.now) }
     // Asked for the table, it prints the table or says why there is none.
     ensures table_is_no_fault { AsksForTable (map S.text arguments.now) → result ≢ 2 }
     ensures table_is_printed { AsksForTable (map S.text arguments.now) → result ≡ 0 → PrintsTable

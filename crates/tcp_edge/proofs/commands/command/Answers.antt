@@ -1,8 +1,8 @@
-use Rattle.std.proofs.Common.{rules, refl, map, ◌∷◌, [], ap, ap₂, ◌≡◌, ◌∙◌, codes}
+use Rattle.std.proofs.Common.{rules, refl, [], ap, ap₂, ◌≡◌, ◌∙◌, codes}
 use Rattle.std.proofs.lemmas.Result.{IfOk-weaker}
 use Rattle.clap.specs.Words.{App, Shape, app_of, new_app, with_rule, with_subcommand}
 use Rattle.clap.specs.Simple.{app_of_fields}
-use Rattle.tcp_edge.specs.CommandLine.{kbroker, session_app, serve_app, top}
+use Rattle.tcp_edge.specs.CommandLine.{session_app, serve_app, top}
 use Rattle.tcp_edge.proofs.commands.command.Goals as goal
 
 abbrev top_of : App → Shape
