@@ -22,7 +22,7 @@ find_test : {X Y : Type 0} (b : Bool) (f : X → Y) (x : X) (r : Option X) → c
 find_test true f x r = refl
 find_test false f x r = refl
 
-find_map : {X Y : Type 0} (f : X → Y) (test : Y → Bool) (xs : List X) → find test (map f xs) ≡ option_map f (find (λ x. test (f x)) xs)
+pub find_map : {X Y : Type 0} (f : X → Y) (test : Y → Bool) (xs : List X) → find test (map f xs) ≡ option_map f (find (λ x. test (f x)) xs)
 find_map f test [] = refl
 find_map f test (x ∷ xs) = ap (λ r. cond (test (f x)) (Some (f x)) r) (find_map f test xs) ∙ find_test (test (f x)) f x (find (λ y. test (f y)) xs)
 

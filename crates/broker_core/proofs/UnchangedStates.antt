@@ -18,7 +18,7 @@ use Rattle.broker_core.specs.Plans.{over_entries, over_topics}
 use Rattle.broker_core.specs.Replies.{reply}
 use Rattle.broker_core.specs.ListedOffsets.{listed_topic, listed_topics}
 
-map_twice : {X Y Z : Type 0} (f : X → Y) (g : Y → Z) (xs : List X) → map g (map f xs) ≡ map (λ x. g (f x)) xs
+pub map_twice : {X Y Z : Type 0} (f : X → Y) (g : Y → Z) (xs : List X) → map g (map f xs) ≡ map (λ x. g (f x)) xs
 map_twice f g [] = refl
 map_twice f g (x ∷ xs) = ap (λ zs. g (f x) ∷ zs) (map_twice f g xs)
 

@@ -1,8 +1,9 @@
 -- Responses written entry by entry.
-use Rattle.std.proofs.Common.{◌≡◌, ℕ, ◌+◌, ◌≤◌, ℤ, arith, List, [], ◌∷◌, ◌++◌, length, sym, ap, ◌∙◌, append_assoc, append-nil}
-use Rattle.std.specs.Prelude.{map}
+use Rattle.std.proofs.Common.{◌≡◌, ℕ, ◌+◌, ◌≤◌, ◌<◌, get_or, take, ℤ, arith, Result, Ok, Err, List, [], ◌∷◌, ◌++◌, length, sym, ap, ◌∙◌, append_assoc, append-nil}
+use Rattle.std.specs.Prelude.{map, OnErr}
 use Rattle.std.specs.List.{flat_map}
-use Rattle.std.proofs.lemmas.List.{length-map, length-append}
+use Rattle.std.proofs.lemmas.List.{length-map, length-append, take_more, map-append}
+use Rattle.std.proofs.lemmas.Grind.{flat_map-append}
 use Rattle.request_frames.specs.Responses.{response_head, topic_head, topic_bytes}
 use Rattle.batch_codec.specs.Writing.{Begins}
 
@@ -43,3 +44,25 @@ size_is_there old new fields correlation n m e before after =
     let front = old ++ response_head correlation in
     let whole : length new ≡ length (front ++ fields) = ap length e in
     omega (arith, whole, length-append front fields, length-append old (response_head correlation), before, after)
+
+-- what stands in front of what stands in front
+pub begins_both : (a b c : List ℕ) → Begins a b → Begins b c → Begins a c
+begins_both a b c h k = begins_more a b c k.0 h k.1
+
+pub on_err_of : {T E P : Type 0} (r : Result T E) → P → OnErr r P
+on_err_of (Ok x) p = tt
+on_err_of (Err e) p = p
+
+-- one more of the elements that are written one after the other
+pub next_written : {X R : Type 0} (enc : R → List ℕ) (f : X → R) (old out new : List ℕ) (i : ℕ) (xs : List X) (x : X) → i < length xs → x ≡ get_or xs i x
+    → out ≡ old ++ flat_map enc (map f (take i xs)) → new ≡ out ++ enc (f x) → new ≡ old ++ flat_map enc (map f (take (i + 1) xs))
+next_written enc f old out new i xs x low is so_far e =
+    let before = map f (take i xs) in
+    let all : map f (take (i + 1) xs) ≡ before ++ f x ∷ [] = ap (map f) (take_more xs i x low) ∙ map-append f (take i xs) (get_or xs i x ∷ []) ∙ ap (λ y. before ++ f y ∷ []) (sym is) in
+    e ∙ ap (λ (y : List ℕ). y ++ enc (f x)) so_far ∙ append_assoc old (flat_map enc before) (enc (f x))
+    ∙ ap (λ (y : List ℕ). old ++ (flat_map enc before ++ y)) (sym (append-nil (enc (f x))))
+    ∙ ap (λ (y : List ℕ). old ++ y) (sym (ap (flat_map enc) all ∙ flat_map-append enc before (f x ∷ [])))
+
+pub on_err : {T E P Q : Type 0} (r : Result T E) → (P → Q) → OnErr r P → OnErr r Q
+on_err (Ok x) f p = tt
+on_err (Err e) f p = f p

@@ -10,21 +10,35 @@
 //! what is done where all pass, and what is answered where one fails.
 #![tactic(auto)]
 
+mod answering;
+mod asked;
 mod codes;
 mod config;
 mod entries;
 mod error;
 pub mod examples;
+mod fetch;
+mod fetching;
+mod handling;
 mod judging;
 mod laws;
 mod limits;
 mod list_offsets;
+mod listing;
+mod metadata;
 mod node;
 mod partition;
+mod produce;
+mod producing;
+mod receiving;
+mod room;
+mod session;
 
 pub use codes::ErrorCode;
 pub use config::{Config, Role, TopicConfig};
 pub use error::ConfigError;
+pub use handling::Answer;
 pub use laws::{answered_snoc, answers_function, append_faults, one_content_changes};
 pub use limits::{GROUP_TOPIC, MAX_FETCH_BYTES, MAX_HOST_BYTES, MAX_PARTITIONS, MAX_TOPICS};
 pub use node::Node;
+pub use session::{Ended, SessionError, serve};

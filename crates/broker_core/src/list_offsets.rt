@@ -102,7 +102,7 @@ impl<S: BatchStore> Node<S> {
     /// # Errors
     ///
     /// `AllocError` where there is no memory for the response; the output is then as before.
-    pub fn list_offsets<A: Allocator + Copy>(
+    pub(crate) fn list_offsets<A: Allocator + Copy>(
         &self,
         correlation: i32,
         request: &ListOffsetsRequest<'_>,

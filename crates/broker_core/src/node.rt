@@ -1,27 +1,31 @@
 //! A broker: its configuration, and the partitions of its topics.
 
-ghost use Rattle.std.specs.Prelude.{◌≡◌, IfOk, IfErr, map, replicate, bytes_eq};
-ghost use Rattle.std.specs.List.{find};
+ghost use Rattle.std.specs.Prelude.{◌≡◌, ◌≤◌, ◌+◌, true, is_some, IfOk, IfErr, map, replicate, length, position, bytes_eq};
+ghost use Rattle.std.specs.List.{find, All};
 ghost use Rattle.std.specs.Option.{option_map, option_and_then};
 ghost use Rattle.content.specs.Content.{empty};
-ghost use Rattle.broker_core.specs.State.{new_state, all_topics, partition_of, partition_at};
+ghost use Rattle.broker_core.specs.State.{new_state, all_topics, partition_of, partition_at, is_known};
+ghost use Rattle.broker_core.specs.Appending.{AppendsIn, AppendsAt};
+ghost use Rattle.broker_core.specs.declared.config.Role.TheVariants.{Leader};
 ghost use Rattle.broker_core.specs.Configs.{IsValidConfig, ConfigFault};
 ghost use Rattle.broker_core.specs.ConfigValues.{config_value, topic_config};
-ghost use Rattle.broker_core.specs.Parts.{new_parts, topic_contents};
+ghost use Rattle.broker_core.specs.Parts.{new_parts, topic_contents, topic_shape, HasRole};
 
 use crate::config::{Config, Role};
 use crate::error::ConfigError;
 use crate::judging::config_fault;
-use crate::limits::GROUP_TOPIC;
+use crate::limits::{GROUP_TOPIC, MAX_PARTITIONS, MAX_TOPICS};
 use crate::partition::Partition;
-use partition_log::PartitionLog;
+use batch_codec::BatchView;
+use partition_log::{AppendError, Appended, PartitionLog};
+use request_frames::response::metadata::MetadataBroker;
 use segment::BatchStore;
 use std::alloc::AllocError;
 use std::marker::Model;
 
 /// A topic's partitions, from 0 on.
 #[derive(Drop)]
-struct TopicLogs<S: BatchStore> {
+pub(crate) struct TopicLogs<S: BatchStore> {
     name: Vec<u8, S::Alloc>,
     partitions: Vec<Partition<S>, S::Alloc>,
 }
@@ -45,10 +49,48 @@ impl<S: BatchStore> TopicLogs<S> {
         }
         self.partitions.get(number as usize)
     }
+
+    /// Appends a batch to a partition that is there.
+    fn append(&mut self, number: i32, batch: &BatchView<'_>) -> Result<Appended, AppendError>
+        requires is_there { is_some (partition_of number (topic_contents self.old)) ≡ true }
+        requires leads { HasRole Leader self.old }
+        ensures appends { AppendsIn (topic_contents self.old) number batch.now result
+            (topic_contents self.new) }
+        ensures shape { topic_shape self.new ≡ topic_shape self.old }
+        ensures roles { HasRole Leader self.new }
+    {
+        self.partitions[number as usize].append(batch)
+    }
+
+    /// The name.
+    pub(crate) fn name(&self) -> &[u8]
+        ensures { result.now ≡ self.now.name }
+    {
+        &self.name
+    }
+
+    /// How many partitions there are.
+    pub(crate) fn partition_count(&self) -> usize
+        ensures { result ≡ length self.now.partitions }
+    {
+        self.partitions.len()
+    }
+}
+
+/// The place of the topic of a name.
+fn place_of<S: BatchStore>(topics: &[TopicLogs<S>], name: &[u8]) -> Option<usize>
+    ensures { result ≡ position (λ t. bytes_eq t.name name.now) topics.now }
+{
+    topics
+        .iter()
+        .position(|topic| topic.name.as_slice() == name)
 }
 
 /// The topic of a name.
-fn topic_of<'a, S: BatchStore>(topics: &'a [TopicLogs<S>], name: &[u8]) -> Option<&'a TopicLogs<S>>
+pub(crate) fn topic_of<'a, S: BatchStore>(
+    topics: &'a [TopicLogs<S>],
+    name: &[u8],
+) -> Option<&'a TopicLogs<S>>
     ensures { option_map (λ t. t.now) result ≡ find (λ t. bytes_eq t.name name.now) topics.now }
 {
     for topic in topics {
@@ -183,5 +225,49 @@ impl<S: BatchStore> Node<S> {
         ensures { result ≡ self.now.config.role }
     {
         self.config.role
+    }
+
+    /// Appends a batch to a partition that the broker leads.
+    ///
+    /// # Errors
+    ///
+    /// The first fault of the batch; nothing changes.
+    pub(crate) fn append(
+        &mut self,
+        topic: &[u8],
+        partition: i32,
+        batch: &BatchView<'_>,
+    ) -> Result<Appended, AppendError>
+        requires is_known { is_known self.old topic.now partition ≡ true }
+        requires leads { self.old.config.role ≡ Leader }
+        ensures { AppendsAt self.old topic.now partition batch.now result self.new }
+    {
+        let Some(place) = place_of(&self.topics, topic) else {
+            unreachable!()
+        };
+        self.topics[place].append(partition, batch)
+    }
+
+    /// What clients are told of the broker itself.
+    pub(crate) fn broker(&self) -> MetadataBroker<'_>
+        ensures node_id { result.node_id ≡ self.now.config.node_id }
+        ensures host { result.host.now ≡ self.now.config.host }
+        ensures port { result.port ≡ self.now.config.port }
+    {
+        MetadataBroker {
+            node_id: self.config.node_id,
+            host: self.config.host.as_bytes(),
+            port: self.config.port,
+        }
+    }
+
+    /// The topics.
+    #[tactic(auto, using(crate::proofs::Shapes::few_topics, crate::proofs::Shapes::few_partitions))]
+    pub(crate) fn topics(&self) -> &[TopicLogs<S>]
+        ensures topics { map topic_contents result.now ≡ self.now.topics }
+        ensures few { length result.now ≤ MAX_TOPICS + 1 }
+        ensures few_partitions { All (λ t. length t.partitions ≤ MAX_PARTITIONS) result.now }
+    {
+        &self.topics
     }
 }

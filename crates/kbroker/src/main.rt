@@ -1,13 +1,14 @@
-//! The broker's program: its arguments and its standard streams, given to the library.
+//! The broker's program: its arguments, its standard streams and its socket, given to the library.
 #![tactic(auto)]
 
 ghost use Rattle.std.specs.Prelude.{◌≡◌, ◌≤◌};
 ghost use Rattle.std.specs.IoError.{error_kind};
 
 use std::io::ErrorKind;
+use std::net::{Ipv4Addr, TcpListener};
 use std::process::ExitCode;
 use std::{env, io};
-use tcp_edge::{FAILED, FAULTY, NO_MEMORY, run_line};
+use tcp_edge::{FAILED, FAULTY, NO_MEMORY, run_line, run_serve, serve_port};
 
 /// The arguments of the command line, the program's name first.
 fn arguments(rt: &HostRuntime) -> io::Result<Vec<String>> {
@@ -40,15 +41,51 @@ fn no_arguments(rt: &HostRuntime, why: &io::Error) -> u8
     }
 }
 
-fn main(rt: HostRuntime) -> ExitCode {
-    let status = match arguments(&rt) {
-        Ok(arguments) => run_line(
+/// Says that there is no memory, and answers the status.
+fn no_memory(rt: &HostRuntime) -> u8
+    ensures { result ≡ 3 }
+{
+    let _ = eprintln!(rt; "kbroker: out of memory");
+    NO_MEMORY
+}
+
+/// Listens on a port as the arguments ask.
+fn listen(rt: &HostRuntime, port: u16, arguments: &[String]) -> u8
+    ensures { result ≤ 4 }
+{
+    let Ok(listener) = TcpListener::bind(rt, (Ipv4Addr::LOCALHOST, port)) else {
+        let _ = eprintln!(rt; "kbroker: read failed");
+        return FAILED;
+    };
+    run_serve(
+        rt.alloc(),
+        &listener,
+        arguments,
+        &mut rt.stdout(),
+        &mut rt.stderr(),
+    )
+}
+
+/// Does what the arguments ask for, and answers the status.
+fn run(rt: &HostRuntime, arguments: &[String]) -> u8
+    ensures { result ≤ 4 }
+{
+    match serve_port(rt.alloc(), arguments) {
+        Ok(Some(port)) => listen(rt, port, arguments),
+        Ok(None) => run_line(
             rt.alloc(),
-            &arguments,
+            arguments,
             &mut rt.stdin(),
             &mut rt.stdout(),
             &mut rt.stderr(),
         ),
+        Err(_) => no_memory(rt),
+    }
+}
+
+fn main(rt: HostRuntime) -> ExitCode {
+    let status = match arguments(&rt) {
+        Ok(arguments) => run(&rt, &arguments),
         Err(why) => no_arguments(&rt, &why),
     };
     ExitCode::from(status)

@@ -1,10 +1,11 @@
-//! Tests of brokers: which configurations are refused, and what a new broker holds.
+//! Tests of brokers: which configurations are refused, what a new broker holds, and how it handles
+//! requests. `tests/rows/requests.rows` has each code of each request.
 #![tactic(auto)]
 
 #[cfg(test)]
 mod configs;
 #[cfg(test)]
-mod list_offsets;
+mod handling;
 #[cfg(test)]
 mod logs;
 #[cfg(test)]

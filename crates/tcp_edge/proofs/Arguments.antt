@@ -1,14 +1,141 @@
 -- Lemmas on the program's arguments.
-use Rattle.std.proofs.Common.{◌≡◌, true, List, [], ◌∷◌, ap, refl, ◌∙◌, codes}
-use Rattle.clap.specs.Words.{App, Text, takes}
+use Rattle.std.proofs.Common.{◌≡◌, true, List, [], ◌∷◌, map, ap, refl, sym, subst, inl, inr, false, bytes_eq, ◌∙◌, codes, Option, Some, None}
+use Rattle.std.specs.Prelude.{option_map, unwrap_or}
+use Rattle.std.specs.Borrow.{Bor}
+use Rattle.std.proofs.lemmas.Option.{none-some, same_Some}
+use Rattle.clap.specs.Words.{App, Row, Text, first_value, first_of, all_of, raw_values, matched_of, rows_of, fault_of, subcommand_of, subcommand_rows_of, subcommand_name_of, is_simple, is_simple_and_free, kind_of, HasKind, HasMatchesOf}
+use Rattle.clap.specs.declared.error.Error.{Error}
+use Rattle.clap.specs.declared.error.kind.ErrorKind.TheVariants.{OutOfMemory}
+use Rattle.tcp_edge.specs.declared.asked.LineFault.{LineFault}
+use Rattle.tcp_edge.specs.declared.asked.LineFault.TheVariants.{Clap, Topic}
+use Rattle.tcp_edge.specs.declared.asked.Asked.{Asked}
+use Rattle.tcp_edge.specs.declared.asked.Asked.TheVariants.{Table, Session, Serve}
+use Rattle.tcp_edge.specs.Asked.{IsAsked, IsConfigFault, IsFaulty, IsOutOfMemory, IsPlanOf, IfSession, AsksForOther}
+use Rattle.tcp_edge.specs.declared.asked.Plan.{Plan}
+use Rattle.clap.specs.declared.parser.matches.Found.{Found}
+use Rattle.clap.specs.declared.parser.matches.ArgMatches.{ArgMatches}
 use Rattle.clap.proofs.OnLiterals.{clap_on_literals}
-use Rattle.tcp_edge.specs.CommandLine.{kbroker, AsksForTable}
+use Rattle.clap.proofs.WalkLemmas.{first_value-rows, raw_values-rows}
+use Rattle.tcp_edge.specs.CommandLine.{kbroker, AsksForTable, Finds, NamesSession, Roles, IsRoles}
 
-takes_table : (name : Text) → takes kbroker (name ∷ codes "table" ∷ []) ≡ true
+-- ---- the table
+
+no_fault_of_table : (roles : Roles) (name : Text) → fault_of (kbroker roles) (name ∷ codes "table" ∷ []) ≡ []
 unfolding clap_on_literals
-takes_table name = refl
+no_fault_of_table roles name = refl
 
--- a command as `kbroker` takes the arguments that ask for the table
-pub takes_arguments : (app : App) (arguments : List Text) → app ≡ kbroker → AsksForTable arguments → takes app arguments ≡ true
-takes_arguments app arguments is asks =
-    ap (λ (a : App). takes a arguments) is ∙ ap (λ (t : List Text). takes kbroker t) asks.1 ∙ takes_table asks.0
+table_found : (roles : Roles) (name : Text) → subcommand_of (kbroker roles) (name ∷ codes "table" ∷ []) ≡ Some (codes "table", [])
+unfolding clap_on_literals
+table_found roles name = refl
+
+-- arguments that ask for the table are found to do so
+pub finds_table : (arguments : List Text) → AsksForTable arguments → Finds arguments (codes "table") []
+finds_table arguments asks = record {
+  no_fault = λ roles _. subst (λ (t : List Text). fault_of (kbroker roles) t ≡ []) (sym asks.1) (no_fault_of_table roles asks.0);
+  found = λ roles _. subst (λ (t : List Text). subcommand_of (kbroker roles) t ≡ Some (codes "table", [])) (sym asks.1) (table_found roles asks.0);
+}
+
+-- ---- the command is one of which clap's words give the matches
+
+pub is_simple_kbroker : (app : App) (roles : Roles) → app ≡ kbroker roles → is_simple app ≡ true
+is_simple_kbroker app roles is = ap is_simple is
+
+pub is_free_kbroker : (app : App) (roles : Roles) → app ≡ kbroker roles → is_simple_and_free app ≡ true
+is_free_kbroker app roles is = ap is_simple_and_free is
+
+-- ---- what is read of the matches
+
+pub first_row : (f : Found) (id : Text) → first_value f id ≡ first_of id (rows_of f)
+first_row f id = first_value-rows f id
+
+pub all_rows : (f : Found) (id : Text) → option_map raw_values (matched_of f id) ≡ all_of id (rows_of f)
+all_rows f id = raw_values-rows f id
+
+firsts : {X A B : Type 0} (f : X → A) (g : X → B) (x : Option X) → option_map (λ (p : A × B). p.0) (option_map (λ b. (f b, g b)) x) ≡ option_map f x
+firsts f g None = refl
+firsts f g (Some b) = refl
+
+-- the name under which a subcommand was found
+pub name_found : (m : ArgMatches) (name : Text) (rows : List Row) → subcommand_rows_of m ≡ Some (name, rows) → subcommand_name_of m ≡ Some name
+name_found m name rows is = sym (firsts _ _ _) ∙ ap (option_map (λ (p : Text × List Row). p.0)) is
+
+-- a subcommand that was found under a name has its values
+rows_by_name : (o : Option (Text × List Row)) (name : Text) → option_map (λ (p : Text × List Row). p.0) o ≡ Some name
+    → (rows : List Row) × (o ≡ Some (name, rows))
+rows_by_name None name is = absurd (none-some name is)
+rows_by_name (Some p) name is = (p.1, ap (λ (t : Text). Some (t, p.1)) (same_Some p.0 name is))
+
+-- where a subcommand `session` was found, one is named
+pub session_named : (app : App) (roles : Roles) (arguments : List Text) (m : ArgMatches) → IsRoles roles → app ≡ kbroker roles
+    → HasMatchesOf app arguments m → (is_simple_and_free app ≡ true → fault_of app arguments ≡ [])
+    → subcommand_name_of m ≡ Some (codes "session") → NamesSession arguments
+session_named app roles arguments m are is matches fine name =
+    let by_name : (rows : List Row) × (subcommand_rows_of m ≡ Some (codes "session", rows)) = rows_by_name (subcommand_rows_of m) (codes "session") (firsts _ _ _ ∙ name) in
+    record {
+      roles = roles;
+      are_roles = are;
+      no_fault = sym (ap (λ (a : App). fault_of a arguments) is) ∙ fine (is_free_kbroker app roles is);
+      rows = by_name.0;
+      found = sym (ap (λ (a : App). subcommand_of a arguments) is) ∙ (sym (matches (is_simple_kbroker app roles is)).1 ∙ by_name.1);
+    }
+
+pub if_session_named : (asked : Asked) (P Q : Type 0) → IfSession asked P → (P → Q) → IfSession asked Q
+if_session_named Table P Q is leads = tt
+if_session_named (Session g) P Q is leads = leads is
+if_session_named (Serve plan) P Q is leads = tt
+
+-- the values that were found, or none
+pub words_found : (o : Option (Bor (List (Bor Text)))) (none : Bor (List (Bor Text))) (e : Option (List Text))
+    → option_map (λ (s : Bor (List (Bor Text))). map (λ (w : Bor Text). w.now) s.now) o ≡ e → none.now ≡ []
+    → map (λ (w : Bor Text). w.now) (unwrap_or o none).now ≡ unwrap_or e []
+words_found None none e is empty = rw (← is, empty) refl
+words_found (Some s) none e is empty = rw (← is) refl
+
+-- ---- faults
+
+-- where clap finds no fault, only memory can be short
+pub only_memory : (app : App) (roles : Roles) (arguments : List Text) (error : Error) (name : Text) (rows : List Row)
+    → IsRoles roles → app ≡ kbroker roles → Finds arguments name rows
+    → (is_simple_and_free app ≡ true → HasKind (fault_of app arguments) error) → kind_of error ≡ OutOfMemory
+only_memory app roles arguments error name rows are is finds kinds =
+    let none : fault_of app arguments ≡ [] = ap (λ (a : App). fault_of a arguments) is ∙ finds.no_fault roles are in
+    let has : HasKind [] error = subst (λ (ks : List _). HasKind ks error) none (kinds (is_free_kbroker app roles is)) in
+    elim has [ inl h ↦ h | inr bad ↦ absurd bad ]
+
+pub session_fault : (name : Text) (fault : LineFault) → name ≡ codes "session" → IsConfigFault fault → IsFaulty name fault
+session_fault name (Clap error) is h = h
+session_fault name (Topic why) is h = λ table. let bad : true ≡ false = ap (bytes_eq (codes "session")) (sym is ∙ table) in cc
+
+pub serve_fault : (name : Text) (fault : LineFault) → name ≡ codes "serve" → IsConfigFault fault → IsFaulty name fault
+serve_fault name (Clap error) is h = h
+serve_fault name (Topic why) is h = λ table. let bad : true ≡ false = ap (bytes_eq (codes "serve")) (sym is ∙ table) in cc
+
+-- ---- what a parse gives, where the table is asked for
+
+pub table_asked : (arguments : List Text) (asked : Asked) → AsksForTable arguments
+    → ((name : Text) (rows : List Row) → Finds arguments name rows → IsAsked name rows asked) → asked ≡ Table
+table_asked arguments Table asks is = refl
+table_asked arguments (Session g) asks is =
+    let bad : true ≡ false = ap (bytes_eq (codes "table")) (is (codes "table") [] (finds_table arguments asks)).0 in cc
+table_asked arguments (Serve plan) asks is =
+    let bad : true ≡ false = ap (bytes_eq (codes "table")) (is (codes "table") [] (finds_table arguments asks)) in cc
+
+pub no_session : (arguments : List Text) (asked : Asked) → AsksForTable arguments
+    → ((name : Text) (rows : List Row) → Finds arguments name rows → IsAsked name rows asked) → IfSession asked ⊥
+no_session arguments Table asks is = tt
+no_session arguments (Session g) asks is =
+    let bad : true ≡ false = ap (bytes_eq (codes "table")) (is (codes "table") [] (finds_table arguments asks)).0 in cc
+no_session arguments (Serve plan) asks is = tt
+
+pub table_fault : (arguments : List Text) (fault : LineFault) → AsksForTable arguments
+    → ((name : Text) (rows : List Row) → Finds arguments name rows → IsFaulty name fault) → IsOutOfMemory fault
+table_fault arguments (Clap error) asks is = is (codes "table") [] (finds_table arguments asks)
+table_fault arguments (Topic why) asks is = absurd (is (codes "table") [] (finds_table arguments asks) refl)
+
+-- ---- and where something else than a broker that listens is
+
+pub no_plan : (arguments : List Text) (asked : Asked) (plan : Option Plan) → AsksForOther arguments
+    → ((name : Text) (rows : List Row) → Finds arguments name rows → IsAsked name rows asked) → IsPlanOf asked plan → plan ≡ None
+no_plan arguments Table plan asks is of = of
+no_plan arguments (Session g) plan asks is of = of
+no_plan arguments (Serve p) plan asks is of = absurd (asks.3 (is asks.0 asks.1 asks.2))

@@ -1,4 +1,6 @@
 mod Arguments
+mod TopicLists
+mod Stopping
 mod Filled
 mod LineFeeds
 mod Printed

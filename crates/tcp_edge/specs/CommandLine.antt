@@ -1,15 +1,121 @@
 -- What the program can be asked for on its command line, in the words of clap.
-use Rattle.std.specs.Prelude.{◌≡◌, true, List, [], ◌∷◌, codes}
-use Rattle.clap.specs.Words.{App, Shape, Text, new_app, with_subcommand}
+use Rattle.std.specs.Prelude.{◌≡◌, ℕ, ◌<◌, ◌^◌, pos, true, false, if◌then◌else◌, List, [], ◌∷◌, ◌++◌, Some, codes, map, bytes_eq, unwrap_or, ⊤}
+use Rattle.std.specs.Borrow.{Bor}
+use Rattle.std.specs.Option.{option_map_or}
+use Rattle.std.specs.Str.Parse.{IsNumeral, digits_value}
+use Rattle.broker_core.specs.State.{ConfigValue, TopicConfig}
+use Rattle.broker_core.specs.declared.config.Role.{Role}
+use Rattle.broker_core.specs.declared.config.Role.TheVariants.{Leader, Follower}
+use Rattle.clap.specs.Lexer.{usize_max}
+use Rattle.clap.specs.Words.{App, Row, Rule, Shape, Text, new_app, new_rule, with_rule, with_subcommand, first_of, all_of, fault_of, subcommand_of}
+use Rattle.clap.specs.declared.builder.value_parser.ValueParser.{ValueParser}
+use Rattle.clap.specs.declared.builder.value_parser.ValueParser.TheVariants as parsers
+
+-- ---- arguments
+
+-- `--NAME VALUE`
+abbrev pub option_rule : Text → ValueParser → Rule
+option_rule name parser = record (new_rule name) { long = Some name; value_names = 1; parser = Some parser }
+
+-- the words of a role, however they lie in memory
+abbrev pub Roles : Type 0
+Roles = Bor (List (Bor Text))
+
+-- `--role ROLE`, one of these words; a leader where it isn't given
+abbrev pub role_rule : Roles → Rule
+role_rule roles = record (option_rule (codes "role") (parsers.Names roles)) { defaults = codes "leader" ∷ [] }
+
+abbrev pub port_rule : Rule
+port_rule = record (option_rule (codes "port") (parsers.Signed (pos 0) (pos 65535))) { required = true }
+
+abbrev pub connections_rule : Rule
+connections_rule = record (option_rule (codes "connections") (parsers.Signed (pos 0) (pos 4294967295))) { required = true }
+
+-- the topics, at least one
+abbrev pub topics_rule : Rule
+topics_rule = record (new_rule (codes "topics")) {
+  range = Some (record { start_inclusive = 1; end_inclusive = usize_max });
+  value_names = 1;
+  required = true;
+}
+
+-- ---- commands
+
+abbrev pub session_app : Roles → App
+session_app roles = with_rule (with_rule (new_app (codes "session")) (role_rule roles)) topics_rule
+
+abbrev pub serve_app : Roles → App
+serve_app roles = with_rule (with_rule (with_rule (with_rule (new_app (codes "serve"))
+    port_rule) (role_rule roles)) connections_rule) topics_rule
 
 -- the settings of `kbroker` itself: it has a version, and a subcommand has to be named
 abbrev pub top : Shape
 top = record (new_app (codes "kbroker")).top { has_version = true; subcommand_required = true }
 
--- the command `kbroker`, with its one subcommand, `table`
-abbrev pub kbroker : App
-kbroker = with_subcommand (record { top = top; subs = [] }) (new_app (codes "table")).top
+-- the command `kbroker`, with its subcommands
+abbrev pub kbroker : Roles → App
+kbroker roles = with_subcommand (with_subcommand (with_subcommand (record { top = top; subs = [] })
+    (new_app (codes "table")).top) (session_app roles).top) (serve_app roles).top
+
+-- the two words that clap takes for a role
+abbrev pub IsRoles : Roles → Type 0
+IsRoles roles = map (λ word. word.now) roles.now ≡ codes "leader" ∷ codes "follower" ∷ []
+
+-- ---- what is asked for
+
+-- clap finds no fault in the arguments, and finds in them this subcommand with these values
+pub record Finds (arguments : List Text) (name : Text) (rows : List Row) : Type 0 where
+  pub no_fault : (roles : Roles) → IsRoles roles → fault_of (kbroker roles) arguments ≡ []
+  pub found : (roles : Roles) → IsRoles roles → subcommand_of (kbroker roles) arguments ≡ Some (name, rows)
 
 -- the program's name, whatever it is, and `table`
 abbrev pub AsksForTable : List Text → Type 0
 AsksForTable arguments = (name : Text) × (arguments ≡ name ∷ codes "table" ∷ [])
+
+-- a follower where it is asked for, and else a leader
+abbrev pub role_of : List Row → Role
+role_of rows = if option_map_or (λ word. bytes_eq word (codes "follower")) (first_of (codes "role") rows) false then Follower else Leader
+
+-- the arguments in the place of topics
+abbrev pub topic_words : List Row → List Text
+topic_words rows = unwrap_or (all_of (codes "topics") rows) []
+
+-- A topic's name, `:`, and the number of its partitions in decimal digits, no more than 32 bits hold. The last `:` is meant,
+-- since no digit is one.
+pub record IsTopic (word : Text) (t : TopicConfig) : Type 0 where
+  pub digits : Text
+  pub parts : word ≡ t.name ++ codes ":" ++ digits
+  pub are_digits : IsNumeral 10 digits
+  pub number : t.partitions ≡ digits_value 10 digits
+  pub fits : digits_value 10 digits < 2 ^ 32
+
+-- one more topic, the one that the word says
+abbrev pub AddsTopic : Text → (topics topics' : List TopicConfig) → Type 0
+AddsTopic word topics topics' = (t : TopicConfig) × IsTopic word t × (topics' ≡ topics ++ t ∷ [])
+
+abbrev pub AreTopics : List Text → List TopicConfig → Type 0
+AreTopics [] [] = ⊤
+AreTopics [] (t ∷ ts) = ⊥
+AreTopics (word ∷ words) [] = ⊥
+AreTopics (word ∷ words) (t ∷ ts) = IsTopic word t × AreTopics words ts
+
+-- the program's broker, at a port
+pub record IsConfigOf (rows : List Row) (port : ℕ) (g : ConfigValue) : Type 0 where
+  pub role : g.role ≡ role_of rows
+  pub node_id : g.node_id ≡ pos 1
+  pub host : g.host ≡ codes "127.0.0.1"
+  pub port_is : g.port ≡ port
+  pub topics : AreTopics (topic_words rows) g.topics
+
+-- Clap finds no fault in the arguments, and finds the subcommand `session` in them, where the words of roles lie somewhere in
+-- memory.
+pub record NamesSession (arguments : List Text) : Type 0 where
+  pub roles : Roles
+  pub are_roles : IsRoles roles
+  pub no_fault : fault_of (kbroker roles) arguments ≡ []
+  pub rows : List Row
+  pub found : subcommand_of (kbroker roles) arguments ≡ Some (codes "session", rows)
+
+-- a session, with these values of its arguments
+abbrev pub AsksForSession : List Text → List Row → Type 0
+AsksForSession arguments rows = Finds arguments (codes "session") rows

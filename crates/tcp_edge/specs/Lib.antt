@@ -5,3 +5,5 @@ pub mod Tables
 pub mod Refused
 pub mod Status
 pub mod CommandLine
+pub mod Answering
+pub mod Asked

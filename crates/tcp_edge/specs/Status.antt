@@ -1,7 +1,11 @@
 -- The statuses of the program.
 use Rattle.std.specs.Prelude.{ℕ}
+use Rattle.broker_core.specs.declared.session.SessionError.{SessionError}
+use Rattle.broker_core.specs.declared.session.SessionError.TheVariants as session
 use Rattle.tcp_edge.specs.declared.error.TableError.{TableError}
 use Rattle.tcp_edge.specs.declared.error.TableError.TheVariants.{Batch, Read, Write, OutOfMemory}
+use Rattle.tcp_edge.specs.declared.error.SessionFault.{SessionFault}
+use Rattle.tcp_edge.specs.declared.error.SessionFault.TheVariants.{EndsInside, Stopped}
 
 -- 1 a batch is refused, 3 out of memory, 4 a read or a write failed
 abbrev pub status_of : TableError → ℕ
@@ -9,3 +13,15 @@ status_of (Batch index why) = 1
 status_of OutOfMemory = 3
 status_of Read = 4
 status_of Write = 4
+
+-- 1 a frame is refused, 3 out of memory, 4 a read or a write failed
+abbrev pub stop_status : SessionError → ℕ
+stop_status (session.Frame index why) = 1
+stop_status session.OutOfMemory = 3
+stop_status session.Read = 4
+stop_status session.Write = 4
+
+-- 1 also where the input ends inside a frame
+abbrev pub session_status : SessionFault → ℕ
+session_status EndsInside = 1
+session_status (Stopped why) = stop_status why

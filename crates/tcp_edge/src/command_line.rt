@@ -1,45 +1,27 @@
 //! The program's command line.
 
-ghost use Rattle.std.specs.Prelude.{◌≡◌, ◌≢◌, ◌≤◌, ◌⊎◌, ℕ, List, IfOk, IfErr, map};
+ghost use Rattle.std.specs.Prelude.{◌≡◌, ◌≢◌, ◌≤◌, ◌⊎◌, ℕ, List, None, IfOk, map};
 ghost use Rattle.batch_codec.specs.Values.{BatchValue};
-ghost use Rattle.clap.specs.Words.{app_of, kind_of};
+ghost use Rattle.clap.specs.Words.{kind_of};
+ghost use Rattle.tcp_edge.specs.Asked.{AsksForOther, IsConfigFault, IsOutOfMemory};
 ghost use Rattle.tcp_edge.specs.declared.error.Refusal.{Refusal};
-ghost use Rattle.tcp_edge.specs.CommandLine.{kbroker, AsksForTable};
+ghost use Rattle.tcp_edge.specs.CommandLine.{AsksForTable, NamesSession};
 ghost use Rattle.tcp_edge.specs.Refused.{RefusesStream};
 ghost use Rattle.tcp_edge.specs.Tables.{ReadsLog, PrintsTable};
 
-use crate::subcommand::{DONE, FAILED, FAULTY, NO_MEMORY, run_subcommand};
+use crate::asked::{Asked, LineFault, Plan, parse};
+use crate::error::SessionFault;
+use crate::serving::listen;
+use crate::session::{refuse, run_session};
+use crate::status::{DONE, FAILED, FAULTY, NO_MEMORY, fail};
+use crate::subcommand::run_subcommand;
+use broker_core::SessionError;
+use clap::Error;
 use clap::error::ErrorKind;
-use clap::{Command, Error};
 use std::alloc::{AllocError, Global};
 use std::convert::AsStr;
 use std::io::{Read, Write};
-
-const ABOUT: &str = "A message broker with compacted topics";
-
-const ABOUT_TABLE: &str = "Prints the current state of a topic: reads record batches, end to end, \
-from standard input, and writes a line KEY=VALUE for each key that has a value, by rising key bytes";
-
-/// What the program can be asked for.
-fn command<'a>(alloc: Global) -> Result<Command<'a>, AllocError>
-    ensures { IfOk result (λ command. app_of command ≡ kbroker) }
-{
-    let table = Command::new(alloc, "table").about(ABOUT_TABLE);
-    Command::new(alloc, "kbroker")
-        .version("0.1.0")
-        .about(ABOUT)
-        .subcommand_required(true)
-        .subcommand(table)
-}
-
-/// Looks the arguments up, of which the first is the program's name. The one subcommand is `table`.
-fn parse<S: AsStr>(alloc: Global, arguments: &[S]) -> Result<(), Error>
-    ensures takes_table { IfErr result (λ error. AsksForTable (map S.text arguments.now)
-        → kind_of error ≡ ErrorKind.OutOfMemory) }
-{
-    let _matches = command(alloc)?.try_get_matches_from(arguments)?;
-    Ok(())
-}
+use std::net::TcpListener;
 
 /// Prints what `clap` says of the arguments, and answers the status.
 fn explain<W: Write, E: Write>(error: &Error, out: &mut W, err: &mut E) -> u8
@@ -64,9 +46,25 @@ fn explain<W: Write, E: Write>(error: &Error, out: &mut W, err: &mut E) -> u8
     FAILED
 }
 
+/// Says why a command line asks for nothing, and answers the status.
+fn refuse_line<W: Write, E: Write>(why: &LineFault, out: &mut W, err: &mut E) -> u8
+    ensures is_status { (result ≤ 4) × (result ≢ 1) }
+    ensures out_of_memory { IsOutOfMemory why.now → result ≡ 3 }
+    ensures no_help { IsConfigFault why.now → result ≢ 0 }
+    ensures faulty_prints_nothing { result ≡ 2 → out.new ≡ out.old }
+    ensures out_of_memory_prints_nothing { result ≡ 3 → out.new ≡ out.old }
+{
+    match why {
+        LineFault::Clap(error) => explain(error, out, err),
+        LineFault::Topic(fault) => refuse(*fault, err),
+    }
+}
+
 /// Runs the program on its arguments, of which the first is its name, and answers its status: 0
-/// done, 1 input refused, 2 a faulty command line, 3 out of memory, 4 a read or a write failed. A
-/// status of 1, 3 or 4 comes with one line on `err`.
+/// done, 1 input refused, 2 a faulty command line or configuration, 3 out of memory, 4 a read or a
+/// write failed. A status of 1, 3 or 4 comes with one line on `err`. Arguments that ask for a broker
+/// that listens are left to `run_serve`: the status is 2, and nothing is printed.
+#[tactic(auto, using(crate::proofs::Arguments::table_asked, crate::proofs::Arguments::table_fault))]
 pub fn run_line<S: AsStr, R: Read, W: Write, E: Write>(
     alloc: Global,
     arguments: &[S],
@@ -76,30 +74,89 @@ pub fn run_line<S: AsStr, R: Read, W: Write, E: Write>(
 ) -> u8
     ensures is_status { result ≤ 4 }
 
-    // A run that is done has printed help and read nothing, or it has printed the table.
-    ensures done_prints_help_or_table { result ≡ 0 → (reader.new ≡ reader.old) ⊎ PrintsTable
+    ensures faulty_prints_nothing { result ≡ 2 → out.new ≡ out.old }
+    ensures faulty_reads_nothing { result ≡ 2 → reader.new ≡ reader.old }
+
+    // A run that is done has printed help and read nothing, or it has printed the table, or it was
+    // asked for a session.
+    ensures done_prints_help_or_table_or_serves_a_session { result ≡ 0
+        → (reader.new ≡ reader.old) ⊎ PrintsTable
         (R.remaining reader.old) (R.remaining reader.new)
-        (W.contents out.old) (W.contents out.new) }
+        (W.contents out.old) (W.contents out.new) ⊎ NamesSession (map S.text arguments.now) }
     // Asked for the table, it prints the table or says why there is none.
     ensures table_is_no_fault { AsksForTable (map S.text arguments.now) → result ≢ 2 }
     ensures table_is_printed { AsksForTable (map S.text arguments.now) → result ≡ 0 → PrintsTable
         (R.remaining reader.old) (R.remaining reader.new)
         (W.contents out.old) (W.contents out.new) }
-
-    ensures refused_has_first_refused { result ≡ 1 → (index : ℕ) × (why : Refusal)
+    ensures refused_table_has_first_refused { AsksForTable (map S.text arguments.now)
+        → result ≡ 1 → (index : ℕ) × (why : Refusal)
         × RefusesStream (R.remaining reader.old) (R.remaining reader.new) index why }
-    ensures refused_prints_nothing { result ≡ 1 → out.new ≡ out.old }
-
-    ensures faulty_prints_nothing { result ≡ 2 → out.new ≡ out.old }
-    ensures faulty_reads_nothing { result ≡ 2 → reader.new ≡ reader.old }
-
-    ensures out_of_memory_prints_nothing { result ≡ 3 → out.new ≡ out.old }
-    ensures failed_prints_nothing_before_whole_input { AsksForTable (map S.text arguments.now)
+    ensures refused_table_prints_nothing { AsksForTable (map S.text arguments.now)
+        → result ≡ 1 → out.new ≡ out.old }
+    ensures table_out_of_memory_prints_nothing { AsksForTable (map S.text arguments.now)
+        → result ≡ 3 → out.new ≡ out.old }
+    ensures failed_table_prints_nothing_before_whole_input { AsksForTable (map S.text arguments.now)
         → result ≡ 4 → (out.new ≡ out.old) ⊎ ((bs : List BatchValue)
         × ReadsLog (R.remaining reader.old) (R.remaining reader.new) bs) }
 {
-    if let Err(error) = parse(alloc, arguments) {
-        return explain(&error, out, err);
+    match parse(alloc, arguments) {
+        Ok(Asked::Table) => run_subcommand(alloc, reader, out, err),
+        Ok(Asked::Session(config)) => run_session(alloc, config, reader, out, err),
+        Ok(Asked::Serve(_)) => FAULTY,
+        Err(why) => refuse_line(&why, out, err),
     }
-    run_subcommand(alloc, reader, out, err)
+}
+
+/// What the arguments ask of a broker that listens, if they ask for one.
+#[tactic(auto, using(crate::proofs::Arguments::no_plan))]
+fn plan_asked<S: AsStr>(alloc: Global, arguments: &[S]) -> Result<Option<Plan>, AllocError>
+    ensures { AsksForOther (map S.text arguments.now) → IfOk result (λ plan. plan ≡ None) }
+{
+    match parse(alloc, arguments) {
+        Ok(asked) => Ok(asked.plan()),
+        Err(why) => {
+            if why.is_out_of_memory() {
+                return Err(AllocError);
+            }
+            Ok(None)
+        }
+    }
+}
+
+/// The port that the arguments ask to listen on; none where they have a fault, or ask for something
+/// else. That is for `run_line`, as what this answers is for `run_serve`.
+///
+/// # Errors
+///
+/// `AllocError` where there is no memory to look them up.
+pub fn serve_port<S: AsStr>(alloc: Global, arguments: &[S]) -> Result<Option<u16>, AllocError>
+    ensures other_has_none { AsksForOther (map S.text arguments.now) → IfOk result (λ port. port ≡ None) }
+{
+    match plan_asked(alloc, arguments)? {
+        Some(plan) => Ok(Some(plan.config.port)),
+        None => Ok(None),
+    }
+}
+
+/// Serves connections of a listener as the arguments ask, and answers the status: 0 as many as they
+/// say were served, 2 the configuration is refused, 3 out of memory, 4 the listener or a write to
+/// `out` failed. A status of 3 or 4 comes with one line on `err`. Where the arguments ask for no broker
+/// that listens, the status is 2, and nothing is done.
+pub fn run_serve<S: AsStr, W: Write, E: Write>(
+    alloc: Global,
+    listener: &TcpListener,
+    arguments: &[S],
+    out: &mut W,
+    err: &mut E,
+) -> u8
+    ensures is_status { result ≤ 4 }
+    ensures other_is_not_done { AsksForOther (map S.text arguments.now) → (2 ≤ result) × (result ≤ 3)
+        × (out.new ≡ out.old) }
+    ensures other_says_nothing { AsksForOther (map S.text arguments.now) → result ≡ 2 → err.new ≡ err.old }
+{
+    match plan_asked(alloc, arguments) {
+        Ok(Some(plan)) => listen(alloc, listener, plan, out, err),
+        Ok(None) => FAULTY,
+        Err(_) => fail(&SessionFault::Stopped(SessionError::OutOfMemory), err),
+    }
 }

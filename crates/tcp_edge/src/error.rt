@@ -1,4 +1,5 @@
 use batch_codec::BatchError;
+use broker_core::SessionError;
 use partition_log::DeliverError;
 use thiserror::Error;
 
@@ -28,4 +29,15 @@ pub enum TableError {
     /// There is no memory for a batch, for the table or for the bytes between.
     #[error("out of memory")]
     OutOfMemory,
+}
+
+/// Why a session, or a broker that listens, stopped.
+#[derive(Debug, Drop, Error)]
+pub enum SessionFault {
+    /// The input ended, and the last frame isn't complete.
+    #[error("input ends inside a frame")]
+    EndsInside,
+    /// It stopped before the end.
+    #[error(transparent)]
+    Stopped(SessionError),
 }

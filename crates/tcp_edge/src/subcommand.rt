@@ -1,38 +1,15 @@
-//! What the program does once its arguments are read, and how it answers.
+//! The subcommand `table`: what it prints, and how it answers.
 
 ghost use Rattle.std.specs.Prelude.{◌≡◌, ◌≢◌, ◌≤◌, ◌⊎◌, List, ℕ};
 ghost use Rattle.batch_codec.specs.Values.{BatchValue};
 ghost use Rattle.tcp_edge.specs.declared.error.Refusal.{Refusal};
-ghost use Rattle.tcp_edge.specs.Status.{status_of};
 ghost use Rattle.tcp_edge.specs.Tables.{ReadsLog, PrintsTable};
 ghost use Rattle.tcp_edge.specs.Refused.{RefusesStream};
 
-use crate::error::TableError;
+use crate::status::{DONE, status_of};
 use crate::table::run_table;
 use std::alloc::Allocator;
 use std::io::{Read, Write};
-
-/// The status of a run that did what it was asked for.
-pub const DONE: u8 = 0;
-/// The status where the input is refused.
-pub const REFUSED: u8 = 1;
-/// The status of a faulty command line.
-pub const FAULTY: u8 = 2;
-/// The status where there is no memory.
-pub const NO_MEMORY: u8 = 3;
-/// The status where a read or a write failed.
-pub const FAILED: u8 = 4;
-
-/// The status where there is no table.
-fn status_of(why: TableError) -> u8
-    ensures { result ≡ status_of why }
-{
-    match why {
-        TableError::Batch { index: _, why: _ } => REFUSED,
-        TableError::OutOfMemory => NO_MEMORY,
-        TableError::Read | TableError::Write => FAILED,
-    }
-}
 
 /// Runs the subcommand `table`: prints the table of what the reader gives, and answers the status,
 /// 0 done, 1 the input is refused, 3 out of memory, 4 a read or a write failed. A status that is

@@ -1,0 +1,104 @@
+//! A session: request frames come in, and their replies go out.
+
+ghost use Rattle.std.specs.Prelude.{IfOk, IfErr};
+ghost use Rattle.broker_core.specs.Sessions.{EndsAs, StopsAs};
+
+use crate::answering::answer_frames;
+use crate::node::Node;
+use crate::receiving::read_more;
+use bytes::BytesMut;
+use request_frames::FrameError;
+use segment::BatchStore;
+use std::alloc::Allocator;
+use std::io::{Read, Write};
+use streams::{Sink, Source};
+use thiserror::Error;
+
+/// How a session ended whose input came to its end.
+#[derive(Clone, Copy, Debug, PartialEq, Eq)]
+pub struct Ended {
+    /// How many frames were answered.
+    pub frames: u64,
+    /// How many bytes of an incomplete frame were left.
+    pub rest: usize,
+}
+
+/// Why a session stopped before the end of its input.
+#[derive(Debug, Drop, Error)]
+pub enum SessionError {
+    /// The frame with this number, from 0, is refused.
+    #[error("frame {index}: {why}")]
+    Frame { index: u64, why: FrameError },
+    /// A read failed, or 2^32 reads were made without an end.
+    #[error("read failed")]
+    Read,
+    /// A write failed.
+    #[error("write failed")]
+    Write,
+    /// There is no memory for a frame, for what is read, or for a response.
+    #[error("out of memory")]
+    OutOfMemory,
+}
+
+/// The most reads of one session.
+const MOST_READS: u64 = 4_294_967_296;
+
+/// No read is made once so many frames were answered: then their number can't overflow while those
+/// that are held are answered, each of at least 4 bytes. So many frames came in more bytes than
+/// `MOST_READS`, and stopping there says no more of them than stopping at the last read.
+const MOST_FRAMES: u64 = 9_223_372_036_854_775_808;
+
+/// Answers the frames that come from the source, in order, each as soon as it is complete. Each
+/// reply goes to the sink before the next frame is handled, and all complete frames are answered
+/// before more is read. In which pieces the bytes come makes no difference. The sink isn't flushed.
+///
+/// The bytes of an incomplete frame are held. The memory for them grows as they come, whatever size
+/// the frame announces.
+///
+/// ```
+/// let mut source = Source::new(reader);
+/// let mut sink = Sink::new(writer);
+/// match serve(alloc, &mut node, &mut source, &mut sink) {
+///     Ok(Ended { frames, rest: 0 }) => {} // so many requests came, and all were answered
+///     Ok(Ended { frames, rest }) => {} // the client left within a request, which is dropped
+///     Err(SessionError::Frame { index, why }) => {} // the frames before this one were answered
+///     Err(why) => {}
+/// }
+/// ```
+///
+/// Where the reader gives one request and the first 2 bytes of another, and then ends, the answer is
+/// `Ended { frames: 1, rest: 2 }`, and the writer took one response. Where 4 bytes of the other came,
+/// and they say a negative size, it is `Frame { index: 1, why: NegativeSize }` at once.
+///
+/// # Errors
+///
+/// The first thing that stops the session. The frames before it were answered, and the broker is as
+/// they left it; at `Write` the frame whose reply was cut was handled too.
+///
+/// A source of which a read failed before isn't read: the answer is `Read`. A sink of which a write
+/// failed before isn't written: the answer is `Write` at the first reply that isn't empty.
+#[tactic(auto, using(crate::proofs::ServedSessions::nothing_served))]
+pub fn serve<S: BatchStore, R: Read, W: Write, A: Allocator + Copy>(
+    alloc: A,
+    node: &mut Node<S>,
+    source: &mut Source<R>,
+    sink: &mut Sink<W>,
+) -> Result<Ended, SessionError>
+    ensures ends { IfOk result (EndsAs node.old source.old source.new sink.old sink.new node.new) }
+    ensures stops { IfErr result (StopsAs node.old source.old source.new sink.old sink.new node.new) }
+{
+    let mut buffer = BytesMut::new(alloc);
+    let mut out = Vec::new(alloc);
+    let mut frames = 0;
+    for _ in 0..MOST_READS {
+        if frames >= MOST_FRAMES {
+            return Err(SessionError::Read);
+        }
+        if !read_more(source, &mut buffer)? {
+            let rest = buffer.len();
+            return Ok(Ended { frames, rest });
+        }
+        frames = answer_frames(node, &mut buffer, frames, sink, &mut out)?;
+    }
+    Err(SessionError::Read)
+}

@@ -1,0 +1,107 @@
+//! Sessions from the bytes that come to the bytes that go out, in pieces of any size.
+
+use crate::setting::{Halting, Pieces, REQUEST, RESPONSE, session};
+use std::alloc::{AllocError, Allocator};
+use std::test::Fail;
+
+/// So many requests one after the other, and then more bytes.
+fn requests<A: Allocator + Copy>(
+    alloc: A,
+    count: usize,
+    bytes: &[u8],
+    more: &[u8],
+) -> Result<Vec<u8, A>, AllocError> {
+    let mut all = Vec::new(alloc);
+    for _ in 0..count {
+        all.extend_from_slice(bytes)?;
+    }
+    all.extend_from_slice(more)?;
+    Ok(all)
+}
+
+#[test]
+fn streams_in_pieces(rt: HostRuntime) -> Result<(), Fail> {
+    // how many requests come, what follows them, the answer, and how many responses go out
+    let rows: [(&str, usize, &[u8], &str, usize); 9] = [
+        ("nothing", 0, b"", "0 and 0", 0),
+        ("two requests", 2, b"", "2 and 0", 2),
+        ("a part of a size", 1, b"\xff\xff", "1 and 2", 1),
+        ("a size", 1, b"\0\0\0\x25", "1 and 4", 1),
+        ("all but a byte", 1, &REQUEST[..40], "1 and 40", 1),
+        (
+            "a negative size",
+            1,
+            b"\xff\xff\xff\xff",
+            "frame 1: NegativeSize",
+            1,
+        ),
+        ("a large size", 0, b"\0\x80\0\x01", "frame 0: TooLarge", 0),
+        (
+            "an empty frame",
+            2,
+            b"\0\0\0\0\0\0",
+            "frame 2: ShortHeader",
+            2,
+        ),
+        (
+            "a byte too few",
+            1,
+            b"\0\0\0\x09\0\x02\0\x01\0\0\0\x07\xff\0\0\0\0",
+            "frame 1: ShortBody",
+            1,
+        ),
+    ];
+    for (name, count, more, answer, responses) in rows {
+        for piece in [1, 3, 41, 1000] {
+            let input = requests(rt.alloc(), count, REQUEST, more)?;
+            let reader = Pieces {
+                left: &input,
+                piece,
+                fails_at: None,
+            };
+            let writer = Halting {
+                taken: Vec::new(rt.alloc()),
+                piece,
+                room: usize::MAX,
+            };
+            let (got, taken, _) = session(rt.alloc(), rt.alloc(), reader, writer)?;
+            assert_eq!(rt; got.as_str(), answer, "{name}, {piece}");
+            let wanted = requests(rt.alloc(), responses, RESPONSE, b"")?;
+            assert_eq!(rt; taken.as_slice(), wanted.as_slice(), "{name}, {piece}");
+        }
+    }
+    Ok(())
+}
+
+#[test]
+fn streams_that_fail(rt: HostRuntime) -> Result<(), Fail> {
+    let input = requests(rt.alloc(), 2, REQUEST, b"")?;
+    // where the read fails, how many bytes the writer takes, the answer, and how many bytes went out
+    let rows = [
+        ("at once", Some(82), usize::MAX, "read failed", 0),
+        ("within the first", Some(50), usize::MAX, "read failed", 0),
+        ("between both", Some(41), usize::MAX, "read failed", 41),
+        ("at the end", Some(0), usize::MAX, "read failed", 82),
+        ("no byte is taken", None, 0, "write failed", 0),
+        ("a byte is lost", None, 40, "write failed", 40),
+        ("the second is lost", None, 41, "write failed", 41),
+        ("both are taken", None, 82, "2 and 0", 82),
+    ];
+    for (name, fails_at, room, answer, count) in rows {
+        let reader = Pieces {
+            left: &input,
+            piece: 1,
+            fails_at,
+        };
+        let writer = Halting {
+            taken: Vec::new(rt.alloc()),
+            piece: 7,
+            room,
+        };
+        let (got, taken, _) = session(rt.alloc(), rt.alloc(), reader, writer)?;
+        assert_eq!(rt; got.as_str(), answer, "{name}");
+        let wanted = requests(rt.alloc(), 2, RESPONSE, b"")?;
+        assert!(rt; Some(taken.as_slice()) == wanted.get(..count), "{name}");
+    }
+    Ok(())
+}

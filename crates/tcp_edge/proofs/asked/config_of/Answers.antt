@@ -1,0 +1,18 @@
+use Rattle.std.proofs.Common.{rules, refl, subst, codes, List, map, ◌∙◌, ◌≡◌}
+use Rattle.clap.specs.Words.{Text, found_of, rows_of}
+use Rattle.broker_core.specs.ConfigValues.{topic_config}
+use Rattle.tcp_edge.specs.CommandLine.{AreTopics, topic_words}
+use Rattle.tcp_edge.proofs.Arguments.{words_found, all_rows}
+use Rattle.tcp_edge.proofs.asked.config_of.Goals as goal
+
+pub returns-clause-config : goal.returns-clause-config
+returns-clause-config c =
+    let words : map (λ w. w.now) c.unwrap_or-arguments.result.now ≡ topic_words (rows_of (found_of c.args.matches.now)) =
+    rw c.unwrap_or-arguments.ensures (words_found c.get_strs.result _ _ (c.get_strs.ensures ∙ all_rows (found_of c.args.matches.now) (codes "topics")) (search rules)) in
+    record {
+      role = c.role_of.ensures;
+      node_id = refl;
+      host = search rules;
+      port_is = refl;
+      topics = subst (λ (ws : List Text). AreTopics ws (map topic_config c.in_ok-topics_of.field-0.items)) words c.in_ok-topics_of.ensures.reads;
+    }

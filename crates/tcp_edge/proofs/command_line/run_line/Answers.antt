@@ -1,0 +1,51 @@
+use Rattle.std.proofs.Common.{◌≡◌, map, rules, subst, sym, ◌∙◌, arith}
+use Rattle.tcp_edge.specs.declared.asked.Asked.{Asked}
+use Rattle.tcp_edge.specs.declared.asked.Asked.TheVariants.{Session}
+use Rattle.tcp_edge.specs.Asked.{IfSession}
+use Rattle.tcp_edge.proofs.Arguments.{table_fault, no_session}
+use Rattle.tcp_edge.proofs.command_line.run_line.Goals as goal
+
+pub returns-clause-table_is_no_fault : goal.returns-clause-table_is_no_fault
+returns-clause-table_is_no_fault g c = λ asks status.
+    let three = c.refuse_line.ensures.out_of_memory (table_fault (map g.S.AsStr.text c.args.arguments.now) c.in-Err.why asks c.in-Err.ensures.asked) in
+    let bad : 2 ≡ 3 = sym status ∙ three in absurd (omega arith)
+
+pub returns-clause-table_is_printed : goal.returns-clause-table_is_printed
+returns-clause-table_is_printed g c = λ asks status.
+    let three = c.refuse_line.ensures.out_of_memory (table_fault (map g.S.AsStr.text c.args.arguments.now) c.in-Err.why asks c.in-Err.ensures.asked) in
+    let bad : 0 ≡ 3 = sym status ∙ three in absurd (omega arith)
+
+pub returns-clause-failed_table_prints_nothing_before_whole_input : goal.returns-clause-failed_table_prints_nothing_before_whole_input
+returns-clause-failed_table_prints_nothing_before_whole_input g c = λ asks status.
+    let three = c.refuse_line.ensures.out_of_memory (table_fault (map g.S.AsStr.text c.args.arguments.now) c.in-Err.why asks c.in-Err.ensures.asked) in
+    let bad : 4 ≡ 3 = sym status ∙ three in absurd (omega arith)
+
+pub returns-in-Ok-Session-clause-table_is_no_fault : goal.returns-in-Ok-Session-clause-table_is_no_fault
+returns-in-Ok-Session-clause-table_is_no_fault g c = λ asks.
+    let is : c.in-Ok-Session.field-0 ≡ Session c.in-Ok-Session.config = search rules in
+    absurd (subst (λ (asked : Asked). IfSession asked ⊥) is (no_session (map g.S.AsStr.text c.args.arguments.now) _ asks c.in-Ok-Session.ensures.asked))
+
+pub returns-in-Ok-Session-clause-table_is_printed : goal.returns-in-Ok-Session-clause-table_is_printed
+returns-in-Ok-Session-clause-table_is_printed g c = λ asks.
+    let is : c.in-Ok-Session.field-0 ≡ Session c.in-Ok-Session.config = search rules in
+    absurd (subst (λ (asked : Asked). IfSession asked ⊥) is (no_session (map g.S.AsStr.text c.args.arguments.now) _ asks c.in-Ok-Session.ensures.asked))
+
+pub returns-in-Ok-Session-clause-refused_table_has_first_refused : goal.returns-in-Ok-Session-clause-refused_table_has_first_refused
+returns-in-Ok-Session-clause-refused_table_has_first_refused g c = λ asks.
+    let is : c.in-Ok-Session.field-0 ≡ Session c.in-Ok-Session.config = search rules in
+    absurd (subst (λ (asked : Asked). IfSession asked ⊥) is (no_session (map g.S.AsStr.text c.args.arguments.now) _ asks c.in-Ok-Session.ensures.asked))
+
+pub returns-in-Ok-Session-clause-refused_table_prints_nothing : goal.returns-in-Ok-Session-clause-refused_table_prints_nothing
+returns-in-Ok-Session-clause-refused_table_prints_nothing g c = λ asks.
+    let is : c.in-Ok-Session.field-0 ≡ Session c.in-Ok-Session.config = search rules in
+    absurd (subst (λ (asked : Asked). IfSession asked ⊥) is (no_session (map g.S.AsStr.text c.args.arguments.now) _ asks c.in-Ok-Session.ensures.asked))
+
+pub returns-in-Ok-Session-clause-table_out_of_memory_prints_nothing : goal.returns-in-Ok-Session-clause-table_out_of_memory_prints_nothing
+returns-in-Ok-Session-clause-table_out_of_memory_prints_nothing g c = λ asks.
+    let is : c.in-Ok-Session.field-0 ≡ Session c.in-Ok-Session.config = search rules in
+    absurd (subst (λ (asked : Asked). IfSession asked ⊥) is (no_session (map g.S.AsStr.text c.args.arguments.now) _ asks c.in-Ok-Session.ensures.asked))
+
+pub returns-in-Ok-Session-clause-failed_table_prints_nothing_before_whole_input : goal.returns-in-Ok-Session-clause-failed_table_prints_nothing_before_whole_input
+returns-in-Ok-Session-clause-failed_table_prints_nothing_before_whole_input g c = λ asks.
+    let is : c.in-Ok-Session.field-0 ≡ Session c.in-Ok-Session.config = search rules in
+    absurd (subst (λ (asked : Asked). IfSession asked ⊥) is (no_session (map g.S.AsStr.text c.args.arguments.now) _ asks c.in-Ok-Session.ensures.asked))

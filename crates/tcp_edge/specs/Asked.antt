@@ -1,0 +1,47 @@
+-- What a parse of the command line gives, by the subcommand that clap found and its values.
+use Rattle.std.specs.Prelude.{◌≡◌, ◌≢◌, List, codes, ⊤, Option, Some, None}
+use Rattle.clap.specs.Words.{Row, Text, kind_of}
+use Rattle.clap.specs.declared.error.kind.ErrorKind.TheVariants as kind
+use Rattle.broker_core.specs.ConfigValues.{config_value}
+use Rattle.tcp_edge.specs.declared.asked.Asked.{Asked}
+use Rattle.tcp_edge.specs.declared.asked.Asked.TheVariants.{Table, Session, Serve}
+use Rattle.tcp_edge.specs.declared.asked.Plan.{Plan}
+use Rattle.tcp_edge.specs.declared.asked.LineFault.{LineFault}
+use Rattle.tcp_edge.specs.declared.asked.LineFault.TheVariants.{Clap, Topic}
+use Rattle.tcp_edge.specs.CommandLine.{IsConfigOf, Finds}
+
+abbrev pub IsAsked : Text → List Row → Asked → Type 0
+IsAsked name rows Table = (name ≢ codes "session") × (name ≢ codes "serve")
+IsAsked name rows (Session g) = (name ≡ codes "session") × IsConfigOf rows 9092 (config_value g)
+IsAsked name rows (Serve plan) = name ≡ codes "serve"
+
+-- it is a session only if this holds
+abbrev pub IfSession : Asked → Type 0 → Type 0
+IfSession Table P = ⊤
+IfSession (Session g) P = P
+IfSession (Serve plan) P = ⊤
+
+-- there was no memory to look at the arguments
+abbrev pub IsOutOfMemory : LineFault → Type 0
+IsOutOfMemory (Clap error) = kind_of error ≡ kind.OutOfMemory
+IsOutOfMemory (Topic why) = ⊥
+
+-- memory ran out, or an argument in the place of a topic is none
+abbrev pub IsConfigFault : LineFault → Type 0
+IsConfigFault (Clap error) = kind_of error ≡ kind.OutOfMemory
+IsConfigFault (Topic why) = ⊤
+
+-- no fault of clap's: memory ran out, or an argument in the place of a topic is none
+abbrev pub IsFaulty : Text → LineFault → Type 0
+IsFaulty name (Clap error) = kind_of error ≡ kind.OutOfMemory
+IsFaulty name (Topic why) = name ≢ codes "table"
+
+-- the broker that listens, where one is asked for
+abbrev pub IsPlanOf : Asked → Option Plan → Type 0
+IsPlanOf Table plan = plan ≡ None
+IsPlanOf (Session g) plan = plan ≡ None
+IsPlanOf (Serve asked) plan = plan ≡ Some asked
+
+-- the arguments ask for something else than a broker that listens
+abbrev pub AsksForOther : List Text → Type 0
+AsksForOther arguments = (name : Text) × (rows : List Row) × Finds arguments name rows × (name ≢ codes "serve")

@@ -1,0 +1,163 @@
+//! What a command line asks for.
+
+ghost use Rattle.std.specs.Prelude.{◌≡◌, ◌≢◌, ℕ, pos, List, Some, IfOk, IfErr, MatchResult, codes, map};
+ghost use Rattle.std.specs.Bool.{MatchBool};
+ghost use Rattle.broker_core.specs.ConfigValues.{config_value};
+ghost use Rattle.clap.specs.Words.{Row, Text, found_of, rows_of, subcommand_name_of, subcommand_rows_of};
+ghost use Rattle.tcp_edge.specs.Asked.{IfSession, IsAsked, IsConfigFault, IsFaulty, IsOutOfMemory, IsPlanOf};
+ghost use Rattle.tcp_edge.specs.CommandLine.{Finds, IsConfigOf, NamesSession, role_of};
+
+use crate::commands::command;
+use crate::topics::topics_of;
+use broker_core::{Config, ConfigError, Role};
+use clap::error::ErrorKind;
+use clap::{ArgMatches, Error};
+use std::alloc::{AllocError, Global};
+use std::convert::AsStr;
+use std::string::String;
+
+/// The number of the program's broker.
+const NODE_ID: i32 = 1;
+
+/// Where clients reach it.
+const HOST: &str = "127.0.0.1";
+
+/// The port that a session's broker names.
+const SESSION_PORT: u16 = 9092;
+
+/// What a command line without a fault asks for.
+#[derive(Drop)]
+pub(crate) enum Asked {
+    /// The table of a stream of batches.
+    Table,
+    /// The replies to a stream of requests, by a broker of this configuration.
+    Session(Config<Global>),
+    /// A broker that listens.
+    Serve(Plan),
+}
+
+/// A broker that listens, at the port of its configuration.
+#[derive(Drop)]
+pub(crate) struct Plan {
+    pub(crate) config: Config<Global>,
+    /// How many connections it serves.
+    pub(crate) connections: u32,
+}
+
+/// Why a command line asks for nothing.
+#[derive(Drop)]
+pub(crate) enum LineFault {
+    /// What `clap` says of it; requests for help, and out of memory.
+    Clap(Error),
+    /// The first argument in the place of a topic that is none.
+    Topic(ConfigError),
+}
+
+impl Asked {
+    /// The broker that listens, if one was asked for.
+    pub(crate) fn plan(self) -> Option<Plan>
+        ensures { IsPlanOf self result }
+    {
+        match self {
+            Asked::Serve(plan) => Some(plan),
+            Asked::Table => None,
+            Asked::Session(_config) => None,
+        }
+    }
+}
+
+impl LineFault {
+    /// Whether there was no memory to look at the arguments.
+    pub(crate) fn is_out_of_memory(&self) -> bool
+        ensures { MatchBool result (IsOutOfMemory self.now) (¬ IsOutOfMemory self.now) }
+    {
+        match self {
+            LineFault::Clap(error) => matches!(error.kind(), ErrorKind::OutOfMemory),
+            LineFault::Topic(_) => false,
+        }
+    }
+}
+
+impl From<AllocError> for LineFault {
+    ghost from_gives = { λ _ fault. IsOutOfMemory fault };
+
+    fn from(error: AllocError) -> LineFault {
+        LineFault::Clap(Error::from(error))
+    }
+}
+
+/// A leader, unless a follower was asked for.
+#[tactic(auto, using(crate::proofs::Arguments::first_row))]
+fn role_of(matches: &ArgMatches<'_>) -> Role
+    ensures { result ≡ role_of (rows_of (found_of matches.now)) }
+{
+    match matches.get_str("role") {
+        Some(role) if role == "follower" => Role::Follower,
+        _ => Role::Leader,
+    }
+}
+
+/// The configuration of a broker at a port.
+fn config_of(
+    alloc: Global,
+    matches: &ArgMatches<'_>,
+    port: u16,
+) -> Result<Config<Global>, LineFault>
+    ensures config { IfOk result (λ config.
+        IsConfigOf (rows_of (found_of matches.now)) port (config_value config)) }
+    ensures fault { IfErr result IsConfigFault }
+{
+    let arguments = matches.get_strs("topics").unwrap_or(&[]);
+    Ok(Config {
+        role: role_of(matches),
+        node_id: NODE_ID,
+        host: String::from_str(alloc, HOST)?,
+        port,
+        topics: topics_of(alloc, arguments)?,
+    })
+}
+
+/// A broker that listens.
+fn plan_of(alloc: Global, matches: &ArgMatches<'_>) -> Result<Plan, LineFault>
+    ensures fault { IfErr result IsConfigFault }
+{
+    let port = matches.get_one::<u16>("port").unwrap_or(0);
+    let connections = matches.get_one::<u32>("connections").unwrap_or(0);
+    let config = config_of(alloc, matches, port)?;
+    Ok(Plan {
+        config,
+        connections,
+    })
+}
+
+/// What the matches ask for. A subcommand was named, so it is `table` if it is none of the others.
+#[tactic(auto, using(crate::proofs::Arguments::name_found, crate::proofs::Arguments::session_fault, crate::proofs::Arguments::serve_fault))]
+fn asked_by(alloc: Global, matches: &ArgMatches<'_>) -> Result<Asked, LineFault>
+    ensures asked { (name : Text) (rows : List Row)
+        → subcommand_rows_of matches.now ≡ Some (name, rows)
+        → MatchResult result (IsAsked name rows) (IsFaulty name) }
+    ensures session { IfOk result (λ asked.
+        IfSession asked (subcommand_name_of matches.now ≡ Some (codes "session"))) }
+{
+    match matches.subcommand_matches("session") {
+        Some(inner) => return Ok(Asked::Session(config_of(alloc, inner, SESSION_PORT)?)),
+        None => {}
+    }
+    match matches.subcommand_matches("serve") {
+        Some(inner) => Ok(Asked::Serve(plan_of(alloc, inner)?)),
+        None => Ok(Asked::Table),
+    }
+}
+
+/// Looks the arguments up, of which the first is the program's name.
+pub(crate) fn parse<S: AsStr>(alloc: Global, arguments: &[S]) -> Result<Asked, LineFault>
+    ensures asked { (name : Text) (rows : List Row) → Finds (map S.text arguments.now) name rows
+        → MatchResult result (IsAsked name rows) (IsFaulty name) }
+    ensures session { IfOk result (λ asked.
+        IfSession asked (NamesSession (map S.text arguments.now))) }
+{
+    match command(alloc)?.try_get_matches_from(arguments) {
+        Ok(matches) => asked_by(alloc, &matches),
+        Err(error) => Err(LineFault::Clap(error)),
+    }
+}

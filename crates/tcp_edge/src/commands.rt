@@ -1,0 +1,121 @@
+//! The commands and arguments that the program takes.
+
+ghost use Rattle.std.specs.Prelude.{◌≡◌, IfOk, false};
+ghost use Rattle.clap.specs.Words.{app_of, rule_of};
+ghost use Rattle.tcp_edge.specs.CommandLine.{IsRoles, Roles, kbroker, role_rule, topics_rule, port_rule, connections_rule};
+
+use clap::{Arg, Command, value_parser};
+use std::alloc::{AllocError, Global};
+
+const ABOUT: &str = "A message broker with compacted topics";
+
+const ABOUT_TABLE: &str = "Prints the current state of a topic: reads record batches, end to end, \
+from standard input, and writes a line KEY=VALUE for each key that has a value, by rising key bytes";
+
+const ABOUT_SESSION: &str =
+    "Answers the request frames on standard input, end to end, with response \
+frames on standard output, as a new broker with these topics";
+
+const ABOUT_SERVE: &str = "Listens on 127.0.0.1 as a new broker with these topics, answers the \
+requests of one connection after the other, and prints a line for each";
+
+const EXAMPLE_SESSION: &str = "Example: kbroker session orders:3 prices:1 < requests > replies";
+
+const EXAMPLE_SERVE: &str = "Example: kbroker serve --port 9092 --connections 10 orders:3 prices:1";
+
+const HELP_TOPICS: &str = "A topic's name and the number of its partitions, as orders:3";
+
+const HELP_ROLE: &str = "What the broker is to its partitions: a leader gives out their offsets, a \
+follower holds copies";
+
+const HELP_PORT: &str = "The port to listen on; 0 for any that is free";
+
+const HELP_CONNECTIONS: &str = "How many connections to serve before it ends";
+
+static ROLES: [&str; 2] = ["leader", "follower"];
+
+/// The words of roles.
+fn roles<'a>() -> &'a [&'a str]
+    ensures { IsRoles result }
+{
+    ROLES.as_slice()
+}
+
+/// The topics, at least one.
+fn topics_arg<'a>(alloc: Global) -> Arg<'a>
+    ensures rule { rule_of result ≡ topics_rule }
+    ensures local { result.global ≡ false }
+{
+    Arg::new(alloc, "topics")
+        .value_name("TOPIC:N")
+        .help(HELP_TOPICS)
+        .required(true)
+        .num_args(1..)
+}
+
+/// The role, one of these words.
+fn role_arg<'a>(alloc: Global, roles: &'a [&'a str]) -> Arg<'a>
+    ensures rule { rule_of result ≡ role_rule roles.entry }
+    ensures local { result.global ≡ false }
+{
+    Arg::new(alloc, "role")
+        .long("role")
+        .value_name("ROLE")
+        .help(HELP_ROLE)
+        .value_parser(roles)
+        .default_value("leader")
+}
+
+/// The port.
+fn port_arg<'a>(alloc: Global) -> Arg<'a>
+    ensures rule { rule_of result ≡ port_rule }
+    ensures local { result.global ≡ false }
+{
+    Arg::new(alloc, "port")
+        .long("port")
+        .value_name("P")
+        .help(HELP_PORT)
+        .required(true)
+        .value_parser(value_parser!(u16))
+}
+
+/// The number of connections.
+fn connections_arg<'a>(alloc: Global) -> Arg<'a>
+    ensures rule { rule_of result ≡ connections_rule }
+    ensures local { result.global ≡ false }
+{
+    Arg::new(alloc, "connections")
+        .long("connections")
+        .value_name("C")
+        .help(HELP_CONNECTIONS)
+        .required(true)
+        .value_parser(value_parser!(u32))
+}
+
+/// What the program can be asked for.
+pub(crate) fn command<'a>(alloc: Global) -> Result<Command<'a>, AllocError>
+    ensures { IfOk result (λ command. (roles : Roles) × IsRoles roles
+        × (app_of command ≡ kbroker roles)) }
+{
+    let roles = roles();
+    let table = Command::new(alloc, "table").about(ABOUT_TABLE);
+    let session = Command::new(alloc, "session")
+        .about(ABOUT_SESSION)
+        .after_help(EXAMPLE_SESSION)
+        .arg(role_arg(alloc, roles))?
+        .arg(topics_arg(alloc))?;
+    let serve = Command::new(alloc, "serve")
+        .about(ABOUT_SERVE)
+        .after_help(EXAMPLE_SERVE)
+        .arg(port_arg(alloc))?
+        .arg(role_arg(alloc, roles))?
+        .arg(connections_arg(alloc))?
+        .arg(topics_arg(alloc))?;
+    Command::new(alloc, "kbroker")
+        .version("0.1.0")
+        .about(ABOUT)
+        .subcommand_required(true)
+        .subcommand(table)?
+        .subcommand(session)?
+        .subcommand(serve)
+}

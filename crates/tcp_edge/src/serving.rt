@@ -1,0 +1,109 @@
+//! A broker that listens: connections are served one after the other.
+
+ghost use Rattle.std.specs.Prelude.{◌≤◌};
+
+use crate::asked::Plan;
+use crate::connection::{Connection, Replies, Requests};
+use crate::error::SessionFault;
+use crate::session::refuse;
+use crate::status::{DONE, fail};
+use broker_core::{Ended, Node, SessionError, serve};
+use segment::VecStore;
+use std::alloc::Global;
+use std::io::{Result as IoResult, Write};
+use std::net::{TcpListener, TcpStream};
+use streams::{Sink, Source};
+
+/// What a connection's line calls the end of it that is none of its input's.
+fn name_of(why: &SessionError) -> &'static str {
+    match why {
+        SessionError::Frame { index: _, why: _ } => "Frame",
+        SessionError::Read => "Read",
+        SessionError::Write => "Write",
+        SessionError::OutOfMemory => "OutOfMemory",
+    }
+}
+
+/// Prints a connection's line.
+fn report<W: Write>(
+    number: u32,
+    answered: &Result<Ended, SessionError>,
+    out: &mut W,
+) -> IoResult<()> {
+    match answered {
+        Ok(ended) => writeln!(out, "connection {number}: frames {}", ended.frames)?,
+        Err(why) => writeln!(out, "connection {number}: {}", name_of(why))?,
+    }
+    out.flush()
+}
+
+/// Answers the frames of a connection.
+fn serve_stream(
+    alloc: Global,
+    node: &mut Node<VecStore<Global>>,
+    stream: &TcpStream,
+) -> Result<Ended, SessionError> {
+    let _ = stream.set_nodelay(true);
+    let connection = Connection::new(alloc, stream);
+    let mut source = Source::new(Requests(&connection));
+    let mut sink = Sink::new(Replies(&connection));
+    let answered = serve(alloc, node, &mut source, &mut sink);
+    if connection.send().is_err() || connection.write_failed() {
+        return Err(SessionError::Write);
+    }
+    answered
+}
+
+/// Serves so many connections, and prints a line for each.
+fn serve_connections<W: Write>(
+    alloc: Global,
+    node: &mut Node<VecStore<Global>>,
+    listener: &TcpListener,
+    connections: u32,
+    out: &mut W,
+) -> Result<(), SessionError> {
+    for number in 0..connections {
+        let Ok((stream, _)) = listener.accept() else {
+            return Err(SessionError::Read);
+        };
+        let answered = serve_stream(alloc, node, &stream);
+        if report(number, &answered, out).is_err() {
+            return Err(SessionError::Write);
+        }
+    }
+    Ok(())
+}
+
+/// Prints the line `listening PORT`.
+fn announce<W: Write>(port: u16, out: &mut W) -> IoResult<()> {
+    writeln!(out, "listening {port}")?;
+    out.flush()
+}
+
+/// Carries a plan out at the port that the listener has, and answers the status.
+pub(crate) fn listen<W: Write, E: Write>(
+    alloc: Global,
+    listener: &TcpListener,
+    mut plan: Plan,
+    out: &mut W,
+    err: &mut E,
+) -> u8
+    ensures is_status { result ≤ 4 }
+{
+    let port = match listener.local_addr() {
+        Ok(address) => address.port(),
+        Err(_) => return fail(&SessionFault::Stopped(SessionError::Read), err),
+    };
+    plan.config.port = port;
+    let mut node: Node<VecStore<Global>> = match Node::new(alloc, plan.config) {
+        Ok(node) => node,
+        Err(why) => return refuse(why, err),
+    };
+    if announce(port, out).is_err() {
+        return fail(&SessionFault::Stopped(SessionError::Write), err);
+    }
+    match serve_connections(alloc, &mut node, listener, plan.connections, out) {
+        Ok(()) => DONE,
+        Err(why) => fail(&SessionFault::Stopped(why), err),
+    }
+}

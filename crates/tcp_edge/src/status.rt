@@ -1,0 +1,52 @@
+//! The statuses of the program.
+
+ghost use Rattle.std.specs.Prelude.{◌≡◌};
+ghost use Rattle.tcp_edge.specs.Status.{status_of, session_status};
+
+use crate::error::{SessionFault, TableError};
+use broker_core::SessionError;
+use std::io::Write;
+
+/// The status of a run that did what it was asked for.
+pub const DONE: u8 = 0;
+/// The status where the input is refused.
+pub const REFUSED: u8 = 1;
+/// The status of a faulty command line, and of a configuration that is refused.
+pub const FAULTY: u8 = 2;
+/// The status where there is no memory.
+pub const NO_MEMORY: u8 = 3;
+/// The status where a read or a write failed.
+pub const FAILED: u8 = 4;
+
+/// The status where there is no table.
+pub(crate) fn status_of(why: TableError) -> u8
+    ensures { result ≡ status_of why }
+{
+    match why {
+        TableError::Batch { index: _, why: _ } => REFUSED,
+        TableError::OutOfMemory => NO_MEMORY,
+        TableError::Read | TableError::Write => FAILED,
+    }
+}
+
+/// The status where a session is no success.
+fn session_status(why: &SessionFault) -> u8
+    ensures { result ≡ session_status why.now }
+{
+    match why {
+        SessionFault::EndsInside => REFUSED,
+        SessionFault::Stopped(why) => match why {
+            SessionError::Frame { index: _, why: _ } => REFUSED,
+            SessionError::OutOfMemory => NO_MEMORY,
+            SessionError::Read | SessionError::Write => FAILED,
+        },
+    }
+}
+
+/// Says why a session is no success, and answers the status.
+pub(crate) fn fail<E: Write>(why: &SessionFault, err: &mut E) -> u8
+    ensures { result ≡ session_status why.now }
+{
+    let _ = writeln!(err, "kbroker: {why}");
+    session_status(why)
+}

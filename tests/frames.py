@@ -1,0 +1,161 @@
+"""Request frames and their responses, field by field, by Kafka's public documentation ("Protocol Guide", "The Messages").
+
+It shares nothing with the program that is tested on them. Each frame has correlation id 7.
+"""
+import struct
+
+import batches
+
+
+def text(name):
+    return struct.pack(">h", len(name)) + name
+
+
+def data(held):
+    return struct.pack(">i", len(held)) + held
+
+
+def array(elements):
+    return struct.pack(">i", len(elements)) + b"".join(elements)
+
+
+def topics(entries):
+    """Entries as pairs of a topic's name and bytes; those of one name in a row stand in one topic."""
+    grouped = []
+    for name, entry in entries:
+        if not grouped or grouped[-1][0] != name:
+            grouped.append((name, []))
+        grouped[-1][1].append(entry)
+    return array([text(name) + array(held) for name, held in grouped])
+
+
+def entries_of(words, encode):
+    """Entries `TOPIC:PARTITION REST`, with ` | ` between; `encode` gives the bytes behind the partition."""
+    made = []
+    for it in words.split(" | "):
+        place, _, rest = it.strip().partition(" ")
+        name, _, partition = place.rpartition(":")
+        made.append((batches.unescaped(name), struct.pack(">i", int(partition)) + encode(rest)))
+    return topics(made)
+
+
+def options(words, known):
+    """`NAME=VALUE` for known names in front of other words."""
+    found = {}
+    while words.partition("=")[0] in known:
+        first, _, words = words.partition(" ")
+        name, _, value = first.partition("=")
+        found[name] = value
+    return found, words
+
+
+def request(key, version, body):
+    return data(struct.pack(">hhih", key, version, 7, -1) + body)
+
+
+def produce(words, root):
+    given, words = options(words, ("acks", "id"))
+    name = text(given["id"].encode()) if "id" in given else struct.pack(">h", -1)
+    head = name + struct.pack(">hi", int(given.get("acks", 1)), 1000)
+    return request(0, 3, head + entries_of(words, lambda it: data(sent_of(it, root))))
+
+
+def fetch(words, root):
+    given, words = options(words, ("max",))
+    head = struct.pack(">iiiib", -1, 500, 1, int(given.get("max", 1 << 20)), 0)
+
+    def entry(rest):
+        offset, _, limit = rest.partition(" ")
+        return struct.pack(">qi", int(offset), int(limit or 1 << 20))
+
+    return request(1, 4, head + entries_of(words, entry))
+
+
+def listoffsets(words, root):
+    return request(2, 1, struct.pack(">i", -1) + entries_of(words, lambda it: struct.pack(">q", int(it))))
+
+
+def metadata(words, root):
+    if words == "all":
+        return request(3, 1, struct.pack(">i", -1))
+    return request(3, 1, array([text(batches.unescaped(it)) for it in words.split(",") if words != "none"]))
+
+
+REQUESTS = {"produce": produce, "fetch": fetch, "listoffsets": listoffsets, "metadata": metadata}
+
+
+def sent_of(words, root):
+    """Inputs one behind the other, with ` + ` between."""
+    return b"".join(input_of(it, root) for it in words.split(" + ") if it)
+
+
+def input_of(words, root):
+    """The bytes that a line of input stands for."""
+    kind, _, rest = words.partition(" ")
+    if kind in REQUESTS:
+        return REQUESTS[kind](rest, root)
+    return batches.input_of(words, root)
+
+
+# ---- responses
+
+
+def response(body):
+    return data(struct.pack(">i", 7) + body)
+
+
+def produced(words, root):
+    """Of each entry its code and its base offset."""
+
+    def entry(rest):
+        code, base = (int(it) for it in rest.split())
+        return struct.pack(">hqq", code, base, -1)
+
+    return response(entries_of(words, entry) + struct.pack(">i", 0))
+
+
+def fetched(words, root):
+    """Of each entry its code, its end, and the batches."""
+
+    def entry(rest):
+        code, end, *form = rest.split(" ", 2)
+        head = struct.pack(">hqqi", int(code), int(end), int(end), -1)
+        return head + data(sent_of(form[0] if form else "", root))
+
+    return response(struct.pack(">i", 0) + entries_of(words, entry))
+
+
+def listed(words, root):
+    """Of each entry its code, its time and its offset."""
+    return response(entries_of(words, lambda it: struct.pack(">hqq", *(int(each) for each in it.split()))))
+
+
+def described(words, root):
+    """The role of broker 1 at 127.0.0.1:9092, and of each topic its name, its code, whether it is internal and its number
+    of partitions."""
+    role, _, words = words.partition(" ")
+    leads = role == "leader"
+    nodes = [struct.pack(">i", 1)] if leads else []
+    made = []
+    for it in words.split(" | "):
+        if not it:
+            continue
+        name, code, internal, count = it.split(" ")
+        partitions = [
+            struct.pack(">hii", 0 if leads else 5, index, 1 if leads else -1) + array(nodes) * 2
+            for index in range(int(count))
+        ]
+        made.append(struct.pack(">h", int(code)) + text(batches.unescaped(name)) + bytes([int(internal)]) + array(partitions))
+    broker = struct.pack(">i", 1) + text(b"127.0.0.1") + struct.pack(">ih", 9092, -1)
+    return response(array([broker]) + struct.pack(">i", 1 if leads else -1) + array(made))
+
+
+RESPONSES = {"produced": produced, "fetched": fetched, "listed": listed, "described": described}
+
+
+def reply_of(words, root):
+    """The bytes of a response, from its kind and its words, or from hexadecimal digits."""
+    kind, _, rest = words.partition(" ")
+    if kind in RESPONSES:
+        return RESPONSES[kind](rest, root)
+    return bytes.fromhex(words)
