@@ -144,16 +144,19 @@ pub after_delivery : (W w : World) (copy i batch : ℕ) (c after : Content) (b :
     → IsConsistent (record W { followers = set W.followers i after }) × Delivers w copy batch (record W { followers = set W.followers i after }) r
 after_delivery W w copy i batch c after b archive r view is number lt there log at does =
     let held : slice_get W.followers i ≡ Some c = at_index W.followers i c (omega (arith, lt, ap (λ (x : World). length x.followers) view)) there in
-    let on : slice_get W.log batch ≡ Some b = ap (λ (xs : List BatchValue). slice_get xs batch) (sym log) ∙ sym at in
-    (delivered_consistent W is copy i batch c number held b after r on does,
-     subst (λ (x : World). Delivers x copy batch (record W { followers = set W.followers i after }) r) view (delivered_steps W is copy i batch c number held b after r on does))
+    let on : slice_get W.log batch ≡ Some b = ap (λ (xs : List BatchValue). slice_get xs batch) (sym log) ∙ sym at in (
+      delivered_consistent W is copy i batch c number held b after r on does,
+      subst (λ (x : World). Delivers x copy batch (record W { followers = set W.followers i after }) r) view (delivered_steps W is copy i batch c number held b after r on does),
+    )
 
 pub no_batch : (W w : World) (copy i batch : ℕ) (archive : List BatchValue) → W ≡ w → copy ≡ i + 1 → i < length w.followers → archive ≡ W.log → None ≡ slice_get archive batch
     → (c : Content) × IsFollower w copy c × (slice_get w.log batch ≡ None)
 no_batch W w copy i batch archive view number lt log at =
-    let next : copy ≡ suc i = omega (arith, number) in
-    (get_or w.followers i w.leader, (omega (arith, number), ap (λ n. copy_at w n) next ∙ there w.followers i w.leader lt),
-     ap (λ (x : World). slice_get x.log batch) (sym view) ∙ ap (λ (xs : List BatchValue). slice_get xs batch) (sym log) ∙ sym at)
+    let next : copy ≡ suc i = omega (arith, number) in (
+      get_or w.followers i w.leader,
+      (omega (arith, number), ap (λ n. copy_at w n) next ∙ there w.followers i w.leader lt),
+      ap (λ (x : World). slice_get x.log batch) (sym view) ∙ ap (λ (xs : List BatchValue). slice_get xs batch) (sym log) ∙ sym at,
+    )
   where
     there : (xs : List Content) (i : ℕ) (d : Content) → i < length xs → slice_get xs i ≡ Some (get_or xs i d)
     there [] i d lt = absurd (omega (arith, lt))

@@ -14,6 +14,7 @@ use Rattle.content.specs.Content.{Content, add, has_seen_all}
 use Rattle.content.specs.Cleaning.{clean, clean_report}
 use Rattle.content.specs.Joins.{join}
 use Rattle.content.specs.Logs.{next_offset}
+use Rattle.copy_images.specs.Images.{IsImage}
 use Rattle.partition_log.specs.Appends.{IsProducerValid, IsSendable}
 use Rattle.partition_log.specs.declared.leader.AppendError.{AppendError}
 use Rattle.partition_log.specs.declared.leader.AppendError.TheVariants as append
@@ -26,7 +27,7 @@ use Rattle.cluster.specs.declared.event.EventError.TheVariants.{NoCopy, LeaderCo
 use Rattle.cluster.specs.declared.event.ClusterError.{ClusterError}
 use Rattle.cluster.specs.declared.event.ClusterError.TheVariants as cluster
 use Rattle.cluster.specs.declared.TheConstants.{MAX_COPIES}
-use Rattle.cluster.specs.Worlds.{World, copy_at, with_copy, at_log_end, with_appended, with_image}
+use Rattle.cluster.specs.Worlds.{World, copy_at, with_copy, at_log_end, with_appended, with_image_of}
 
 -- ---- what is sent to the leader
 
@@ -118,7 +119,7 @@ Cleans w copy upto tomb_before after (Err error) = RefusesCopy w copy error × (
 
 abbrev pub Sends : World → (copy : ℕ) → World → Result Outcome EventError → Type 0
 Sends w copy after (Ok (Sent image)) =
-    (c : Content) × (copy_at w copy ≡ Some c) × (after ≡ with_image c w) × (image ≡ length w.images)
+    (c : Content) × (copy_at w copy ≡ Some c) × (after ≡ with_image_of c w) × (image ≡ length w.images)
 Sends w copy after (Ok _) = ⊥
 Sends w copy after (Err error) = RefusesCopy w copy error × (after ≡ w)
 
@@ -129,8 +130,8 @@ RefusesMerge w copy image error = RefusesFollower w copy error
 
 abbrev pub Merges : World → (copy image : ℕ) → World → Result Outcome EventError → Type 0
 Merges w copy image after (Ok Merged) =
-    (c : Content) × (sent : Content) × IsFollower w copy c × (slice_get w.images image ≡ Some sent)
-    × (after ≡ with_copy copy (join c sent) w)
+    (c : Content) × (bytes : List ℕ) × (sent : Content) × IsFollower w copy c
+    × (slice_get w.images image ≡ Some bytes) × IsImage bytes sent × (after ≡ with_copy copy (join c sent) w)
 Merges w copy image after (Ok _) = ⊥
 Merges w copy image after (Err error) = RefusesMerge w copy image error × (after ≡ w)
 

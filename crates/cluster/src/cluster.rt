@@ -7,10 +7,12 @@ ghost use Rattle.std.specs.Prelude.{slice_get};
 ghost use Rattle.batch_codec.specs.Grammar.{batch_encoding};
 ghost use Rattle.cluster.specs.Worlds.{new_world, copy_at};
 ghost use Rattle.cluster.specs.Events.{RefusesCopies};
+ghost use Rattle.cluster.specs.Headline.{IsConsistent};
 
 use crate::MAX_COPIES;
 use crate::archived::Archived;
 use crate::event::ClusterError;
+use content_laws::copies::an_empty_copy_is_a_copy;
 use partition_log::{LeaderLog, PartitionLog};
 use segment::BatchStore;
 use std::alloc::AllocError;
@@ -23,10 +25,11 @@ pub struct Cluster<S: BatchStore> {
     pub(crate) leader: LeaderLog<S>,
     pub(crate) followers: Vec<PartitionLog<S>, S::Alloc>,
     pub(crate) archive: Vec<Archived<S::Alloc>, S::Alloc>,
+    pub(crate) images: Vec<Vec<u8, S::Alloc>, S::Alloc>,
 }
 
 impl<S: BatchStore> Model for Cluster<S> {
-    ghost use Rattle.std.specs.Prelude.{[]};
+    ghost use Rattle.std.specs.Prelude.{map};
     ghost use Rattle.cluster.specs.Worlds.{World};
     ghost use Rattle.cluster.specs.Headline.{IsConsistent};
 
@@ -36,14 +39,14 @@ impl<S: BatchStore> Model for Cluster<S> {
       log = c.archive.items;
       leader = c.leader;
       followers = c.followers.items;
-      images = [];
+      images = map (λ image. image.items) c.images.items;
     } };
 
     ghost invariant = { λ c. IsConsistent (record {
       log = c.archive.items;
       leader = c.leader;
       followers = c.followers.items;
-      images = [];
+      images = map (λ image. image.items) c.images.items;
     }) };
 }
 
@@ -89,12 +92,21 @@ impl<S: BatchStore> Cluster<S> {
             Ok(followers) => followers,
             Err(_) => return Err(ClusterError::OutOfMemory),
         };
+        an_empty_copy_is_a_copy();
         Ok(Cluster {
             alloc,
             leader: empty_leader(alloc),
             followers,
             archive: Vec::new(alloc),
+            images: Vec::new(alloc),
         })
+    }
+
+    /// The copies are consistent: this is known behind the call, which does nothing.
+    pub(crate) fn know_consistent(&self)
+        ensures { IsConsistent self.now }
+    {
+        let _ = self.images.len();
     }
 
     /// A copy, by its number; copy 0 is the leader's. Takes no memory.
@@ -113,5 +125,12 @@ impl<S: BatchStore> Cluster<S> {
             ≡ option_map batch_encoding (slice_get self.now.log batch) }
     {
         self.archive.get(batch).map(|archived| archived.bytes())
+    }
+
+    /// The bytes of an image that was sent, by its number. Takes no memory.
+    pub fn image(&self, image: usize) -> Option<&[u8]>
+        ensures { option_map (λ bytes. bytes.now) result ≡ slice_get self.now.images image }
+    {
+        self.images.get(image).map(|image| image.as_slice())
     }
 }

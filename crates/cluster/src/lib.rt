@@ -6,6 +6,7 @@ mod cleaning;
 mod cluster;
 mod delivering;
 mod event;
+mod imaging;
 mod running;
 mod sending;
 

