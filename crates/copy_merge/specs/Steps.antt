@@ -1,5 +1,5 @@
 -- Two lists of batches, by rising base offset.
-use Rattle.std.specs.Prelude.{ℕ, ℤ, int_lt, List, [], ◌∷◌, Option, Some, None, if◌then◌else◌}
+use Rattle.std.specs.Prelude.{ℕ, ℤ, int_lt, Bool, true, false, List, [], ◌∷◌, Option, Some, None, if◌then◌else◌}
 use Rattle.batch_codec.specs.Values.{BatchValue}
 use Rattle.batch_codec.specs.Offsets.{first_offset}
 use Rattle.content.specs.Content.{IsInRange}
@@ -25,6 +25,13 @@ next_by (Some x) (Some y) =
 -- what comes next of two lists
 abbrev pub next_of : List BatchValue → List BatchValue → Next
 next_of xs ys = next_by (first_of xs) (first_of ys)
+
+-- whether nothing comes
+abbrev pub is_done : Next → Bool
+is_done Done = true
+is_done (Left x) = false
+is_done (Right y) = false
+is_done (Both x y) = false
 
 -- the base offset of what comes next; the end of all offsets where nothing does
 abbrev pub base_of : Next → ℤ

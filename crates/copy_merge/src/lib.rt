@@ -9,5 +9,9 @@
 
 mod alike;
 mod common;
+mod error;
+mod judging;
 mod next;
 mod walk;
+
+pub use error::MergeError;

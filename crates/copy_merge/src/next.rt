@@ -1,13 +1,24 @@
 //! Two copies' batches, by rising base offset.
 
-ghost use Rattle.std.specs.Prelude.{◌≡◌, drop, Option, Some, None};
+ghost use Rattle.std.specs.Prelude.{◌≡◌, ◌<◌, ◌^◌, drop, length, not, Option, Some, None, IfSome};
 ghost use Rattle.batch_codec.specs.Offsets.{first_offset};
-ghost use Rattle.copy_merge.specs.Steps.{first_of, next_by, next_of, base_of, taken_left, taken_right, IsNextInRange};
+ghost use Rattle.content.specs.Content.{IsContent, IsInRange};
+ghost use Rattle.copy_merge.specs.Steps.{first_of, is_done, next_by, next_of, base_of, taken_left, taken_right, IsNextInRange};
 
 use batch_codec::BatchView;
 use cover_ranges::OFFSETS_END;
 use partition_log::PartitionLog;
 use segment::BatchStore;
+
+/// A copy's content is a valid one, and its batches can be counted: this is known behind the call,
+/// which does nothing.
+pub(crate) fn know_content<S: BatchStore>(log: &PartitionLog<S>)
+    ensures is_content { IsContent log.now }
+    ensures few { length log.now.kept < 2 ^ 64 }
+{
+    let _ = log.end();
+    let _ = log.len();
+}
 
 /// What comes next of two lists of batches, by rising base offset.
 #[derive(Drop)]
@@ -24,7 +35,8 @@ pub(crate) enum Next<'a> {
 
 /// The kept batch at an index, if there is one.
 fn batch_at<S: BatchStore>(log: &PartitionLog<S>, i: usize) -> Option<BatchView<'_>>
-    ensures { result ≡ first_of (drop i log.now.kept) }
+    ensures first { result ≡ first_of (drop i log.now.kept) }
+    ensures in_range { IfSome result IsInRange }
 {
     if i < log.len() {
         return Some(log.at(i));
@@ -32,9 +44,24 @@ fn batch_at<S: BatchStore>(log: &PartitionLog<S>, i: usize) -> Option<BatchView<
     None
 }
 
+/// Whether a batch is left from an index on in either of two copies.
+pub(crate) fn has_next<'a, S: BatchStore>(
+    a: &'a PartitionLog<S>,
+    i: usize,
+    b: &'a PartitionLog<S>,
+    j: usize,
+) -> bool
+    ensures { result ≡ not (is_done (next_of (drop i a.now.kept) (drop j b.now.kept))) }
+{
+    i < a.len() || j < b.len()
+}
+
 /// What comes next of a batch and perhaps another.
 fn next_from<'a>(x: BatchView<'a>, right: Option<BatchView<'a>>) -> Next<'a>
-    ensures { result ≡ next_by (Some x.entry) right.entry }
+    requires left_in_range { IsInRange x }
+    requires right_in_range { IfSome right IsInRange }
+    ensures next { result ≡ next_by (Some x.entry) right.entry }
+    ensures in_range { IsNextInRange result }
 {
     match right {
         None => Next::Left(x),
@@ -51,7 +78,8 @@ pub(crate) fn next_batches<'a, S: BatchStore>(
     b: &'a PartitionLog<S>,
     j: usize,
 ) -> Next<'a>
-    ensures { result ≡ next_of (drop i a.now.kept) (drop j b.now.kept) }
+    ensures next { result ≡ next_of (drop i a.now.kept) (drop j b.now.kept) }
+    ensures in_range { IsNextInRange result }
 {
     match batch_at(a, i) {
         Some(x) => next_from(x, batch_at(b, j)),
