@@ -136,16 +136,6 @@ in_back {X = X} h k back j i old new at is next le =
       sum = omega (arith, at.sum, at.within, one, length_more new k (omega (arith, at.block)), ap (λ (x : List (List X)). length (joined x)) before, ap (λ (ys : List X). length ys) front, length-take h (get_or old k []));
     }
 
-pub front_room : {X : Type 0} (h limit k : ℕ) (old new : List (List X)) → k < length old → new ≡ divided h old k → h < limit → length (get_or new k []) < limit
-front_room {X = X} h limit k old new lt is le =
-    omega (arith, ap (λ (x : List (List X)). length (get_or x k [])) is, ap (λ (ys : List X). length ys) (front_of h old k lt), length-take h (get_or old k []))
-
-pub back_room : {X : Type 0} (h limit k back : ℕ) (old new : List (List X)) → k < length old → new ≡ divided h old k → back ≡ k + 1 → h < limit → length (get_or old k []) < limit + h → length (get_or new back []) < limit
-back_room {X = X} h limit k back old new lt is next some le =
-    let after : back ≡ suc k = omega arith in
-    let block : get_or new back [] ≡ drop h (get_or old k []) = (λ i. get_or (is i) (after i) []) ∙ back_of h old k lt in
-    omega (arith, le, ap (λ (ys : List X). length ys) block, length-drop h (get_or old k []))
-
 -- as a push leaves them
 pub pushed_in : {X : Type 0} (ok : Bool) (old new : List (List X)) (k : ℕ) (x : X) → length old ≡ k + 1 → new ≡ (if ok then set old k (get_or old k [] ++ x ∷ []) else old)
     → joined new ≡ (if ok then joined old ++ x ∷ [] else joined old)

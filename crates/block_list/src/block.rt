@@ -2,41 +2,34 @@
 
 ghost use Rattle.std.specs.Prelude.{◌≡◌, ◌<◌, ◌≤◌, [], ◌∷◌, ◌++◌, length, take, drop, IfOk, is_ok, if◌then◌else◌};
 ghost use Rattle.std.specs.List.{insert};
-ghost use Rattle.block_list.specs.declared.block.TheConstants.{LIMIT, HALF};
 
 use std::alloc::{AllocError, Allocator};
 use std::marker::Model;
 
-/// The most elements in a block.
+/// A block with this many elements is full: it is split before one more is inserted.
 pub(crate) const LIMIT: usize = 128;
 
-/// How many elements of a full block stay in it when it is split.
-pub(crate) const HALF: usize = 64;
-
-/// From one to [`LIMIT`] elements in a row.
+/// Some elements in a row.
 #[derive(Drop)]
 pub(crate) struct Block<T, A: Allocator + Copy> {
     items: Vec<T, A>,
 }
 
 impl<T, A: Allocator + Copy> Model for Block<T, A> {
-    ghost use Rattle.std.specs.Prelude.{◌<◌, ◌≤◌, List, length};
-    ghost use Rattle.block_list.specs.declared.block.TheConstants.{LIMIT};
+    ghost use Rattle.std.specs.Prelude.{◌<◌, List, length};
 
     ghost Value = { List T };
 
     ghost view = { λ block. block.items.items };
 
-    ghost invariant = { λ block. (0 < length block.items.items)
-        × (length block.items.items ≤ LIMIT) };
+    ghost invariant = { λ block. 0 < length block.items.items };
 }
 
 impl<T, A: Allocator + Copy> Block<T, A> {
-    /// How many elements there are, from 1 to [`LIMIT`].
+    /// How many elements there are, at least one.
     pub(crate) fn len(&self) -> usize
         ensures length { result ≡ length self.now }
         ensures not_empty { 0 < result }
-        ensures limit { result ≤ LIMIT }
     {
         self.items.len()
     }
@@ -45,9 +38,26 @@ impl<T, A: Allocator + Copy> Block<T, A> {
     pub(crate) fn items(&self) -> &[T]
         ensures items { result.now ≡ self.now }
         ensures not_empty { 0 < length self.now }
-        ensures limit { length self.now ≤ LIMIT }
     {
         &self.items
+    }
+}
+
+impl<T, A: Allocator + Copy> Block<T, A> {
+    /// A block of these elements. Takes no memory.
+    pub(crate) fn of(items: Vec<T, A>) -> Block<T, A>
+        requires { 0 < length items.items }
+        ensures { result ≡ items.items }
+    {
+        Block { items }
+    }
+
+    /// The elements. Takes no memory.
+    pub(crate) fn into_items(self) -> Vec<T, A>
+        ensures items { result.items ≡ self }
+        ensures not_empty { 0 < length self }
+    {
+        self.items
     }
 }
 
@@ -68,7 +78,6 @@ impl<T: Drop, A: Allocator + Copy> Block<T, A> {
     /// Out of memory: the block is as it was.
     pub(crate) fn insert(&mut self, i: usize, x: T) -> Result<(), AllocError>
         requires within { i ≤ length self.old }
-        requires room { length self.old < LIMIT }
         ensures { self.new ≡ (if is_ok result then insert self.old i x else self.old) }
     {
         self.items.insert(i, x)?;
@@ -81,24 +90,24 @@ impl<T: Drop, A: Allocator + Copy> Block<T, A> {
     ///
     /// Out of memory: the block is as it was.
     pub(crate) fn push(&mut self, x: T) -> Result<(), AllocError>
-        requires room { length self.old < LIMIT }
         ensures { self.new ≡ (if is_ok result then self.old ++ x ∷ [] else self.old) }
     {
         self.items.push(x)?;
         Ok(())
     }
 
-    /// Keeps the first [`HALF`] elements of a full block, and answers a block of the others.
+    /// Keeps some of the first elements, and answers a block of the others.
     ///
     /// # Errors
     ///
     /// Out of memory: the block is as it was.
-    pub(crate) fn split(&mut self) -> Result<Block<T, A>, AllocError>
-        requires full { LIMIT ≤ length self.old }
-        ensures keeps { self.new ≡ (if is_ok result then take HALF self.old else self.old) }
-        ensures gives { IfOk result (λ back. back ≡ drop HALF self.old) }
+    pub(crate) fn split(&mut self, keep: usize) -> Result<Block<T, A>, AllocError>
+        requires some { 0 < keep }
+        requires not_all { keep < length self.old }
+        ensures keeps { self.new ≡ (if is_ok result then take keep self.old else self.old) }
+        ensures gives { IfOk result (λ back. back ≡ drop keep self.old) }
     {
-        let items = self.items.split_off(HALF)?;
+        let items = self.items.split_off(keep)?;
         Ok(Block { items })
     }
 }

@@ -2,10 +2,10 @@
 
 ghost use Rattle.std.specs.Prelude.{◌≡◌, ◌+◌, ◌<◌, ◌≤◌, ◌^◌, [], ◌∷◌, ◌++◌, length, is_ok, if◌then◌else◌, slice_set, slice_index_or, vec_len, vec_capacity, IfOk, IfSome};
 ghost use Rattle.std.specs.List.{HoldsAt, insert};
-ghost use Rattle.block_list.specs.Blocks.{joined, divided, IsIn};
-ghost use Rattle.block_list.specs.declared.block.TheConstants.{LIMIT, HALF};
+ghost use Rattle.block_list.specs.Blocks.{joined, starts_of, divided, IsIn};
+ghost use Rattle.block_list.specs.declared.block.TheConstants.{LIMIT};
 
-use crate::block::{Block, HALF, LIMIT};
+use crate::block::{Block, LIMIT};
 use crate::starts::{block_at, count_one};
 use std::alloc::{AllocError, Allocator};
 use std::marker::Model;
@@ -36,6 +36,21 @@ impl<T, A: Allocator + Copy> Model for Blocks<T, A> {
 }
 
 impl<T, A: Allocator + Copy> Blocks<T, A> {
+    /// Blocks, and how many elements stand before each. Takes no memory.
+    pub(crate) fn of(blocks: Vec<Block<T, A>, A>, starts: Vec<usize, A>) -> Blocks<T, A>
+        requires { starts.items ≡ starts_of 0 blocks.items }
+        ensures { result ≡ blocks.items }
+    {
+        Blocks { blocks, starts }
+    }
+
+    /// The blocks. Takes no memory.
+    pub(crate) fn into_blocks(self) -> Vec<Block<T, A>, A>
+        ensures { result.items ≡ self }
+    {
+        self.blocks
+    }
+
     /// No blocks. Takes no memory.
     pub(crate) fn new(alloc: A) -> Blocks<T, A>
         ensures { result ≡ [] }
@@ -51,7 +66,6 @@ impl<T, A: Allocator + Copy> Blocks<T, A> {
         requires { k < length self.now }
         ensures items { HoldsAt (λ b. result.now ≡ b) self.now k }
         ensures not_empty { 0 < length result.now }
-        ensures limit { length result.now ≤ LIMIT }
     {
         self.blocks[k].items()
     }
@@ -79,7 +93,7 @@ fn insert_reserved<T: Drop, A: Allocator + Copy>(items: &mut Vec<T, A>, i: usize
 }
 
 impl<T: Drop, A: Allocator + Copy> Blocks<T, A> {
-    /// Inserts an element at a place, in a block that has room.
+    /// Inserts an element at a place.
     ///
     /// # Errors
     ///
@@ -87,7 +101,6 @@ impl<T: Drop, A: Allocator + Copy> Blocks<T, A> {
     pub(crate) fn insert(&mut self, place: Place, x: T) -> Result<(), AllocError>
         requires block { place.block < length self.old }
         requires within { place.index ≤ length (slice_index_or self.old place.block []) }
-        requires room { length (slice_index_or self.old place.block []) < LIMIT }
         requires fits { length (joined self.old) + 1 < 2 ^ 64 }
         ensures { self.new ≡ (if is_ok result
             then slice_set self.old place.block
@@ -102,7 +115,6 @@ impl<T: Drop, A: Allocator + Copy> Blocks<T, A> {
     /// The last block, if it has room.
     fn last_with_room(&self) -> Option<usize>
         ensures last { IfSome result (λ k. length self.now ≡ k + 1) }
-        ensures room { IfSome result (λ k. length (slice_index_or self.now k []) < LIMIT) }
     {
         let k = self.blocks.len().checked_sub(1)?;
         if self.blocks[k].len() < LIMIT {
@@ -112,10 +124,9 @@ impl<T: Drop, A: Allocator + Copy> Blocks<T, A> {
         }
     }
 
-    /// Adds an element at the end of the last block, which has room.
+    /// Adds an element at the end of the last block.
     fn push_in(&mut self, k: usize, x: T) -> Result<(), AllocError>
         requires last { length self.old ≡ k + 1 }
-        requires room { length (slice_index_or self.old k []) < LIMIT }
         ensures { self.new ≡ (if is_ok result
             then slice_set self.old k (slice_index_or self.old k [] ++ x ∷ [])
             else self.old) }
@@ -151,27 +162,29 @@ impl<T: Drop, A: Allocator + Copy> Blocks<T, A> {
         self.push_block(alloc, len, x)
     }
 
-    /// Splits a full block in two, its first [`HALF`] elements and the others, and answers which block
-    /// the others are.
-    fn split(&mut self, k: usize) -> Result<usize, AllocError>
+    /// Splits a block in two, some of its first elements and the others, and answers which block the
+    /// others are.
+    fn split(&mut self, k: usize, keep: usize) -> Result<usize, AllocError>
         requires block { k < length self.old }
-        requires full { LIMIT ≤ length (slice_index_or self.old k []) }
+        requires some { 0 < keep }
+        requires not_all { keep < length (slice_index_or self.old k []) }
         requires fits { length (joined self.old) < 2 ^ 64 }
         ensures splits { self.new ≡ (if is_ok result
-            then divided HALF self.old k
+            then divided keep self.old k
             else self.old) }
         ensures next { IfOk result (λ back. back ≡ k + 1) }
     {
         self.starts.reserve(1)?;
         self.blocks.reserve(1)?;
-        let back = self.blocks[k].split()?;
-        let start = self.starts[k] + HALF;
+        let back = self.blocks[k].split(keep)?;
+        let start = self.starts[k] + keep;
         insert_reserved(&mut self.blocks, k + 1, back);
         insert_reserved(&mut self.starts, k + 1, start);
         Ok(k + 1)
     }
 
-    /// Where an element goes at an index: a place in a block that has room, since a full one is split.
+    /// Where an element goes at an index. A full block is split in halves, so that insertions into a
+    /// long one soon move few elements.
     ///
     /// # Errors
     ///
@@ -181,20 +194,20 @@ impl<T: Drop, A: Allocator + Copy> Blocks<T, A> {
         requires fits { length (joined self.old) < 2 ^ 64 }
         ensures same { joined self.new ≡ joined self.old }
         ensures place { IfOk result (λ p. IsIn self.new p.block p.index i) }
-        ensures room { IfOk result
-            (λ p. length (slice_index_or self.new p.block []) < LIMIT) }
     {
         let place = self.locate(i);
-        if self.items(place.block).len() < LIMIT {
+        let len = self.items(place.block).len();
+        if len < LIMIT {
             return Ok(place);
         }
-        let back = self.split(place.block)?;
-        if place.index < HALF {
+        let keep = len / 2;
+        let back = self.split(place.block, keep)?;
+        if place.index < keep {
             return Ok(place);
         }
         Ok(Place {
             block: back,
-            index: place.index - HALF,
+            index: place.index - keep,
         })
     }
 }

@@ -2,8 +2,10 @@
 
 ghost use Rattle.std.specs.Prelude.{◌≡◌, ◌<◌, ◌≤◌, [], ◌∷◌, ◌++◌, length, OnOk, OnErr};
 ghost use Rattle.std.specs.List.{HoldsAt, insert};
+ghost use Rattle.block_list.specs.Blocks.{joined};
 
 use crate::blocks::Blocks;
+use crate::items::Items;
 use std::alloc::{AllocError, Allocator};
 use std::marker::Model;
 
@@ -38,6 +40,14 @@ impl<T, A: Allocator + Copy> BlockList<T, A> {
         }
     }
 
+    /// The elements of some blocks, and how many they are. Takes no memory.
+    pub(crate) fn of_blocks(alloc: A, blocks: Blocks<T, A>, len: usize) -> BlockList<T, A>
+        requires { len ≡ length (joined blocks) }
+        ensures { result ≡ joined blocks }
+    {
+        BlockList { alloc, blocks, len }
+    }
+
     /// How many elements there are.
     pub fn len(&self) -> usize
         ensures length { result ≡ length self.now }
@@ -57,6 +67,13 @@ impl<T, A: Allocator + Copy> BlockList<T, A> {
 }
 
 impl<T: Drop, A: Allocator + Copy> BlockList<T, A> {
+    /// The elements, to be taken out. Takes no memory.
+    pub fn into_items(self) -> Items<T, A>
+        ensures { result ≡ self }
+    {
+        Items::of(self.alloc, self.blocks.into_blocks())
+    }
+
     /// Adds an element at the end, at the cost of a push to a vector.
     ///
     /// # Errors
@@ -72,7 +89,8 @@ impl<T: Drop, A: Allocator + Copy> BlockList<T, A> {
         Ok(())
     }
 
-    /// Inserts an element at an index, and moves those behind it: at most as many as one block holds.
+    /// Inserts an element at an index, and moves those behind it in its block. Long blocks are split in
+    /// halves as this goes on, so that most insertions move few.
     ///
     /// # Errors
     ///

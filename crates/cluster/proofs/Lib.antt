@@ -1,0 +1,3 @@
+pub mod LogEnds
+pub mod WorldSteps
+pub mod Headlines
