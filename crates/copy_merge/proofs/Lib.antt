@@ -1,3 +1,5 @@
 pub mod Steps
 pub mod Walks
 pub mod Judged
+pub mod Turns
+pub mod Planned

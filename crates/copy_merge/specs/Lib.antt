@@ -2,3 +2,4 @@ pub mod Steps
 pub mod Walks
 pub mod Agreement
 pub mod Merges
+pub mod Plans

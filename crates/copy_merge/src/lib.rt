@@ -12,6 +12,7 @@ mod common;
 mod error;
 mod judging;
 mod next;
+mod planning;
 mod walk;
 
 pub use error::MergeError;
