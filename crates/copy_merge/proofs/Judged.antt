@@ -5,7 +5,7 @@ use Rattle.std.specs.Int.{int_max}
 use Rattle.std.proofs.lemmas.Int.{ints, clamps, by_lt_z}
 use Rattle.std.proofs.lemmas.List.{drop-drop}
 use Rattle.batch_codec.specs.declared.head.BatchHead.{BatchHead}
-use Rattle.batch_codec.specs.Values.{RecordValue, BatchValue}
+use Rattle.batch_codec.specs.Values.{BatchValue}
 use Rattle.batch_codec.specs.Offsets.{first_offset, last_offset}
 use Rattle.cover_ranges.specs.Runs.{Runs, covers, CoversAll, CoversAny}
 use Rattle.content.specs.ByOffset.{look_up}

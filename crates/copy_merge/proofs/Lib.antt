@@ -3,3 +3,4 @@ pub mod Walks
 pub mod Judged
 pub mod Turns
 pub mod Planned
+pub mod Merged

@@ -1,20 +1,18 @@
 -- The plan of a merge: base by base, in the order of the kept batches' bases, it makes the kept batches of the
 -- merge that lie before what comes next.
-use Rattle.std.proofs.Common.{◌≡◌, ℕ, ◌+◌, ◌≤◌, ◌^◌, ℤ, pos, negsuc, ◌+ℤ◌, Bool, true, false, cond, not, List, [], ◌∷◌, ◌++◌, length, drop, Option, Some, None, refl, sym, ap, subst, ◌∙◌, arith}
+use Rattle.std.proofs.Common.{◌≡◌, ℕ, ◌+◌, ◌^◌, ℤ, pos, negsuc, ◌+ℤ◌, Bool, true, false, List, [], ◌∷◌, ◌++◌, drop, Option, Some, None, refl, sym, ap, subst, ◌∙◌, arith}
 use Rattle.std.specs.Prelude.{◌≤ℤ◌, ◌<ℤ◌, int_lt, if◌then◌else◌}
 use Rattle.std.specs.List.{filter, cons_option, AllByRecursion}
-use Rattle.std.specs.Int.{int_max}
 use Rattle.std.specs.Ordering.{int_eq}
-use Rattle.std.proofs.lemmas.Int.{ints, clamps, by_lt_z}
+use Rattle.std.proofs.lemmas.Int.{ints, by_lt_z}
 use Rattle.std.proofs.lemmas.List.{append-nil, append_assoc, drop-drop}
 use Rattle.batch_codec.specs.Values.{BatchValue}
-use Rattle.batch_codec.specs.Offsets.{first_offset, last_offset}
+use Rattle.batch_codec.specs.Offsets.{first_offset}
 use Rattle.cover_ranges.specs.Runs.{Runs, covers}
 use Rattle.content.specs.ByOffset.{look_up, Rises}
 use Rattle.content.specs.Records.{with_common_records}
 use Rattle.content.specs.Content.{Content, IsContent, IsInRange}
-use Rattle.content.specs.Joins.{Slot, slot_from, slot_at, slot_join, batch_of_slot, join}
-use Rattle.content.specs.Joins.Slot.{Unknown, Kept, Gone, Below}
+use Rattle.content.specs.Joins.{slot_from, slot_join, batch_of_slot, join}
 use Rattle.content_laws.proofs.ByOffset.{look_up-offset, look_up-low, rises-lower, all_from_at}
 use Rattle.content_laws.proofs.Batches.{Batches}
 use Rattle.content_laws.proofs.Slots.{bases_rise, kept_ends, slot_is, join_kept}

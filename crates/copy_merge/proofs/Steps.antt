@@ -1,22 +1,21 @@
 -- What comes next of two lists, by rising base offset, and what is known of two copies when it has come.
-use Rattle.std.proofs.Common.{◌≡◌, ℕ, ◌+◌, ◌-◌, ◌<◌, ◌≤◌, ◌^◌, ℤ, pos, ◌+ℤ◌, Bool, true, false, not, ◌||◌, List, [], ◌∷◌, length, drop, Option, Some, None, refl, sym, ap, subst, ◌∙◌, arith}
-use Rattle.std.specs.Prelude.{◌≤ℤ◌, ◌<ℤ◌, int_lt, nat_lt, IfSome, if◌then◌else◌}
-use Rattle.std.specs.List.{HoldsAt, AllByRecursion}
+use Rattle.std.proofs.Common.{◌≡◌, ℕ, ◌+◌, ◌-◌, ◌<◌, ◌≤◌, ◌^◌, ℤ, pos, ◌+ℤ◌, Bool, true, false, not, ◌||◌, [], ◌∷◌, length, drop, Some, None, refl, sym, ap, subst, ◌∙◌, arith}
+use Rattle.std.specs.Prelude.{◌≤ℤ◌, ◌<ℤ◌, int_lt, nat_lt, if◌then◌else◌}
+use Rattle.std.specs.List.{HoldsAt}
 use Rattle.std.proofs.lemmas.Int.{ints}
 use Rattle.std.proofs.lemmas.List.{drop_more, length-drop}
 use Rattle.batch_codec.specs.Values.{BatchValue}
 use Rattle.batch_codec.specs.Offsets.{first_offset, last_offset}
-use Rattle.cover_ranges.specs.Runs.{covers}
 use Rattle.content.specs.ByOffset.{look_up, Rises}
 use Rattle.content.specs.Content.{Content, IsContent, IsInRange, end}
-use Rattle.content_laws.proofs.ByOffset.{look_up-offset, look_up-low, rises-lower, rises-raise, all_from_at}
+use Rattle.content_laws.proofs.ByOffset.{look_up-offset, look_up-low, rises-lower, all_from_at}
 use Rattle.content_laws.proofs.Batches.{Batches}
 use Rattle.content_laws.proofs.Slots.{bases_rise, kept_ends}
 use Rattle.partition_log.proofs.Behind.{below_end, end_within}
 use Rattle.partition_log.proofs.Stamps.{in_range_at}
 use Rattle.copy_merge.specs.declared.next.Next.{Next}
 use Rattle.copy_merge.specs.declared.next.Next.TheVariants.{Done, Left, Right, Both}
-use Rattle.copy_merge.specs.Steps.{first_of, next_by, next_of, is_done, base_of, left_of, right_of, taken_left, taken_right}
+use Rattle.copy_merge.specs.Steps.{first_of, next_of, is_done, base_of, left_of, right_of, taken_left, taken_right}
 
 -- ---- the batch at an index
 

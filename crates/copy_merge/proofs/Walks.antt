@@ -1,6 +1,6 @@
 -- Walks over two batches' records side by side. Deltas rise, so what a walk has passed is asked for no more.
 use Rattle.std.proofs.Common.{◌≡◌, ℕ, ℤ, pos, negsuc, ◌+ℤ◌, Bool, true, false, cond, ◌&&◌, List, [], ◌∷◌, ◌++◌, length, Option, Some, None, refl, sym, ap, subst, ◌∙◌, arith, IsTrue}
-use Rattle.std.specs.Prelude.{◌↔◌, ◌≤ℤ◌, ◌<ℤ◌, int_lt, is_some, is_none, not}
+use Rattle.std.specs.Prelude.{◌↔◌, ◌≤ℤ◌, ◌<ℤ◌, is_some, not}
 use Rattle.std.specs.List.{filter}
 use Rattle.std.specs.Option.{option_map}
 use Rattle.std.specs.Ordering.{int_eq}
@@ -14,10 +14,10 @@ use Rattle.batch_codec.specs.Reading.{IsEncoding, batch_of}
 use Rattle.content_laws.proofs.BatchParts.{common_self}
 use Rattle.content.specs.ByOffset.{look_up, Rises}
 use Rattle.content.specs.Records.{record_at_delta, with_common_records}
-use Rattle.content_laws.proofs.ByOffset.{look_up-low, look_up-offset, rises-lower}
+use Rattle.content_laws.proofs.ByOffset.{look_up-low, rises-lower}
 use Rattle.content_laws.proofs.Batches.{Records, delta_of}
 use Rattle.batch_codec.specs.declared.head.BatchHead.{BatchHead}
-use Rattle.copy_merge.specs.Walks.{from_delta, front_at, without_front_at, at_delta, behind_delta, WalkAlike, walk_has_all, walk_common}
+use Rattle.copy_merge.specs.Walks.{at_delta, behind_delta, WalkAlike, walk_has_all, walk_common}
 use Rattle.copy_merge.specs.Agreement.{IsAlikeOrNone, AreAlike}
 
 -- ---- what a walk finds, and what it leaves

@@ -1,5 +1,5 @@
 -- Which two copies are not merged, and why.
-use Rattle.std.specs.Prelude.{◌≡◌, ℤ, ◌<ℤ◌}
+use Rattle.std.specs.Prelude.{ℤ, ◌<ℤ◌}
 use Rattle.content.specs.Content.{Content}
 use Rattle.content.specs.Joins.{AgreeAt, Agree}
 use Rattle.copy_merge.specs.declared.error.MergeError.{MergeError}

@@ -1,6 +1,6 @@
 //! Whether two copies agree.
 
-ghost use Rattle.std.specs.Prelude.{◌≡◌, ◌↔◌, IsTrue, pos, drop, OnOk, IfErr};
+ghost use Rattle.std.specs.Prelude.{◌≡◌, ◌↔◌, IsTrue, drop, OnOk, IfErr};
 ghost use Rattle.content.specs.Content.{IsContent, IsInRange};
 ghost use Rattle.content.specs.Joins.{Agree};
 ghost use Rattle.copy_merge.specs.Agreement.{AgreeOn, CoversAllOrNone};
@@ -42,8 +42,6 @@ pub(crate) fn judge<'a, S: BatchStore>(
     a: &'a PartitionLog<S>,
     b: &'a PartitionLog<S>,
 ) -> Result<(), i64>
-    requires left_start { a.now.start ≡ pos 0 }
-    requires right_start { b.now.start ≡ pos 0 }
     ensures agrees { OnOk result (Agree a.now b.now) }
     ensures disagrees { IfErr result (λ base. IsFirstDisagreement a.now b.now base) }
 {

@@ -11,8 +11,10 @@ mod alike;
 mod common;
 mod error;
 mod judging;
+mod merging;
 mod next;
 mod planning;
 mod walk;
 
 pub use error::MergeError;
+pub use merging::{merge, merge_into};

@@ -1,6 +1,6 @@
 //! Two copies' batches, by rising base offset.
 
-ghost use Rattle.std.specs.Prelude.{◌≡◌, ◌<◌, ◌^◌, drop, length, not, Option, Some, None, IfSome};
+ghost use Rattle.std.specs.Prelude.{◌≡◌, ◌<◌, ◌^◌, drop, length, not, pos, Option, Some, None, IfSome};
 ghost use Rattle.batch_codec.specs.Offsets.{first_offset};
 ghost use Rattle.content.specs.Content.{IsContent, IsInRange};
 ghost use Rattle.copy_merge.specs.Steps.{first_of, is_done, next_by, next_of, base_of, taken_left, taken_right, IsNextInRange};
@@ -10,12 +10,14 @@ use cover_ranges::OFFSETS_END;
 use partition_log::PartitionLog;
 use segment::BatchStore;
 
-/// A copy's content is a valid one, and its batches can be counted: this is known behind the call,
-/// which does nothing.
+/// A copy's content is a valid one from 0 on, and its batches can be counted: this is known behind
+/// the call, which does nothing.
 pub(crate) fn know_content<S: BatchStore>(log: &PartitionLog<S>)
     ensures is_content { IsContent log.now }
+    ensures from_zero { log.now.start ≡ pos 0 }
     ensures few { length log.now.kept < 2 ^ 64 }
 {
+    let _ = log.start();
     let _ = log.end();
     let _ = log.len();
 }

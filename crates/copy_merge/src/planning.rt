@@ -1,6 +1,6 @@
 //! What becomes of each kept batch where two copies are merged.
 
-ghost use Rattle.std.specs.Prelude.{◌≡◌, ◌++◌, ◌∷◌, [], pos, false, None, Some, OnOk, IfOk, if◌then◌else◌};
+ghost use Rattle.std.specs.Prelude.{◌≡◌, ◌++◌, ◌∷◌, [], false, None, Some, OnOk, IfOk, if◌then◌else◌};
 ghost use Rattle.batch_codec.specs.Grammar.{Writable};
 ghost use Rattle.batch_codec.specs.Offsets.{first_offset};
 ghost use Rattle.batch_codec.specs.Values.{BatchValue};
@@ -161,8 +161,6 @@ pub(crate) fn make_plan<'a, S: BatchStore>(
     a: &'a PartitionLog<S>,
     b: &'a PartitionLog<S>,
 ) -> Result<Plan<S>, AllocError>
-    requires left_start { a.now.start ≡ pos 0 }
-    requires right_start { b.now.start ≡ pos 0 }
     ensures { IfOk result (λ plan.
         woven plan.turns.items a.now.kept (S.batches plan.more) ≡ (join a.now b.now).kept) }
 {

@@ -1,6 +1,5 @@
-use Rattle.std.proofs.Common.{◌≡◌, Option, Some, sym, ap, ◌∙◌}
+use Rattle.std.proofs.Common.{ap}
 use Rattle.std.specs.Option.{option_map}
-use Rattle.batch_codec.specs.Values.{RecordValue}
 use Rattle.batch_codec.specs.Views.{record_value}
 use Rattle.copy_merge.proofs.Walks.{is_alike_some}
 use Rattle.copy_merge.proofs.alike.is_alike_or_none.Goals as goal

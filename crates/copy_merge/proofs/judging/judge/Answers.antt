@@ -1,4 +1,4 @@
-use Rattle.std.proofs.Common.{◌≡◌, ◌≤◌, ◌+◌, ◌∙◌, refl, arith, length, rules, FitsSigned, to_z, of_z}
+use Rattle.std.proofs.Common.{◌∙◌, refl, arith, rules, FitsSigned, to_z, of_z}
 use Rattle.std.specs.Int.{w64}
 use Rattle.std.proofs.lemmas.Int.{to_z-of_z}
 use Rattle.copy_merge.proofs.Judged.{judged_start, some_next, none_next, step_within, step_takes, judged_step, judged_fault, judged_all}
@@ -6,7 +6,7 @@ use Rattle.copy_merge.proofs.judging.judge.Goals as goal
 
 pub loop-next-init : goal.loop-next-init
 loop-next-init g c =
-    (omega arith, omega arith, judged_start c.args.a.now c.args.b.now c.know_content.ensures.is_content c.know_content-2.ensures.is_content c.requires.left_start c.requires.right_start)
+    (omega arith, omega arith, judged_start c.args.a.now c.args.b.now c.know_content.ensures.is_content c.know_content-2.ensures.is_content c.know_content.ensures.from_zero c.know_content-2.ensures.from_zero)
 
 pub returns-then-not-agree_on-clause-disagrees : goal.returns-then-not-agree_on-clause-disagrees
 returns-then-not-agree_on-clause-disagrees g c =

@@ -1,5 +1,4 @@
-use Rattle.std.proofs.Common.{◌≡◌, ◌∷◌, [], ◌++◌, List, ap, sym, subst, ◌∙◌}
-use Rattle.batch_codec.specs.Values.{BatchValue}
+use Rattle.std.proofs.Common.{ap, ◌∙◌}
 use Rattle.batch_codec.specs.Offsets.{first_offset}
 use Rattle.content.specs.ByOffset.{put}
 use Rattle.copy_merge.proofs.Turns.{put_last}

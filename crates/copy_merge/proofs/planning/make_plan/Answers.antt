@@ -1,5 +1,4 @@
-use Rattle.std.proofs.Common.{◌≡◌, List, [], sym, subst, arith}
-use Rattle.batch_codec.specs.Values.{BatchValue}
+use Rattle.std.proofs.Common.{List, [], sym, subst, arith}
 use Rattle.segment.specs.declared.turn.Turn.{Turn}
 use Rattle.copy_merge.proofs.Judged.{some_next, none_next, step_within}
 use Rattle.copy_merge.proofs.Planned.{IsPlanned, planned_start, plan_room, plan_step, planned_all}
@@ -7,7 +6,7 @@ use Rattle.copy_merge.proofs.planning.make_plan.Goals as goal
 
 pub loop-alloc-init : goal.loop-alloc-init
 loop-alloc-init g c =
-    let start = planned_start c.args.a.now c.args.b.now c.know_content.ensures.is_content c.know_content-2.ensures.is_content c.requires.left_start c.requires.right_start in (
+    let start = planned_start c.args.a.now c.args.b.now c.know_content.ensures.is_content c.know_content-2.ensures.is_content c.know_content.ensures.from_zero c.know_content-2.ensures.from_zero in (
       omega arith,
       omega arith,
       subst (λ (ts : List Turn). IsPlanned c.args.a.now c.args.b.now c.args.a.now.kept c.args.b.now.kept ts (g.S.BatchStore.batches c.new-2.result)) (sym c.new.ensures.items)

@@ -1,5 +1,4 @@
-use Rattle.std.proofs.Common.{◌≡◌, List, Option, refl, sym, ap, subst, ◌∙◌}
-use Rattle.batch_codec.specs.Values.{BatchValue}
+use Rattle.std.proofs.Common.{sym, ap, subst}
 use Rattle.content.specs.Records.{with_common_records}
 use Rattle.copy_merge.specs.declared.next.Next.{Next}
 use Rattle.copy_merge.specs.Plans.{merged_next, Adds}
