@@ -149,16 +149,18 @@ after_delivery W w copy i batch c after b archive r view is number lt there log 
       subst (λ (x : World). Delivers x copy batch (record W { followers = set W.followers i after }) r) view (delivered_steps W is copy i batch c number held b after r on does),
     )
 
-pub no_batch : (W w : World) (copy i batch : ℕ) (archive : List BatchValue) → W ≡ w → copy ≡ i + 1 → i < length w.followers → archive ≡ W.log → None ≡ slice_get archive batch
-    → (c : Content) × IsFollower w copy c × (slice_get w.log batch ≡ None)
-no_batch W w copy i batch archive view number lt log at =
-    let next : copy ≡ suc i = omega (arith, number) in (
-      get_or w.followers i w.leader,
-      (omega (arith, number), ap (λ n. copy_at w n) next ∙ there w.followers i w.leader lt),
-      ap (λ (x : World). slice_get x.log batch) (sym view) ∙ ap (λ (xs : List BatchValue). slice_get xs batch) (sym log) ∙ sym at,
-    )
+pub a_follower : (w : World) (copy i : ℕ) → copy ≡ i + 1 → i < length w.followers → (c : Content) × IsFollower w copy c
+a_follower w copy i number lt =
+    let next : copy ≡ suc i = omega (arith, number) in
+    (get_or w.followers i w.leader, (omega (arith, number), ap (λ n. copy_at w n) next ∙ there w.followers i w.leader lt))
   where
     there : (xs : List Content) (i : ℕ) (d : Content) → i < length xs → slice_get xs i ≡ Some (get_or xs i d)
     there [] i d lt = absurd (omega (arith, lt))
     there (x ∷ xs) zero d lt = refl
     there (x ∷ xs) (suc i) d lt = there xs i d (omega (arith, lt))
+
+pub no_batch : (W w : World) (copy i batch : ℕ) (archive : List BatchValue) → W ≡ w → copy ≡ i + 1 → i < length w.followers → archive ≡ W.log → None ≡ slice_get archive batch
+    → (c : Content) × IsFollower w copy c × (slice_get w.log batch ≡ None)
+no_batch W w copy i batch archive view number lt log at =
+    let follows = a_follower w copy i number lt in
+    (follows.0, follows.1, ap (λ (x : World). slice_get x.log batch) (sym view) ∙ ap (λ (xs : List BatchValue). slice_get xs batch) (sym log) ∙ sym at)

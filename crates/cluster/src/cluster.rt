@@ -12,6 +12,7 @@ ghost use Rattle.cluster.specs.Headline.{IsConsistent};
 use crate::MAX_COPIES;
 use crate::archived::Archived;
 use crate::event::ClusterError;
+use crate::imaging::image_at;
 use content_laws::copies::an_empty_copy_is_a_copy;
 use partition_log::{LeaderLog, PartitionLog};
 use segment::BatchStore;
@@ -131,6 +132,6 @@ impl<S: BatchStore> Cluster<S> {
     pub fn image(&self, image: usize) -> Option<&[u8]>
         ensures { option_map (λ bytes. bytes.now) result ≡ slice_get self.now.images image }
     {
-        self.images.get(image).map(|image| image.as_slice())
+        image_at(&self.images, image)
     }
 }

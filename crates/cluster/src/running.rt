@@ -23,7 +23,7 @@ impl<S: BatchStore> Cluster<S> {
                 tomb_before,
             } => self.clean(*copy, *upto, *tomb_before),
             Event::Send { copy } => self.send(*copy),
-            Event::Merge { .. } => Err(EventError::OutOfMemory),
+            Event::Merge { copy, image } => self.merge(*copy, *image),
         }
     }
 
