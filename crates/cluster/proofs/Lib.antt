@@ -1,4 +1,3 @@
-pub mod OneContent
 pub mod LogEnds
 pub mod WorldSteps
 pub mod Headlines

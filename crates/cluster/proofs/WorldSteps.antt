@@ -22,7 +22,7 @@ use Rattle.copy_images.specs.Images.{image_of, IsImage}
 use Rattle.cluster.specs.Worlds.{World, copy_at, with_copy, with_appended, with_image_of}
 use Rattle.cluster.specs.Headline.{IsCopyOf, IsImageOfCopy, IsConsistent, IsHeld}
 use Rattle.cluster.proofs.LogEnds.{longer_log}
-use Rattle.cluster.proofs.OneContent.{one_content}
+use Rattle.copy_images.proofs.FirstFaults.{one_copy}
 
 -- ---- lists of which each element has a property
 
@@ -61,7 +61,7 @@ module _ (w : World) (is : IsConsistent w) where
   pub image_is : (image : ℕ) (bytes : List ℕ) (c : Content) → slice_get w.images image ≡ Some bytes → IsImage bytes c → IsCopyOf w.log c
   image_is image bytes c there of_c =
       let held = all_get (IsImageOfCopy w.log) w.images image bytes is.images there in
-      subst (IsCopyOf w.log) (one_content bytes held.0 c held.1 of_c) held.2
+      subst (IsCopyOf w.log) (one_copy bytes held.0 c held.1 of_c) held.2
 
   pub held_is : (c : Content) → IsHeld w c → IsCopyOf w.log c
   held_is c (inl (copy, there)) = copy_is copy c there

@@ -1,7 +1,7 @@
 -- Batches judged where they stand, one after the other.
-use Rattle.std.proofs.Common.{◌≡◌, ℕ, zero, suc, ◌+◌, ◌-◌, ◌≤◌, ◌<◌, ◌^◌, ℤ, pos, ◌+ℤ◌, Bool, true, false, ◌||◌, ◌&&◌, ◌⊎◌, inl, inr, Option, Some, None, Result, Ok, Err, List, [], ◌∷◌, ◌++◌, length, get_or, take, drop, refl, sym, ap, subst, ◌∙◌, append_assoc, append-nil, arith}
+use Rattle.std.proofs.Common.{◌≡◌, ℕ, ◌+◌, ◌-◌, ◌<◌, ℤ, pos, ◌+ℤ◌, Bool, true, false, ◌||◌, ◌&&◌, ◌⊎◌, inl, inr, Some, None, Result, Err, List, [], ◌∷◌, ◌++◌, length, get_or, take, drop, refl, sym, ap, subst, ◌∙◌, append_assoc, append-nil, arith}
 use Rattle.std.specs.Prelude.{◌≤ℤ◌, ◌<ℤ◌, int_lt, int_le, IsTrue, ◌↔◌, IsOkAnd, FitsSigned, if◌then◌else◌}
-use Rattle.std.specs.List.{AllByRecursion, Any, flat_map, list_any, fold}
+use Rattle.std.specs.List.{AllByRecursion, flat_map, list_any, fold}
 use Rattle.std.specs.Int.{w64, cast_signed, cast_unsigned}
 use Rattle.std.specs.Ordering.{int_eq}
 use Rattle.std.proofs.lemmas.Int.{ints, to_z-of_z}
@@ -17,9 +17,7 @@ use Rattle.cover_ranges.proofs.RunEnds.{has_all_covers, covers_has_all}
 use Rattle.cover_ranges.proofs.RunsFrom.{RunsFrom, runs_lower, canonical_from}
 use Rattle.content.specs.ByOffset.{look_up}
 use Rattle.content.specs.Records.{IsKeepable}
-use Rattle.content.specs.Content.{IsContent, IsInRange}
-use Rattle.cleaner.specs.Given.{content_of}
-use Rattle.segment.specs.BatchLists.{IsBatchList}
+use Rattle.content.specs.Content.{IsInRange}
 use Rattle.copy_images.specs.Refusals.{IsNext, end_of}
 use Rattle.copy_images.specs.Judging.{ending_from, first_holds, HasContent, BatchesFault}
 use Rattle.copy_images.specs.declared.error.ImageError.TheVariants.{Outside}

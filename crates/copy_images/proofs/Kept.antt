@@ -1,12 +1,11 @@
 -- A store and a copy built of batches that were judged.
-use Rattle.std.proofs.Common.{◌≡◌, ℕ, zero, suc, ◌+◌, ◌-◌, ◌≤◌, ◌<◌, ◌^◌, ℤ, pos, ◌+ℤ◌, Bool, true, false, ◌⊎◌, inl, inr, List, [], ◌∷◌, ◌++◌, length, get_or, take, drop, refl, sym, ap, subst, ◌∙◌, append_assoc, append-nil, arith}
+use Rattle.std.proofs.Common.{◌≡◌, ℕ, ◌+◌, ◌-◌, ◌≤◌, ◌<◌, ℤ, pos, ◌+ℤ◌, Bool, true, false, inl, List, [], ◌∷◌, ◌++◌, length, get_or, take, drop, refl, sym, ap, subst, ◌∙◌, append_assoc, append-nil, arith}
 use Rattle.std.specs.Prelude.{◌≤ℤ◌, ◌<ℤ◌, int_lt, unsigned_abs, FitsSigned, ◌==◌, if◌then◌else◌}
 use Rattle.std.specs.List.{AllByRecursion, flat_map}
 use Rattle.std.specs.Int.{w32, cast_signed, cast_unsigned}
 use Rattle.std.specs.Ordering.{int_eq}
 use Rattle.std.proofs.lemmas.Int.{ints, to_z-of_z}
 use Rattle.std.proofs.lemmas.List.{length-append, take_at, drop_at}
-use Rattle.std.proofs.lemmas.Grind.{flat_map-append}
 use Rattle.batch_codec.specs.Values.{BatchValue}
 use Rattle.batch_codec.specs.Grammar.{Writable, batch_encoding}
 use Rattle.batch_codec.specs.Offsets.{first_offset, last_offset, SpansRise}
@@ -21,7 +20,7 @@ use Rattle.content.specs.Content.{Content, IsContent, IsInRange}
 use Rattle.cleaner.specs.Given.{content_of}
 use Rattle.cover_ranges.specs.Runs.{Runs}
 use Rattle.segment.specs.BatchLists.{IsBatchList, MeetsNone}
-use Rattle.copy_images.specs.Judging.{HasContent, HoldsBatches, IsEncoded, IsBuilt}
+use Rattle.copy_images.specs.Judging.{HoldsBatches, IsEncoded, IsBuilt}
 
 abbrev pub Batches : Type 0
 Batches = List BatchValue

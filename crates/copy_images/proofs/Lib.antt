@@ -4,3 +4,6 @@ pub mod Parts
 pub mod Judged
 pub mod Kept
 pub mod Refused
+pub mod PartsAgain
+pub mod Unique
+pub mod FirstFaults

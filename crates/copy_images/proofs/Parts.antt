@@ -1,19 +1,17 @@
 -- What comes before the batches, read from bytes that have the mark, the version and the crc.
-use Rattle.std.proofs.Common.{get_or, ◌≡◌, ℕ, zero, suc, ◌+◌, ◌-◌, ◌*◌, ◌≤◌, ◌<◌, ◌^◌, ℤ, pos, List, [], ◌∷◌, ◌++◌, length, take, drop, refl, sym, ap, subst, ◌∙◌, append_assoc, append-nil, arith}
-use Rattle.std.specs.Prelude.{negsuc, ◌/◌, FitsSigned, ◌≤ℤ◌, unsigned_abs}
+use Rattle.std.proofs.Common.{get_or, ◌≡◌, ℕ, zero, suc, ◌+◌, ◌-◌, ◌*◌, ◌≤◌, ◌<◌, ℤ, pos, List, [], ◌∷◌, ◌++◌, length, take, drop, refl, sym, ap, subst, ◌∙◌, append_assoc, append-nil, arith}
+use Rattle.std.specs.Prelude.{negsuc, ◌/◌, FitsSigned, unsigned_abs}
 use Rattle.std.specs.List.{AllByRecursion, flat_map}
-use Rattle.std.specs.Int.{Width, w16, w32, w64, byte_len, cast_signed, cast_unsigned, FitsUnsignedBits}
+use Rattle.std.specs.Int.{Width, w16, w32, w64, cast_signed, cast_unsigned, FitsUnsignedBits}
 use Rattle.std.specs.Simd.{first_chunks}
-use mir.Val.{bits}
 use Rattle.std.proofs.Math.Facts.{sfits_to_z}
 use Rattle.std.proofs.lemmas.Int.{ints, of_z-to_z, to_z-of_z}
-use Rattle.std.proofs.lemmas.List.{length-append, length-take, length-drop, length-map, take-append-drop, take_at, drop_at, drop-drop}
+use Rattle.std.proofs.lemmas.List.{length-append, length-take, length-drop, length-map, take-append-drop, take_at, drop-drop}
 use Rattle.checksum.specs.Crc.{crc_of}
-use Rattle.batch_codec.specs.Grammar.{Field, fields, signed}
+use Rattle.batch_codec.specs.Grammar.{fields, signed}
 use Rattle.batch_codec.specs.Fields.{unsigned_at, signed_at}
 use Rattle.batch_codec.proofs.Steps.{IsBytes-drop, IsBytes-take}
 use Rattle.batch_codec.proofs.Fixed.{IsWide, wide16, wide32, wide64, fields_back, unsigned-below}
-use Rattle.cover_ranges.specs.Runs.{Runs}
 use Rattle.copy_images.specs.declared.layout.TheConstants.{MARK, VERSION, MAX_COUNT}
 use Rattle.copy_images.specs.Images.{range_encoding, front_of, with_crc}
 use Rattle.copy_images.specs.Refusals.{HasCrc, range_count, FitsInt64, HasFront}

@@ -1,9 +1,9 @@
 -- From the parts of an image to the whole.
-use Rattle.std.proofs.Common.{◌≡◌, ℕ, ◌≤◌, ◌<◌, ℤ, pos, ◌⊎◌, inl, inr, Result, Ok, Err, List, [], ◌∷◌, ◌++◌, length, refl, sym, ap, subst, ◌∙◌, append-nil, arith}
-use Rattle.std.specs.Prelude.{negsuc, ◌≤ℤ◌, ◌<ℤ◌, unsigned_abs, FitsSigned, IfErr, IsErrAnd}
+use Rattle.std.proofs.Common.{◌≡◌, ℕ, ◌≤◌, ℤ, pos, inr, Result, Ok, Err, List, ◌++◌, length, refl, sym, ap, subst, ◌∙◌, append-nil, arith}
+use Rattle.std.specs.Prelude.{negsuc, unsigned_abs, FitsSigned, IfErr, IsErrAnd}
 use Rattle.std.specs.List.{flat_map}
 use Rattle.std.specs.Int.{w32, cast_signed, cast_unsigned, FitsUnsignedBits}
-use Rattle.std.proofs.lemmas.Int.{ints, to_z-of_z}
+use Rattle.std.proofs.lemmas.Int.{to_z-of_z}
 use Rattle.batch_codec.specs.Values.{BatchValue}
 use Rattle.batch_codec.specs.Grammar.{batch_encoding}
 use Rattle.cover_ranges.specs.Runs.{Runs}
@@ -12,7 +12,7 @@ use Rattle.cleaner.specs.Given.{content_of}
 use Rattle.copy_images.specs.declared.layout.TheConstants.{MAX_COUNT}
 use Rattle.copy_images.specs.declared.error.ImageError.{ImageError}
 use Rattle.copy_images.specs.declared.error.ImageError.TheVariants.{Short, BadMark, BadVersion, BadCrc, BadCover, BadBatch, Outside, Extra, OutOfMemory}
-use Rattle.copy_images.specs.Images.{front_of, with_crc, image_of, IsImage}
+use Rattle.copy_images.specs.Images.{front_of, with_crc, IsImage}
 use Rattle.copy_images.specs.Refusals.{HasFront, HasBatches, Refuses}
 use Rattle.copy_images.specs.Judging.{HasContent, HoldsBatches, BatchesFault, IsBuilt}
 use Rattle.copy_images.proofs.Kept.{same_batches}

@@ -1,11 +1,10 @@
 -- Ranges judged where they stand, one after the other.
-use Rattle.std.proofs.Common.{◌≡◌, ℕ, zero, suc, ◌+◌, ◌≤◌, ◌<◌, ℤ, pos, ◌+ℤ◌, Bool, true, false, ◌||◌, ◌&&◌, ◌⊎◌, inl, inr, List, [], ◌∷◌, ◌++◌, length, get_or, take, drop, refl, sym, ap, subst, ◌∙◌, add-one, drop-cons, arith}
-use Rattle.std.specs.Prelude.{map, ◌≤ℤ◌, ◌<ℤ◌, int_lt, int_le, IsTrue, ◌↔◌}
-use Rattle.std.specs.List.{All, list_any}
+use Rattle.std.proofs.Common.{◌≡◌, ℕ, zero, suc, ◌+◌, ◌≤◌, ◌<◌, ℤ, pos, ◌+ℤ◌, Bool, ◌&&◌, ◌⊎◌, inl, inr, List, [], ◌∷◌, ◌++◌, length, get_or, take, drop, refl, sym, ap, subst, ◌∙◌, add-one, arith}
+use Rattle.std.specs.Prelude.{◌≤ℤ◌, ◌<ℤ◌, int_lt, int_le, ◌↔◌}
 use Rattle.std.proofs.lemmas.Int.{ints}
 use Rattle.std.proofs.lemmas.List.{length-map, drop_all, take_more, map-append, take-append-drop}
 use Rattle.cover_ranges.specs.declared.TheConstants.{OFFSETS_END}
-use Rattle.cover_ranges.specs.Runs.{Runs, IsRun, IsCanonical, has_all, with_range}
+use Rattle.cover_ranges.specs.Runs.{Runs, IsRun, IsCanonical, with_range}
 use Rattle.cover_ranges.proofs.RunsFrom.{RunsFrom, canonical_from, from_canonical}
 use Rattle.copy_images.specs.Judging.{range_at, ranges_of, ending_from, first_holds}
 

@@ -8,6 +8,7 @@ mod batches;
 mod build;
 mod error;
 mod front;
+pub mod laws;
 pub mod layout;
 mod numbers;
 mod ranges;

@@ -1,4 +1,4 @@
-use Rattle.std.proofs.Common.{rules, arith, ap, sym, subst, length, ◌≡◌, ◌+◌, ◌∙◌, ◌+ℤ◌, pos}
+use Rattle.std.proofs.Common.{rules, arith, ap, sym, subst, length, ◌≡◌, ◌∙◌, ◌+ℤ◌, pos}
 use Rattle.std.specs.Prelude.{ℤ, ◌^◌, ◌<ℤ◌, FitsSigned}
 use Rattle.std.specs.Int.{w64, cast_signed, cast_unsigned}
 use Rattle.std.proofs.lemmas.Int.{ints}

@@ -1,4 +1,3 @@
-use Rattle.std.proofs.Common.{◌≡◌}
 use Rattle.copy_images.specs.Judging.{ranges_of}
 use Rattle.copy_images.proofs.Judged.{IsJudged}
 use Rattle.copy_images.proofs.batches.judge_batches.Given as goal

@@ -1,4 +1,4 @@
-use Rattle.std.proofs.Common.{sym, subst, [], ◌∙◌}
+use Rattle.std.proofs.Common.{sym, subst}
 use Rattle.batch_codec.specs.Values.{BatchValue}
 use Rattle.content.specs.Content.{IsInRange}
 use Rattle.segment.specs.BatchLists.{MeetsNone}

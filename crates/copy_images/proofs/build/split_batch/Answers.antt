@@ -1,8 +1,6 @@
-use Rattle.std.proofs.Common.{rules, ◌≡◌, ◌+◌, ℕ, List, length, ap, ◌∙◌}
+use Rattle.std.proofs.Common.{rules, ◌+◌, ap, ◌∙◌}
 use Rattle.std.specs.Prelude.{FitsSigned}
 use Rattle.std.specs.Int.{w32}
-use Rattle.batch_codec.specs.Values.{BatchValue}
-use Rattle.batch_codec.specs.Grammar.{batch_encoding}
 use Rattle.batch_codec.specs.Reading.{batch_of}
 use Rattle.batch_codec.proofs.Encoded.{batch_again}
 use Rattle.copy_images.proofs.Kept.{front_long, sized, within, taken, left, encoding_is}

@@ -1,7 +1,7 @@
 use Rattle.std.proofs.Common.{◌+ℤ◌, pos, ◌+◌, inl, inr, rules, arith, ◌≡◌, sym, subst}
 use Rattle.std.specs.Prelude.{FitsSigned, ◌≤ℤ◌, ◌<ℤ◌}
 use Rattle.std.specs.Int.{w64, cast_signed, cast_unsigned}
-use Rattle.std.proofs.lemmas.Int.{ints, to_z-of_z}
+use Rattle.std.proofs.lemmas.Int.{ints}
 use Rattle.cover_ranges.specs.declared.TheConstants.{OFFSETS_END}
 use Rattle.copy_images.proofs.Runs.{Passes, one_passes, one_fails, all_pass}
 use Rattle.copy_images.proofs.ranges.is_cover.Goals.{then-first-least-via-then-first-least, then-first-least-via-else-first-least+then-last-first, then-first-least-via-else-first-least+else-last-first+then-last-ge-OFFSETS_END}

@@ -1,6 +1,5 @@
-use Rattle.std.proofs.Common.{rules, sym, subst, ◌≡◌, pos}
-use Rattle.std.specs.Prelude.{ℤ, FitsSigned}
-use Rattle.std.specs.Int.{w32}
+use Rattle.std.proofs.Common.{sym, subst}
+use Rattle.std.specs.Prelude.{ℤ}
 use Rattle.copy_images.specs.Refusals.{Refuses}
 use Rattle.copy_images.specs.Judging.{ranges_of, BatchesFault}
 use Rattle.copy_images.proofs.Refused.{whole_fault, count_is, err_is}

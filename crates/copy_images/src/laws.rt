@@ -1,0 +1,32 @@
+//! Laws of images, over the definitions alone. The functions do nothing: what they ensure is the law.
+
+ghost use Rattle.std.specs.Prelude.{◌≡◌, ◌≤◌, ℕ, pos, List, length};
+ghost use Rattle.content.specs.Content.{Content, IsContent};
+ghost use Rattle.copy_images.specs.declared.layout.TheConstants.{MAX_COUNT};
+ghost use Rattle.copy_images.specs.declared.error.ImageError.{ImageError};
+ghost use Rattle.copy_images.specs.declared.error.ImageError.TheVariants.{OutOfMemory};
+ghost use Rattle.copy_images.specs.Images.{image_of, IsImage};
+ghost use Rattle.copy_images.specs.Refusals.{Refuses};
+
+/// A valid content that starts at 0, and whose ranges and batches can be counted, has an image. So
+/// what `write_image` gives of such a copy is accepted by `read_image`.
+pub fn every_content_has_an_image()
+    ensures { (c : Content) → IsContent c → c.start ≡ pos 0 → length c.cover ≤ MAX_COUNT
+        → length c.kept ≤ MAX_COUNT → IsImage (image_of c) c }
+{}
+
+/// Two contents with the same image are equal: same ranges, same kept batches.
+pub fn images_are_unique()
+    ensures { (bytes : List ℕ) (a b : Content) → IsImage bytes a → IsImage bytes b → a ≡ b }
+{}
+
+/// Bytes have one first fault.
+pub fn one_refusal()
+    ensures { (bytes : List ℕ) (e f : ImageError) → Refuses bytes e → Refuses bytes f → e ≡ f }
+{}
+
+/// No fault stands in an image: its reading fails only where there is no memory.
+pub fn an_image_is_not_refused()
+    ensures { (bytes : List ℕ) (c : Content) (e : ImageError) → IsImage bytes c → Refuses bytes e
+        → e ≡ OutOfMemory }
+{}
