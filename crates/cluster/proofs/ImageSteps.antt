@@ -80,10 +80,11 @@ module _ (w : World) (is : IsConsistent w) (copy i image : ℕ) (c : Content) (n
 
       by : WasMerged bytes after r → IsConsistent (changed w is copy i 0 c number there after) × Merges w copy image (changed w is copy i 0 c number there after) r
       by (inl (sent, is_ok, of_sent, joins)) =
-          let copies : IsCopyOf w.log after = subst (IsCopyOf w.log) (sym joins) (merged_copy w is c sent (follower_copy w is copy i 0 c number there) (image_is w is image bytes sent at of_sent)) in
-          (subst IsConsistent (sym (changed_is w is copy i 0 c number there after)) (after_change w is copy after follows.0 copies),
-           subst (Merges w copy image (changed w is copy i 0 c number there after)) (sym is_ok)
-             (c, bytes, sent, follows, at, of_sent, changed_is w is copy i 0 c number there after ∙ ap (λ (x : Content). with_copy copy x w) joins))
+          let copies : IsCopyOf w.log after = subst (IsCopyOf w.log) (sym joins) (merged_copy w is c sent (follower_copy w is copy i 0 c number there) (image_is w is image bytes sent at of_sent)) in (
+            subst IsConsistent (sym (changed_is w is copy i 0 c number there after)) (after_change w is copy after follows.0 copies),
+            subst (Merges w copy image (changed w is copy i 0 c number there after)) (sym is_ok)
+                (c, bytes, sent, follows, at, of_sent, changed_is w is copy i 0 c number there after ∙ ap (λ (x : Content). with_copy copy x w) joins),
+          )
       by (inr (is_err, same)) =
           let unchanged = unchanged_is w is copy i 0 c number there after same in
           (subst IsConsistent (sym unchanged) is, subst (Merges w copy image (changed w is copy i 0 c number there after)) (sym is_err) (tt, unchanged))

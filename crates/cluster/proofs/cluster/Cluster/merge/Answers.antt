@@ -20,6 +20,8 @@ returns-in-Some g c =
     c.merge_image.ensures).1
 
 pub returns-in-None : goal.returns-in-None
-returns-in-None g c =
-    (no_image _ c.args.self.now c.args.copy c.in_ok-follower.follower c.args.image (map (λ image. image.items) c.deref.result.now) c.self.view_is
-    c.in_ok-follower.ensures.follows.0 c.in_ok-follower.ensures.follows.1 (ap (λ images. map (λ image. image.items) images) c.deref.ensures.value) c.in-None.ensures, refl)
+returns-in-None g c = (
+  no_image _ c.args.self.now c.args.copy c.in_ok-follower.follower c.args.image (map (λ image. image.items) c.deref.result.now) c.self.view_is
+      c.in_ok-follower.ensures.follows.0 c.in_ok-follower.ensures.follows.1 (ap (λ images. map (λ image. image.items) images) c.deref.ensures.value) c.in-None.ensures,
+  refl,
+)
