@@ -1,0 +1,34 @@
+use Rattle.std.proofs.Common.{rules, arith, ap, sym, subst, length, ◌≡◌, ◌+◌, ◌∙◌, ◌+ℤ◌, pos}
+use Rattle.std.specs.Prelude.{ℤ, ◌^◌, ◌<ℤ◌, FitsSigned}
+use Rattle.std.specs.Int.{w64, cast_signed, cast_unsigned}
+use Rattle.std.proofs.lemmas.Int.{ints}
+use Rattle.copy_images.specs.Judging.{ranges_of}
+use Rattle.copy_images.proofs.Judged.{IsAsked, judged_none, asked, judged_step, outside}
+use Rattle.copy_images.proofs.batches.judge_batches.Goals as goal
+
+pub loop-index-init : goal.loop-index-init
+loop-index-init c = judged_none (ranges_of c.args.ranges.now) c.args.bytes.now c.requires
+
+pub returns-then-not-first_holds-clause-refuses : goal.returns-then-not-first_holds-clause-refuses
+returns-then-not-first_holds-clause-refuses c =
+    let b = c.in-Some.batch in
+    let f : FitsSigned w64 c.base-first.result = search rules in
+    let l : FitsSigned w64 c.last_offset-last.result = search rules in
+    let old = ranges_of c.loop-index.left.now in
+    let left = ranges_of c.ending_from-left.result.now in
+    let a : IsAsked b old left c.first_holds.result = asked b old left c.first_holds.result c.base-first.result c.last_offset-last.result c.base-first.ensures c.last_offset-last.ensures f l c.ending_from-left.ensures c.first_holds.ensures in
+    outside (ranges_of c.args.ranges.now) c.args.bytes.now c.loop-index.index c.args.count _ c.loop-index.rest.now old left b c.first_holds.result c.requires c.loop-index.invariant c.in-Some.ensures a c.if-not-first_holds.true c.loop-index-test.true
+
+pub loop-index-preserved : goal.loop-index-preserved
+loop-index-preserved c =
+    let b = c.in-Some.batch in
+    let f : FitsSigned w64 c.base-first.result = search rules in
+    let l : FitsSigned w64 c.last_offset-last.result = search rules in
+    let old = ranges_of c.loop-index.left.now in
+    let left = ranges_of c.ending_from-left.result.now in
+    let a : IsAsked b old left c.first_holds.result = asked b old left c.first_holds.result c.base-first.result c.last_offset-last.result c.base-first.ensures c.last_offset-last.ensures f l c.ending_from-left.ensures c.first_holds.ensures in
+    let end = c.last_offset-last.ensures in
+    let small : c.last_offset-last.result <ℤ pos (2 ^ 62) = subst (λ (z : ℤ). z <ℤ pos (2 ^ 62)) (sym end) c.in-Some.ensures.in_range.1 in
+    let one_more : cast_signed w64 (cast_unsigned w64 (cast_signed w64 (cast_unsigned w64 c.last_offset-last.result) +ℤ pos 1)) ≡ c.last_offset-last.result +ℤ pos 1 = omega (arith, ints) in
+    let from = one_more ∙ ap (λ (z : ℤ). z +ℤ pos 1) end in
+    judged_step (ranges_of c.args.ranges.now) c.args.bytes.now c.loop-index.index _ _ c.loop-index.rest.now old left b _ c.first_holds.result c.requires c.loop-index.invariant c.in-Some.ensures a c.if-not-first_holds.false (ap length c.bytes.ensures.encoding) from

@@ -1,0 +1,13 @@
+use Rattle.copy_images.specs.Judging.{ranges_of}
+use Rattle.copy_images.proofs.Refused.{read_is_image, is_an_image}
+use Rattle.copy_images.proofs.read.read_image.Goals as goal
+
+pub returns-in-Ok-clause-accepts_an_image : goal.returns-in-Ok-clause-accepts_an_image
+returns-in-Ok-clause-accepts_an_image g c =
+    let parts = c.in_ok-parts.parts in
+    read_is_image c.args.bytes.now (ranges_of parts.ranges.now) parts.count parts.batches.now c.in-Ok.copy c.in_ok-parts.ensures.front c.in_ok-parts.ensures.batches c.in-Ok.ensures
+
+pub returns-in-Err-clause-refuses_for_the_first_fault : goal.returns-in-Err-clause-refuses_for_the_first_fault
+returns-in-Err-clause-refuses_for_the_first_fault g c =
+    let parts = c.in_ok-parts.parts in
+    is_an_image c.args.bytes.now (ranges_of parts.ranges.now) parts.count parts.batches.now c.in_ok-parts.ensures.front c.in_ok-parts.ensures.batches

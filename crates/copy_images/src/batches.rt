@@ -1,0 +1,69 @@
+//! The batches of an image, judged where they stand in its bytes.
+
+ghost use Rattle.std.specs.Prelude.{◌≡◌, ◌≤ℤ◌, ◌<ℤ◌, ◌^◌, pos, ◌↔◌, IsTrue, OnOk, IfErr, MatchOption};
+ghost use Rattle.batch_codec.specs.Values.{BatchValue};
+ghost use Rattle.batch_codec.specs.Offsets.{first_offset, HasKeys};
+ghost use Rattle.content.specs.Content.{IsInRange};
+ghost use Rattle.cover_ranges.specs.Runs.{IsCanonical};
+ghost use Rattle.copy_images.specs.Refusals.{IsNext};
+ghost use Rattle.copy_images.specs.Judging.{ranges_of, HoldsBatches, BatchesFault};
+
+use crate::error::ImageError;
+use crate::ranges::{RangeBytes, ending_from, first_holds};
+use batch_codec::{BatchView, view};
+
+/// Whether a batch may follow batches that end before `from`.
+fn may_follow(batch: &BatchView<'_>, from: i64) -> bool
+    ensures { IsTrue result
+        ↔ (HasKeys batch.now × IsInRange batch.now × (from ≤ℤ first_offset batch.now)) }
+{
+    batch.has_keys() && batch.is_in_range() && from <= batch.base()
+}
+
+/// The batch at the front, if it may follow batches that end before `from`.
+fn next_batch(bytes: &[u8], from: i64) -> Option<BatchView<'_>>
+    ensures { MatchOption result
+        ((b : BatchValue) → IsNext from b bytes.now → ⊥)
+        (λ b. IsNext from b bytes.now) }
+{
+    let Ok(batch) = view(bytes) else {
+        return None;
+    };
+    if !may_follow(&batch, from) {
+        return None;
+    }
+    Some(batch)
+}
+
+/// Judges that many batches, and that nothing follows them.
+pub(crate) fn judge_batches(
+    ranges: &[RangeBytes],
+    count: u32,
+    bytes: &[u8],
+) -> Result<(), ImageError>
+    requires { IsCanonical (ranges_of ranges.now) }
+    ensures accepts { OnOk result (HoldsBatches (ranges_of ranges.now) (pos count) bytes.now) }
+    ensures refuses { IfErr result (BatchesFault (ranges_of ranges.now) (pos count) bytes.now) }
+{
+    // The ranges that end at the last batch or later, and the offset after it.
+    let mut left = ranges;
+    let mut from = 0;
+    let mut rest = bytes;
+    for index in 0..count {
+        let batch = match next_batch(rest, from) {
+            Some(batch) => batch,
+            None => return Err(ImageError::BadBatch(index)),
+        };
+        let (first, last) = (batch.base(), batch.last_offset());
+        left = ending_from(left, first);
+        if !first_holds(left, first, last) {
+            return Err(ImageError::Outside);
+        }
+        from = last + 1;
+        rest = &rest[batch.bytes().len()..];
+    }
+    if !rest.is_empty() {
+        return Err(ImageError::Extra);
+    }
+    Ok(())
+}

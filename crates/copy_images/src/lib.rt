@@ -1,0 +1,19 @@
+//! Images of copies of a partition: a copy as bytes, to be kept in a file or sent.
+//!
+//! [`write_image`] makes the image of a copy, and [`read_image`] makes the copy of an image. Each copy
+//! has one image, and bytes that are not an image are refused for the first fault that stands in them.
+#![tactic(auto)]
+
+mod batches;
+mod build;
+mod error;
+mod front;
+pub mod layout;
+mod numbers;
+mod ranges;
+mod read;
+mod write;
+
+pub use error::ImageError;
+pub use read::read_image;
+pub use write::write_image;

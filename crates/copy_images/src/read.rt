@@ -1,0 +1,56 @@
+//! A copy made of its image.
+
+ghost use Rattle.std.specs.Prelude.{IfOk, IfErr};
+ghost use Rattle.copy_images.specs.Images.{IsImage};
+ghost use Rattle.copy_images.specs.Refusals.{HasFront, Refuses};
+ghost use Rattle.copy_images.specs.Judging.{ranges_of, HoldsBatches};
+
+use crate::batches::judge_batches;
+use crate::build::build;
+use crate::error::ImageError;
+use crate::front::{Parts, check_frame, parts_of};
+use crate::ranges::is_cover;
+use partition_log::PartitionLog;
+use segment::BatchStore;
+
+/// Judges bytes as an image, and takes no memory.
+fn judge(bytes: &[u8]) -> Result<Parts<'_>, ImageError>
+    ensures front { IfOk result (λ parts.
+        HasFront bytes.now (ranges_of parts.ranges.now) parts.count parts.batches.now) }
+    ensures batches { IfOk result (λ parts.
+        HoldsBatches (ranges_of parts.ranges.now) parts.count parts.batches.now) }
+    ensures refuses { IfErr result (Refuses bytes.now) }
+{
+    check_frame(bytes)?;
+    let parts = parts_of(bytes)?;
+    if !is_cover(parts.ranges) {
+        return Err(ImageError::BadCover);
+    }
+    let Ok(count) = u32::try_from(parts.count) else {
+        return Err(ImageError::BadBatch(0));
+    };
+    judge_batches(parts.ranges, count, parts.batches)?;
+    Ok(parts)
+}
+
+/// Makes the copy of an image. All bytes are judged before any memory is taken, and each batch's bytes
+/// are copied once.
+///
+/// # Errors
+///
+/// The first fault in the order of the checks, which [`ImageError`] gives.
+pub fn read_image<S: BatchStore>(
+    alloc: S::Alloc,
+    bytes: &[u8],
+) -> Result<PartitionLog<S>, ImageError>
+    // What is accepted is the image of the copy that it gives.
+    ensures accepts_an_image { IfOk result (IsImage bytes.now) }
+    // A refusal is the first fault; out of memory comes only of an image.
+    ensures refuses_for_the_first_fault { IfErr result (Refuses bytes.now) }
+{
+    let parts = judge(bytes)?;
+    match build(alloc, &parts) {
+        Ok(copy) => Ok(copy),
+        Err(_) => Err(ImageError::OutOfMemory),
+    }
+}

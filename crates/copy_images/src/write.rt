@@ -1,0 +1,118 @@
+//! The image of a copy.
+
+ghost use Rattle.std.specs.Prelude.{◌≡◌, ◌++◌, ◌≤◌, ◌∷◌, [], pos, length, IfOk, OnOk};
+ghost use Rattle.std.specs.List.{flat_map};
+ghost use Rattle.std.specs.Int.{w16, w32};
+ghost use Rattle.batch_codec.specs.Grammar.{fields, signed, batch_encoding};
+ghost use Rattle.copy_images.specs.Images.{range_encoding, front_of, with_crc, image_of};
+
+use crate::layout::{LEAST_SIZE, MARK, MAX_COUNT, RANGE_SIZE, VERSION};
+use checksum::crc32c;
+use partition_log::PartitionLog;
+use segment::BatchStore;
+use std::alloc::{AllocError, Allocator};
+
+/// A count as it stands in an image.
+fn count_field(count: usize) -> Result<i32, AllocError>
+    ensures same { IfOk result (λ field. field ≡ pos count) }
+    ensures fits { OnOk result (count ≤ MAX_COUNT) }
+{
+    i32::try_from(count).map_err(|_| AllocError)
+}
+
+/// How many bytes the image has; where that is no `usize`, the greatest one.
+fn size_of<S: BatchStore>(copy: &PartitionLog<S>) -> usize {
+    let ranges = copy.cover().ranges().len();
+    let mut size = LEAST_SIZE.saturating_add(ranges.saturating_mul(RANGE_SIZE));
+    for i in 0..copy.len() {
+        size = size.saturating_add(copy.bytes_of(i).len());
+    }
+    size
+}
+
+/// Appends what comes before the ranges.
+fn put_head<A: Allocator + Copy>(out: &mut Vec<u8, A>, range_count: i32) -> Result<(), AllocError>
+    ensures { OnOk result (out.new.items ≡ out.old.items
+        ++ fields ((w32, MARK) ∷ signed w16 VERSION ∷ signed w32 range_count ∷ [])) }
+{
+    out.extend_from_slice(&MARK.to_be_bytes())?;
+    out.extend_from_slice(&VERSION.to_be_bytes())?;
+    out.extend_from_slice(&range_count.to_be_bytes())
+}
+
+/// Appends a range.
+#[tactic(auto, unfolding(crate::specs::Images::range_encoding))]
+fn put_range<A: Allocator + Copy>(
+    out: &mut Vec<u8, A>,
+    range: &(i64, i64),
+) -> Result<(), AllocError>
+    ensures { OnOk result (out.new.items ≡ out.old.items ++ range_encoding range.now) }
+{
+    out.extend_from_slice(&range.0.to_be_bytes())?;
+    out.extend_from_slice(&range.1.to_be_bytes())
+}
+
+/// Appends ranges.
+#[tactic(auto, using(crate::proofs::Written::range_written))]
+fn put_ranges<A: Allocator + Copy>(
+    out: &mut Vec<u8, A>,
+    ranges: &[(i64, i64)],
+) -> Result<(), AllocError>
+    ensures { OnOk result
+        (out.new.items ≡ out.old.items ++ flat_map range_encoding ranges.now) }
+{
+    for range in ranges {
+        put_range(out, range)?;
+    }
+    Ok(())
+}
+
+/// Appends the bytes of the kept batches.
+#[tactic(auto, using(crate::proofs::Written::batch_written))]
+fn put_batches<A: Allocator + Copy, S: BatchStore>(
+    out: &mut Vec<u8, A>,
+    copy: &PartitionLog<S>,
+) -> Result<(), AllocError>
+    ensures { OnOk result
+        (out.new.items ≡ out.old.items ++ flat_map batch_encoding copy.now.kept) }
+{
+    for i in 0..copy.len() {
+        out.extend_from_slice(copy.bytes_of(i))?;
+    }
+    Ok(())
+}
+
+/// Appends the crc of what is there.
+#[tactic(auto, unfolding(crate::specs::Images::with_crc))]
+fn put_crc<A: Allocator + Copy>(out: &mut Vec<u8, A>) -> Result<(), AllocError>
+    ensures { OnOk result (out.new.items ≡ with_crc out.old.items) }
+{
+    let crc = crc32c(out);
+    out.extend_from_slice(&crc.to_be_bytes())
+}
+
+/// Makes the image of a copy. Its memory is taken at once, and each batch's bytes are copied once.
+///
+/// # Errors
+///
+/// Out of memory; so it is also of a copy with more than `MAX_COUNT` ranges, or as many batches.
+#[tactic(auto, unfolding(crate::specs::Images::front_of))]
+pub fn write_image<A: Allocator + Copy, S: BatchStore>(
+    alloc: A,
+    copy: &PartitionLog<S>,
+) -> Result<Vec<u8, A>, AllocError>
+    ensures gives_the_image { IfOk result (λ image. image.items ≡ image_of copy.now) }
+    ensures counts_the_ranges { OnOk result (length copy.now.cover ≤ MAX_COUNT) }
+    ensures counts_the_batches { OnOk result (length copy.now.kept ≤ MAX_COUNT) }
+{
+    let ranges = copy.cover().ranges();
+    let range_count = count_field(ranges.len())?;
+    let batch_count = count_field(copy.len())?;
+    let mut out = Vec::with_capacity(alloc, size_of(copy))?;
+    put_head(&mut out, range_count)?;
+    put_ranges(&mut out, ranges)?;
+    out.extend_from_slice(&batch_count.to_be_bytes())?;
+    put_batches(&mut out, copy)?;
+    put_crc(&mut out)?;
+    Ok(out)
+}
