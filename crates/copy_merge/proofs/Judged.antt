@@ -18,7 +18,7 @@ use Rattle.copy_merge.specs.declared.next.Next.TheVariants.{Done, Left, Right, B
 use Rattle.copy_merge.specs.Steps.{next_of, is_done, base_of, left_of, right_of, taken_left, taken_right}
 use Rattle.copy_merge.specs.Agreement.{AreAlike, CoversAllOrNone, AgreeOn}
 use Rattle.copy_merge.specs.Merges.{IsFirstDisagreement}
-use Rattle.copy_merge.proofs.Steps.{IsFrom, HasCome, comes, AreBefore, are_before, from_start, base_within, taken_within, taken_within_right, takes_one}
+use Rattle.copy_merge.proofs.Steps.{both_left, IsFrom, HasCome, comes, AreBefore, are_before, from_start, base_within, taken_within, taken_within_right, takes_one}
 
 -- ---- all of a span, or none of it
 
@@ -124,7 +124,7 @@ pub record IsJudged (a b : Content) (xs ys : Batches) : Type 0 where
   pub right : IsFrom b (base_of (next_of xs ys)) ys
   pub agree : (o : ℤ) → o <ℤ base_of (next_of xs ys) → AgreeAt a b o
 
-zero_start : (s t : ℤ) → s ≡ pos 0 → t ≡ pos 0 → int_max s t ≡ pos 0
+pub zero_start : (s t : ℤ) → s ≡ pos 0 → t ≡ pos 0 → int_max s t ≡ pos 0
 zero_start s t e f = grind (arith, ints, clamps, e, f)
 
 -- nothing is kept below 0
@@ -177,27 +177,20 @@ pub judged_all : (a b : Content) (xs ys : Batches) → IsJudged a b xs ys → is
 judged_all a b xs ys judged none o = by_lt_z o (base_of (next_of xs ys)) (λ less. judged.agree o less)
     (λ le. agree_nowhere a b o (judged.left.ahead o le ∙ ended xs ys none o) (judged.right.ahead o le ∙ ended_right xs ys none o))
   where
+    not_both : (t : Bool) → t ≡ false → t ≡ true → ⊥
+    not_both t f g = cc
+
     ended : (us vs : Batches) → is_done (next_of us vs) ≡ true → (k : ℤ) → look_up first_offset k us ≡ None
     ended [] [] e k = refl
     ended [] (y ∷ vs) e k = refl
     ended (x ∷ us) [] e k = absurd cc
-    ended (x ∷ us) (y ∷ vs) e k = absurd (two (int_lt (first_offset x) (first_offset y)) (int_lt (first_offset y) (first_offset x)) e)
-      where
-        two : (s t : Bool) → is_done (if s then Left x else if t then Right y else Both x y) ≡ true → ⊥
-        two true t f = cc
-        two false true f = cc
-        two false false f = cc
+    ended (x ∷ us) (y ∷ vs) e k = absurd (not_both (is_done (next_of (x ∷ us) (y ∷ vs))) (both_left x y) e)
 
     ended_right : (us vs : Batches) → is_done (next_of us vs) ≡ true → (k : ℤ) → look_up first_offset k vs ≡ None
     ended_right [] [] e k = refl
     ended_right [] (y ∷ vs) e k = absurd cc
     ended_right (x ∷ us) [] e k = refl
-    ended_right (x ∷ us) (y ∷ vs) e k = absurd (two (int_lt (first_offset x) (first_offset y)) (int_lt (first_offset y) (first_offset x)) e)
-      where
-        two : (s t : Bool) → is_done (if s then Left x else if t then Right y else Both x y) ≡ true → ⊥
-        two true t f = cc
-        two false true f = cc
-        two false false f = cc
+    ended_right (x ∷ us) (y ∷ vs) e k = absurd (not_both (is_done (next_of (x ∷ us) (y ∷ vs))) (both_left x y) e)
 
 -- ---- the same by indices
 

@@ -10,13 +10,11 @@ use Rattle.cover_ranges.proofs.RunSets.{union_covers, union_canonical, cut_cover
 use Rattle.content.specs.Content.{Content, IsContent}
 use Rattle.content.specs.Joins.{greater_start, join}
 use Rattle.content_laws.proofs.ContentSteps.{content_join}
+use Rattle.copy_merge.proofs.Judged.{zero_start}
 
 -- a copy that starts at 0, by what it has seen and the batches that it keeps
 abbrev pub from_zero : Runs → List BatchValue → Content
 from_zero runs kept = record { start = pos 0; cover = runs; kept = kept }
-
-zero_start : (s t : ℤ) → s ≡ pos 0 → t ≡ pos 0 → int_max s t ≡ pos 0
-zero_start s t e f = grind (arith, ints, clamps, e, f)
 
 cut_nothing : (a b : Content) → IsContent a → IsContent b → a.start ≡ pos 0 → b.start ≡ pos 0 → cut_below (pos 0) (union_of a.cover b.cover) ≡ union_of a.cover b.cover
 cut_nothing a b is_a is_b start_a start_b =

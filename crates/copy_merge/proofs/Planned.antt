@@ -23,7 +23,7 @@ use Rattle.copy_merge.specs.declared.next.Next.{Next}
 use Rattle.copy_merge.specs.declared.next.Next.TheVariants.{Done, Left, Right, Both}
 use Rattle.copy_merge.specs.Steps.{next_of, is_done, base_of, left_of, right_of, taken_left, taken_right}
 use Rattle.copy_merge.specs.Plans.{merged_next, EndBefore, Adds}
-use Rattle.copy_merge.proofs.Steps.{IsFrom, HasCome, comes, AreBefore, are_before, from_start, base_within, kept_in_range}
+use Rattle.copy_merge.proofs.Steps.{chosen, IsFrom, HasCome, comes, AreBefore, are_before, from_start, base_within, kept_in_range}
 
 -- ---- the batches that begin before an offset
 
@@ -209,10 +209,7 @@ front_left [] (y ∷ ys) = refl
 front_left (x ∷ xs) [] = refl
 front_left (x ∷ xs) (y ∷ ys) = by (int_lt (first_offset x) (first_offset y)) (int_lt (first_offset y) (first_offset x))
   where
-    next : Bool → Bool → Next
-    next s t = if s then Left x else if t then Right y else Both x y
-
-    by : (s t : Bool) → (x ∷ xs) ≡ cons_option (left_of (next s t)) (drop (taken_left (next s t)) (x ∷ xs))
+    by : (s t : Bool) → (x ∷ xs) ≡ cons_option (left_of (chosen x y s t)) (drop (taken_left (chosen x y s t)) (x ∷ xs))
     by true t = refl
     by false true = refl
     by false false = refl

@@ -15,7 +15,7 @@ use Rattle.partition_log.proofs.Behind.{below_end, end_within}
 use Rattle.partition_log.proofs.Stamps.{in_range_at}
 use Rattle.copy_merge.specs.declared.next.Next.{Next}
 use Rattle.copy_merge.specs.declared.next.Next.TheVariants.{Done, Left, Right, Both}
-use Rattle.copy_merge.specs.Steps.{first_of, next_of, is_done, base_of, left_of, right_of, taken_left, taken_right}
+use Rattle.copy_merge.specs.Steps.{first_of, next_by, next_of, is_done, base_of, left_of, right_of, taken_left, taken_right}
 
 -- ---- the batch at an index
 
@@ -46,6 +46,19 @@ kept_in_range c o x is there = (omega (arith, ints, low, least, base), omega (ar
 pub found_in_range : (c : Content) (x : BatchValue) (i : ℕ) → IsContent c → i < length c.kept → HoldsAt (λ b. x ≡ b) c.kept i → IsInRange x
 found_in_range c x i is there at = in_range_at c.kept x i there at
     (all_from_at first_offset IsInRange c.start c.kept (bases_rise c is) (λ z e. kept_in_range c (first_offset z) z is e))
+
+-- ---- which of two batches comes next, by two tests on their bases
+
+abbrev pub chosen : BatchValue → BatchValue → Bool → Bool → Next
+chosen x y s t = if s then Left x else if t then Right y else Both x y
+
+never_done : (x y : BatchValue) (s t : Bool) → is_done (chosen x y s t) ≡ false
+never_done x y true t = refl
+never_done x y false true = refl
+never_done x y false false = refl
+
+pub both_left : (x y : BatchValue) → is_done (next_by (Some x) (Some y)) ≡ false
+both_left x y = never_done x y (int_lt (first_offset x) (first_offset y)) (int_lt (first_offset y) (first_offset x))
 
 -- ---- from `n` on, what a copy keeps is in `xs`, by rising offset
 
@@ -108,11 +121,8 @@ comes a b (x ∷ xs) [] left right some = come_left a b x xs [] left right tt
 comes a b [] (y ∷ ys) left right some = come_right a b y [] ys left right tt
 comes a b (x ∷ xs) (y ∷ ys) left right some = by (int_lt (first_offset x) (first_offset y)) (int_lt (first_offset y) (first_offset x)) refl refl left right
   where
-    next : Bool → Bool → Next
-    next s t = if s then Left x else if t then Right y else Both x y
-
     by : (s t : Bool) → int_lt (first_offset x) (first_offset y) ≡ s → int_lt (first_offset y) (first_offset x) ≡ t
-        → IsFrom a (base_of (next s t)) (x ∷ xs) → IsFrom b (base_of (next s t)) (y ∷ ys) → HasCome a b (base_of (next s t)) (x ∷ xs) (y ∷ ys) (next s t)
+        → IsFrom a (base_of (chosen x y s t)) (x ∷ xs) → IsFrom b (base_of (chosen x y s t)) (y ∷ ys) → HasCome a b (base_of (chosen x y s t)) (x ∷ xs) (y ∷ ys) (chosen x y s t)
     by true t e f l r = come_left a b x xs (y ∷ ys) l r (grind (arith, ints, e), r.rises.1)
     by false true e f l r = come_right a b y (x ∷ xs) ys l r (grind (arith, ints, f), l.rises.1)
     by false false e f l r = come_both a b x y xs ys l r (grind (arith, ints, e, f))
@@ -126,11 +136,8 @@ rises_to_next m (x ∷ xs) [] most left right = (left.0, (omega (arith, ints), l
 rises_to_next m [] (y ∷ ys) most left right = (right.0, tt, (omega (arith, ints), right.1))
 rises_to_next m (x ∷ xs) (y ∷ ys) most left right = by (int_lt (first_offset x) (first_offset y)) (int_lt (first_offset y) (first_offset x)) refl refl
   where
-    next : Bool → Bool → Next
-    next s t = if s then Left x else if t then Right y else Both x y
-
     by : (s t : Bool) → int_lt (first_offset x) (first_offset y) ≡ s → int_lt (first_offset y) (first_offset x) ≡ t
-        → (m ≤ℤ base_of (next s t)) × Rises first_offset (base_of (next s t)) (x ∷ xs) × Rises first_offset (base_of (next s t)) (y ∷ ys)
+        → (m ≤ℤ base_of (chosen x y s t)) × Rises first_offset (base_of (chosen x y s t)) (x ∷ xs) × Rises first_offset (base_of (chosen x y s t)) (y ∷ ys)
     by true t e f = (left.0, (omega (arith, ints), left.1), (grind (arith, ints, e), right.1))
     by false true e f = (right.0, (grind (arith, ints, f), left.1), (omega (arith, ints), right.1))
     by false false e f = (left.0, (omega (arith, ints), left.1), (grind (arith, ints, e, f), right.1))
@@ -179,12 +186,7 @@ pub has_next : (us vs : Batches) → (nat_lt 0 (length us) || nat_lt 0 (length v
 has_next [] [] = refl
 has_next [] (y ∷ vs) = grind arith
 has_next (x ∷ us) [] = grind arith
-has_next (x ∷ us) (y ∷ vs) = two (int_lt (first_offset x) (first_offset y)) (int_lt (first_offset y) (first_offset x))
-  where
-    two : (s t : Bool) → (nat_lt 0 (length (x ∷ us)) || nat_lt 0 (length (y ∷ vs))) ≡ not (is_done (if s then Left x else if t then Right y else Both x y))
-    two true t = grind arith
-    two false true = grind arith
-    two false false = grind arith
+has_next (x ∷ us) (y ∷ vs) = grind (arith, both_left x y)
 
 pub taken_within : (i : ℕ) (xs : Batches) (vs : Batches) → i ≤ length xs → (i + taken_left (next_of (drop i xs) vs)) ≤ length xs
 taken_within i xs vs within = by (drop i xs) (length-drop i xs) vs
@@ -195,7 +197,7 @@ taken_within i xs vs within = by (drop i xs) (length-drop i xs) vs
     by (x ∷ us) e [] = omega (arith, e, within)
     by (x ∷ us) e (y ∷ vs) = two (int_lt (first_offset x) (first_offset y)) (int_lt (first_offset y) (first_offset x))
       where
-        two : (s t : Bool) → (i + taken_left (if s then Left x else if t then Right y else Both x y)) ≤ length xs
+        two : (s t : Bool) → (i + taken_left (chosen x y s t)) ≤ length xs
         two true t = omega (arith, e, within)
         two false true = omega (arith, e, within)
         two false false = omega (arith, e, within)
@@ -209,7 +211,7 @@ taken_within_right j ys us within = by (drop j ys) (length-drop j ys) us
     by (y ∷ vs) e [] = omega (arith, e, within)
     by (y ∷ vs) e (x ∷ us) = two (int_lt (first_offset x) (first_offset y)) (int_lt (first_offset y) (first_offset x))
       where
-        two : (s t : Bool) → (j + taken_right (if s then Left x else if t then Right y else Both x y)) ≤ length ys
+        two : (s t : Bool) → (j + taken_right (chosen x y s t)) ≤ length ys
         two true t = omega (arith, e, within)
         two false true = omega (arith, e, within)
         two false false = omega (arith, e, within)

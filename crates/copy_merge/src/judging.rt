@@ -1,7 +1,7 @@
 //! Whether two copies agree.
 
-ghost use Rattle.std.specs.Prelude.{◌≡◌, ◌↔◌, IsTrue, drop, OnOk, IfErr};
-ghost use Rattle.content.specs.Content.{IsContent, IsInRange};
+ghost use Rattle.std.specs.Prelude.{◌↔◌, IsTrue, OnOk, IfErr};
+ghost use Rattle.content.specs.Content.{IsInRange};
 ghost use Rattle.content.specs.Joins.{Agree};
 ghost use Rattle.copy_merge.specs.Agreement.{AgreeOn, CoversAllOrNone};
 ghost use Rattle.copy_merge.specs.Merges.{IsFirstDisagreement};

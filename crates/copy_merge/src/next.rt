@@ -1,7 +1,6 @@
 //! Two copies' batches, by rising base offset.
 
 ghost use Rattle.std.specs.Prelude.{◌≡◌, ◌<◌, ◌^◌, drop, length, not, pos, Option, Some, None, IfSome};
-ghost use Rattle.batch_codec.specs.Offsets.{first_offset};
 ghost use Rattle.content.specs.Content.{IsContent, IsInRange};
 ghost use Rattle.copy_merge.specs.Steps.{first_of, is_done, next_by, next_of, base_of, taken_left, taken_right, IsNextInRange};
 

@@ -1,7 +1,6 @@
 //! What becomes of each kept batch where two copies are merged.
 
 ghost use Rattle.std.specs.Prelude.{◌≡◌, ◌++◌, ◌∷◌, [], false, None, Some, OnOk, IfOk, if◌then◌else◌};
-ghost use Rattle.batch_codec.specs.Grammar.{Writable};
 ghost use Rattle.batch_codec.specs.Offsets.{first_offset};
 ghost use Rattle.batch_codec.specs.Values.{BatchValue};
 ghost use Rattle.cover_ranges.specs.Runs.{covers};

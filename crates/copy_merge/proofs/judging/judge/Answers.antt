@@ -10,8 +10,8 @@ loop-next-init g c =
 
 pub returns-then-not-agree_on-clause-disagrees : goal.returns-then-not-agree_on-clause-disagrees
 returns-then-not-agree_on-clause-disagrees g c =
-    let some = some_next c.has_next.result _ c.has_next.ensures c.loop-next-test.true in
     let fits : FitsSigned w64 c.base.result = search rules in
+    let some = some_next c.has_next.result _ c.has_next.ensures c.loop-next-test.true in
     judged_fault c.args.a.now c.args.b.now c.loop-next.i c.loop-next.j (to_z w64 (of_z w64 c.base.result)) c.next_batches-next.result c.cover.result.now.runs c.cover-in-loop-next.result.now.runs c.agree_on.result
     (to_z-of_z w64 c.base.result fits ∙ c.base.ensures) c.next_batches-next.ensures.next c.cover.ensures c.cover-in-loop-next.ensures some c.agree_on.ensures c.if-not-agree_on.true c.loop-next.invariant.2
 
