@@ -1,5 +1,5 @@
 -- Each event leaves every copy and every image a copy of the log.
-use Rattle.std.proofs.Common.{◌≡◌, ℕ, zero, suc, ◌<◌, ℤ, pos, Bool, List, [], ◌∷◌, ◌++◌, length, set, Option, Some, None, refl, sym, ap, subst, ◌∙◌, arith}
+use Rattle.std.proofs.Common.{◌≡◌, ℕ, zero, suc, ◌<◌, ℤ, pos, Bool, inl, inr, List, [], ◌∷◌, ◌++◌, length, set, Option, Some, None, refl, sym, ap, subst, ◌∙◌, arith}
 use Rattle.std.specs.Prelude.{slice_get}
 use Rattle.std.specs.List.{AllByRecursion}
 use Rattle.batch_codec.specs.Values.{BatchValue}
@@ -18,9 +18,11 @@ use Rattle.content_laws.proofs.CopyGrow.{copy_of_longer}
 use Rattle.content_laws.proofs.CopyClean.{copy_of_clean}
 use Rattle.content_laws.proofs.CopyJoin.{copies_agree, copy_of_join}
 use Rattle.content_laws.proofs.LeaderCopies.{leader_append, leader_clean}
-use Rattle.cluster.specs.Worlds.{World, copy_at, with_copy, with_appended, with_image}
-use Rattle.cluster.specs.Headline.{IsCopyOf, contents_of, IsConsistent}
+use Rattle.copy_images.specs.Images.{image_of, IsImage}
+use Rattle.cluster.specs.Worlds.{World, copy_at, with_copy, with_appended, with_image_of}
+use Rattle.cluster.specs.Headline.{IsCopyOf, IsImageOfCopy, IsConsistent, IsHeld}
 use Rattle.cluster.proofs.LogEnds.{longer_log}
+use Rattle.copy_images.proofs.FirstFaults.{one_copy}
 
 -- ---- lists of which each element has a property
 
@@ -38,14 +40,6 @@ module _ {X : Type 0} (P : X → Type 0) where
   all_set (z ∷ zs) zero y all is = (is, all.1)
   all_set (z ∷ zs) (suc n) y all is = (all.0, all_set zs n y all.1 is)
 
-  all_left : (xs ys : List X) → AllByRecursion P (xs ++ ys) → AllByRecursion P xs
-  all_left [] ys all = tt
-  all_left (x ∷ xs) ys all = (all.0, all_left xs ys all.1)
-
-  all_right : (xs ys : List X) → AllByRecursion P (xs ++ ys) → AllByRecursion P ys
-  all_right [] ys all = all
-  all_right (x ∷ xs) ys all = all_right xs ys all.1
-
   all_both : (xs ys : List X) → AllByRecursion P xs → AllByRecursion P ys → AllByRecursion P (xs ++ ys)
   all_both [] ys left right = right
   all_both (x ∷ xs) ys left right = (left.0, all_both xs ys left.1 right)
@@ -60,18 +54,18 @@ module _ (w : World) (is : IsConsistent w) where
   pub leader_copy : IsCopyOf w.log w.leader
   leader_copy = is.copies.0
 
-  pub follower_copies : AllByRecursion (IsCopyOf w.log) w.followers
-  follower_copies = all_left (IsCopyOf w.log) w.followers w.images is.copies.1
-
-  pub image_copies : AllByRecursion (IsCopyOf w.log) w.images
-  image_copies = all_right (IsCopyOf w.log) w.followers w.images is.copies.1
-
   pub copy_is : (copy : ℕ) (c : Content) → copy_at w copy ≡ Some c → IsCopyOf w.log c
   copy_is zero c there = subst (IsCopyOf w.log) (some_same w.leader c there) leader_copy
-  copy_is (suc i) c there = all_get (IsCopyOf w.log) w.followers i c follower_copies there
+  copy_is (suc i) c there = all_get (IsCopyOf w.log) w.followers i c is.copies.1 there
 
-  pub image_is : (image : ℕ) (c : Content) → slice_get w.images image ≡ Some c → IsCopyOf w.log c
-  image_is image c there = all_get (IsCopyOf w.log) w.images image c image_copies there
+  pub image_is : (image : ℕ) (bytes : List ℕ) (c : Content) → slice_get w.images image ≡ Some bytes → IsImage bytes c → IsCopyOf w.log c
+  image_is image bytes c there of_c =
+      let held = all_get (IsImageOfCopy w.log) w.images image bytes is.images there in
+      subst (IsCopyOf w.log) (one_copy bytes held.0 c held.1 of_c) held.2
+
+  pub held_is : (c : Content) → IsHeld w c → IsCopyOf w.log c
+  held_is c (inl (copy, there)) = copy_is copy c there
+  held_is c (inr (image, bytes, there, of_c)) = image_is image bytes c there of_c
 
   -- a follower is replaced
   pub after_change : (copy : ℕ) (c : Content) → 0 < copy → IsCopyOf w.log c → IsConsistent (with_copy copy c w)
@@ -79,14 +73,16 @@ module _ (w : World) (is : IsConsistent w) where
   after_change (suc i) c low copy = record {
     plain = is.plain;
     leads = is.leads;
-    copies = (leader_copy, all_both (IsCopyOf w.log) (set w.followers i c) w.images (all_set (IsCopyOf w.log) w.followers i c follower_copies copy) image_copies);
+    copies = (leader_copy, all_set (IsCopyOf w.log) w.followers i c is.copies.1 copy);
+    images = is.images;
   }
 
-  pub after_image : (c : Content) → IsCopyOf w.log c → IsConsistent (with_image c w)
-  after_image c copy = record {
+  pub after_image : (c : Content) → IsCopyOf w.log c → IsImage (image_of c) c → IsConsistent (with_image_of c w)
+  after_image c copy image = record {
     plain = is.plain;
     leads = is.leads;
-    copies = (leader_copy, all_both (IsCopyOf w.log) w.followers (w.images ++ c ∷ []) follower_copies (all_both (IsCopyOf w.log) w.images (c ∷ []) image_copies (copy, tt)));
+    copies = is.copies;
+    images = all_both (IsImageOfCopy w.log) w.images (image_of c ∷ []) is.images ((c, image, copy), tt);
   }
 
   pub cleaned_copy : (upto tomb_before : ℤ) (c : Content) → IsCopyOf w.log c → IsCopyOf w.log (clean upto tomb_before c)
@@ -97,6 +93,7 @@ module _ (w : World) (is : IsConsistent w) where
     plain = is.plain;
     leads = leader_clean upto tomb_before w.leader w.log leader_copy.0 is.plain is.leads;
     copies = (cleaned_copy upto tomb_before w.leader leader_copy, is.copies.1);
+    images = is.images;
   }
 
   pub copies_merge : (a b : Content) → IsCopyOf w.log a → IsCopyOf w.log b → Agree a b
@@ -111,7 +108,8 @@ module _ (w : World) (is : IsConsistent w) where
   after_append b log_batch first content new = record {
     plain = plain;
     leads = leads;
-    copies = ((content, leads.copy), all_imply (IsCopyOf w.log) (IsCopyOf (w.log ++ b ∷ [])) (w.followers ++ w.images) longer is.copies.1);
+    copies = ((content, leads.copy), all_imply (IsCopyOf w.log) (IsCopyOf (w.log ++ b ∷ [])) w.followers longer is.copies.1);
+    images = all_imply (IsImageOfCopy w.log) (IsImageOfCopy (w.log ++ b ∷ [])) w.images (λ bytes held. (held.0, held.1, longer held.0 held.2)) is.images;
   }
     where
       plain : IsPlainLog (w.log ++ b ∷ [])

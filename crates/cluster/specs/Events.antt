@@ -1,6 +1,6 @@
 -- What an event does in the world of a partition's copies, and when it is refused. Kafka's design documentation,
 -- "Replication", "Log Compaction" and "Message Delivery Semantics"; images are this project's own.
-use Rattle.std.specs.Prelude.{ℕ, ◌≡◌, ◌<◌, ◌<ℤ◌, ◌+ℤ◌, ◌↔◌, ◌^◌, ℤ, pos, true, false, Bool, List, length, Some, None, slice_get, Result, Ok, Err, [], ◌∷◌}
+use Rattle.std.specs.Prelude.{ℕ, ◌≡◌, ◌<◌, ◌≤◌, ◌⊎◌, ◌<ℤ◌, ◌+ℤ◌, ◌↔◌, ◌^◌, ℤ, pos, true, false, Bool, List, length, Some, None, slice_get, Result, Ok, Err, [], ◌∷◌}
 use Rattle.batch_codec.specs.Values.{BatchValue}
 use Rattle.batch_codec.specs.Grammar.{Writable, batch_encoding, StartsWith}
 use Rattle.batch_codec.specs.Offsets.{IsWhole, HasKeys}
@@ -14,6 +14,7 @@ use Rattle.content.specs.Content.{Content, add, has_seen_all}
 use Rattle.content.specs.Cleaning.{clean, clean_report}
 use Rattle.content.specs.Joins.{join}
 use Rattle.content.specs.Logs.{next_offset}
+use Rattle.copy_images.specs.Images.{IsImage}
 use Rattle.partition_log.specs.Appends.{IsProducerValid, IsSendable}
 use Rattle.partition_log.specs.declared.leader.AppendError.{AppendError}
 use Rattle.partition_log.specs.declared.leader.AppendError.TheVariants as append
@@ -23,7 +24,10 @@ use Rattle.cluster.specs.declared.event.Outcome.{Outcome}
 use Rattle.cluster.specs.declared.event.Outcome.TheVariants.{Based, Delivered, Cleaned, Sent, Merged}
 use Rattle.cluster.specs.declared.event.EventError.{EventError}
 use Rattle.cluster.specs.declared.event.EventError.TheVariants.{NoCopy, LeaderCopy, NoBatch, NoImage, BadBatch, Extra, Append, OutOfMemory}
-use Rattle.cluster.specs.Worlds.{World, copy_at, with_copy, at_log_end, with_appended, with_image}
+use Rattle.cluster.specs.declared.event.ClusterError.{ClusterError}
+use Rattle.cluster.specs.declared.event.ClusterError.TheVariants as cluster
+use Rattle.cluster.specs.declared.TheConstants.{MAX_COPIES}
+use Rattle.cluster.specs.Worlds.{World, copy_at, with_copy, at_log_end, with_appended, with_image_of}
 
 -- ---- what is sent to the leader
 
@@ -56,54 +60,90 @@ RefusesBatch w b append.OutOfOrder = IsSendable b × (log_verdict w b ≡ verdic
 RefusesBatch w b append.OffsetsFull = IsSendable b × (log_verdict w b ≡ verdict.New) × ¬ FitsLog w b
 RefusesBatch w b append.OutOfMemory = ⊥
 
--- ---- one event
+-- why bytes that are sent to the leader are refused
+abbrev pub RefusesBytes : World → List ℕ → EventError → Type 0
+RefusesBytes w bytes (BadBatch fault) = FirstFault fault bytes
+RefusesBytes w bytes Extra =
+    (b : BatchValue) × StartsWith b bytes × (length (batch_encoding b) < length bytes)
+RefusesBytes w bytes (Append why) = (b : BatchValue) × IsBatch bytes b × RefusesBatch w b why
+RefusesBytes w bytes OutOfMemory = Unit {0}
+RefusesBytes w bytes _ = ⊥
+
+-- ---- the events, each with its outcome or the first fault in the order of the checks; any may lack memory
+
+abbrev pub Produces : World → List ℕ → World → Result Outcome EventError → Type 0
+Produces w bytes after (Ok (Based base repeat)) = (b : BatchValue) × IsBatch bytes b × Appends w b after base repeat
+Produces w bytes after (Ok _) = ⊥
+Produces w bytes after (Err error) = RefusesBytes w bytes error × (after ≡ w)
 
 -- a copy other than the leader's
 abbrev pub IsFollower : World → ℕ → Content → Type 0
 IsFollower w copy c = (0 < copy) × (copy_at w copy ≡ Some c)
 
--- what an event that is not refused does, and what comes of it
-abbrev pub Does : {A : Type 0} → World → Event A → World → Outcome → Type 0
-Does w (Produce bytes) after (Based base repeat) =
-    (b : BatchValue) × IsBatch bytes.items b × Appends w b after base repeat
-Does w (Deliver copy batch) after (Delivered delivered) =
+-- why a number is refused as a follower's
+abbrev pub RefusesFollower : World → (copy : ℕ) → EventError → Type 0
+RefusesFollower w copy NoCopy = copy_at w copy ≡ None
+RefusesFollower w copy LeaderCopy = copy ≡ 0
+RefusesFollower w copy _ = ⊥
+
+abbrev pub RefusesDelivery : World → (copy batch : ℕ) → EventError → Type 0
+RefusesDelivery w copy batch NoBatch = (c : Content) × IsFollower w copy c × (slice_get w.log batch ≡ None)
+RefusesDelivery w copy batch OutOfMemory = Unit {0}
+RefusesDelivery w copy batch error = RefusesFollower w copy error
+
+-- what a delivery makes of one copy
+abbrev pub DeliversTo : Content → BatchValue → Content → Result Outcome EventError → Type 0
+DeliversTo c b after (Ok (Delivered delivered)) = (after ≡ add c b) × ((delivered ≡ Repeat) ↔ (has_seen_all c b ≡ true))
+DeliversTo c b after (Err OutOfMemory) = after ≡ c
+DeliversTo c b after _ = ⊥
+
+abbrev pub Delivers : World → (copy batch : ℕ) → World → Result Outcome EventError → Type 0
+Delivers w copy batch after (Ok (Delivered delivered)) =
     (c : Content) × (b : BatchValue) × IsFollower w copy c × (slice_get w.log batch ≡ Some b)
     × (after ≡ with_copy copy (add c b) w) × ((delivered ≡ Repeat) ↔ (has_seen_all c b ≡ true))
-Does w (Clean copy upto tomb_before) after (Cleaned report) =
+Delivers w copy batch after (Ok _) = ⊥
+Delivers w copy batch after (Err error) = RefusesDelivery w copy batch error × (after ≡ w)
+
+-- a cleaning and a sending are refused where there is no such copy
+abbrev pub RefusesCopy : World → (copy : ℕ) → EventError → Type 0
+RefusesCopy w copy NoCopy = copy_at w copy ≡ None
+RefusesCopy w copy OutOfMemory = Unit {0}
+RefusesCopy w copy _ = ⊥
+
+abbrev pub Cleans : World → (copy : ℕ) (upto tomb_before : ℤ) → World → Result Outcome EventError → Type 0
+Cleans w copy upto tomb_before after (Ok (Cleaned report)) =
     (c : Content) × (copy_at w copy ≡ Some c) × (after ≡ with_copy copy (clean upto tomb_before c) w)
     × (report ≡ clean_report upto tomb_before c)
-Does w (Send copy) after (Sent image) =
-    (c : Content) × (copy_at w copy ≡ Some c) × (after ≡ with_image c w) × (image ≡ length w.images)
-Does w (Merge copy image) after Merged =
-    (c : Content) × (sent : Content) × IsFollower w copy c × (slice_get w.images image ≡ Some sent)
-    × (after ≡ with_copy copy (join c sent) w)
-Does w _ after _ = ⊥
+Cleans w copy upto tomb_before after (Ok _) = ⊥
+Cleans w copy upto tomb_before after (Err error) = RefusesCopy w copy error × (after ≡ w)
 
--- Why an event is refused: the first fault in the order of the checks. Any event may lack memory.
-abbrev pub RefusesEvent : {A : Type 0} → World → Event A → EventError → Type 0
-RefusesEvent w (Produce bytes) (BadBatch fault) = FirstFault fault bytes.items
-RefusesEvent w (Produce bytes) Extra =
-    (b : BatchValue) × StartsWith b bytes.items × (length (batch_encoding b) < length bytes.items)
-RefusesEvent w (Produce bytes) (Append why) = (b : BatchValue) × IsBatch bytes.items b × RefusesBatch w b why
-RefusesEvent w (Deliver copy batch) NoCopy = copy_at w copy ≡ None
-RefusesEvent w (Deliver copy batch) LeaderCopy = copy ≡ 0
-RefusesEvent w (Deliver copy batch) NoBatch =
-    (c : Content) × IsFollower w copy c × (slice_get w.log batch ≡ None)
-RefusesEvent w (Clean copy upto tomb_before) NoCopy = copy_at w copy ≡ None
-RefusesEvent w (Send copy) NoCopy = copy_at w copy ≡ None
-RefusesEvent w (Merge copy image) NoCopy = copy_at w copy ≡ None
-RefusesEvent w (Merge copy image) LeaderCopy = copy ≡ 0
-RefusesEvent w (Merge copy image) NoImage =
-    (c : Content) × IsFollower w copy c × (slice_get w.images image ≡ None)
-RefusesEvent w _ OutOfMemory = Unit {0}
-RefusesEvent w _ _ = ⊥
+abbrev pub Sends : World → (copy : ℕ) → World → Result Outcome EventError → Type 0
+Sends w copy after (Ok (Sent image)) =
+    (c : Content) × (copy_at w copy ≡ Some c) × (after ≡ with_image_of c w) × (image ≡ length w.images)
+Sends w copy after (Ok _) = ⊥
+Sends w copy after (Err error) = RefusesCopy w copy error × (after ≡ w)
+
+abbrev pub RefusesMerge : World → (copy image : ℕ) → EventError → Type 0
+RefusesMerge w copy image NoImage = (c : Content) × IsFollower w copy c × (slice_get w.images image ≡ None)
+RefusesMerge w copy image OutOfMemory = Unit {0}
+RefusesMerge w copy image error = RefusesFollower w copy error
+
+abbrev pub Merges : World → (copy image : ℕ) → World → Result Outcome EventError → Type 0
+Merges w copy image after (Ok Merged) =
+    (c : Content) × (bytes : List ℕ) × (sent : Content) × IsFollower w copy c
+    × (slice_get w.images image ≡ Some bytes) × IsImage bytes sent × (after ≡ with_copy copy (join c sent) w)
+Merges w copy image after (Ok _) = ⊥
+Merges w copy image after (Err error) = RefusesMerge w copy image error × (after ≡ w)
+
+-- one event, whichever it is
+abbrev pub Steps : {A : Type 0} → World → Event A → World → Result Outcome EventError → Type 0
+Steps w (Produce bytes) after result = Produces w bytes.items after result
+Steps w (Deliver copy batch) after result = Delivers w copy batch after result
+Steps w (Clean copy upto tomb_before) after result = Cleans w copy upto tomb_before after result
+Steps w (Send copy) after result = Sends w copy after result
+Steps w (Merge copy image) after result = Merges w copy image after result
 
 -- ---- lists of events
-
--- What came of an event: it was done, or it was refused and changed nothing.
-abbrev pub Steps : {A : Type 0} → World → Event A → World → Result Outcome EventError → Type 0
-Steps w event after (Ok outcome) = Does w event after outcome
-Steps w event after (Err error) = RefusesEvent w event error × (after ≡ w)
 
 -- what came of a list of events, each in the world that those before it left
 abbrev pub Runs : {A : Type 0} → World → List (Event A) → List (Result Outcome EventError) → World → Type 0
@@ -111,3 +151,10 @@ Runs w [] [] after = after ≡ w
 Runs w (event ∷ events) (result ∷ results) after =
     (next : World) × Steps w event next result × Runs next events results after
 Runs w _ _ after = ⊥
+
+-- ---- a new cluster
+
+-- the first fault in the order of the checks
+abbrev pub RefusesCopies : (copies : ℕ) → ClusterError → Type 0
+RefusesCopies copies cluster.BadCopies = (copies ≡ 0) ⊎ (MAX_COPIES < copies)
+RefusesCopies copies cluster.OutOfMemory = (0 < copies) × (copies ≤ MAX_COPIES)

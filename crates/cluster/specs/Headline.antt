@@ -1,6 +1,6 @@
 -- What holds of the copies of one partition, whatever happened to them: each shows the log's own table over the offsets
 -- that it has seen, and any two can be merged in any order.
-use Rattle.std.specs.Prelude.{ℤ, pos, ◌≡◌, ◌≤ℤ◌, ◌∷◌, ◌++◌, List}
+use Rattle.std.specs.Prelude.{ℕ, ℤ, pos, ◌≡◌, ◌⊎◌, ◌≤ℤ◌, ◌∷◌, List, Some, slice_get}
 use Rattle.std.specs.List.{AllByRecursion}
 use Rattle.batch_codec.specs.Values.{BatchValue}
 use Rattle.cover_ranges.specs.Runs.{covers}
@@ -12,21 +12,29 @@ use Rattle.content.specs.Joins.{join, Agree}
 use Rattle.content.specs.Logs.{IsPlainLog}
 use Rattle.content.specs.Copies.{IsCopy}
 use Rattle.content.specs.LegalLogs.{IsLeaderCopy}
-use Rattle.cluster.specs.Worlds.{World}
-
--- the contents of all copies and images
-abbrev pub contents_of : World → List Content
-contents_of w = w.leader ∷ w.followers ++ w.images
+use Rattle.copy_images.specs.Images.{IsImage}
+use Rattle.cluster.specs.Worlds.{World, copy_at}
 
 abbrev pub IsCopyOf : List BatchValue → Content → Type 0
 IsCopyOf log c = IsContent c × IsCopy c log
 
+-- bytes that are the image of a copy of the log
+abbrev pub IsImageOfCopy : List BatchValue → List ℕ → Type 0
+IsImageOfCopy log bytes = (c : Content) × IsImage bytes c × IsCopyOf log c
+
 -- The log is one as its leader appends it, the leader's copy has seen exactly its offsets and took each numbered batch as
--- new, and every copy and every image is a copy of the log.
+-- new; every copy is a copy of the log, and every image is an image of one.
 pub record IsConsistent (w : World) : Type 0 where
   pub plain : IsPlainLog w.log
   pub leads : IsLeaderCopy w.leader w.log
-  pub copies : AllByRecursion (IsCopyOf w.log) (contents_of w)
+  pub copies : AllByRecursion (IsCopyOf w.log) (w.leader ∷ w.followers)
+  pub images : AllByRecursion (IsImageOfCopy w.log) w.images
+
+-- one of the copies, or what an image holds
+abbrev pub IsHeld : World → Content → Type 0
+IsHeld w c =
+    ((copy : ℕ) × (copy_at w copy ≡ Some c))
+    ⊎ ((image : ℕ) × (bytes : List ℕ) × (slice_get w.images image ≡ Some bytes) × IsImage bytes c)
 
 -- a copy's table is the pass over the log's records at the offsets that it has seen
 abbrev pub ShowsLog : List BatchValue → Content → Type 0
@@ -42,8 +50,11 @@ pub record Headline (w : World) : Type 0 where
   pub consistent : IsConsistent w
   -- the leader's windows are those of the log from its start on
   pub windows : (p : ℤ) → pos 0 ≤ℤ p → window (heads w.leader.kept) p ≡ window (heads_from w.leader.start (heads w.log)) p
-  pub tables : AllByRecursion (ShowsLog w.log) (contents_of w)
-  pub idempotent : AllByRecursion (λ a. join a a ≡ a) (contents_of w)
-  pub alike : AllByRecursion (λ a. AllByRecursion (MergeAlike a) (contents_of w)) (contents_of w)
-  pub associative : AllByRecursion (λ a. AllByRecursion (λ b. AllByRecursion
-      (λ c. join (join a b) c ≡ join a (join b c)) (contents_of w)) (contents_of w)) (contents_of w)
+  -- whatever is held is a copy of the log, and shows the log's own table over what it has seen
+  pub copies : (c : Content) → IsHeld w c → IsCopyOf w.log c
+  pub tables : (c : Content) → IsHeld w c → ShowsLog w.log c
+  -- merging
+  pub idempotent : (a : Content) → IsHeld w a → join a a ≡ a
+  pub alike : (a b : Content) → IsHeld w a → IsHeld w b → MergeAlike a b
+  pub associative : (a b c : Content) → IsHeld w a → IsHeld w b → IsHeld w c
+      → join (join a b) c ≡ join a (join b c)

@@ -2,3 +2,4 @@
 pub mod Worlds
 pub mod Events
 pub mod Headline
+pub mod Parts

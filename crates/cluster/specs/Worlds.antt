@@ -2,11 +2,11 @@
 -- has one leader, which appends all its batches; that copies are cleaned each by itself, and sent and merged as images,
 -- is this project's own.
 use Rattle.std.specs.Prelude.{ℕ, zero, suc, pos, List, [], ◌∷◌, ◌++◌, Option, Some, replicate, set, slice_get}
-
 use Rattle.batch_codec.specs.Values.{BatchValue}
 use Rattle.batch_codec.specs.Rebase.{with_base}
 use Rattle.content.specs.Content.{Content, empty, add}
 use Rattle.content.specs.Logs.{next_offset}
+use Rattle.copy_images.specs.Images.{image_of}
 
 pub record World : Type 0 where
   -- all batches that the leader appended, in order, as it appended them
@@ -15,8 +15,8 @@ pub record World : Type 0 where
   pub leader : Content
   -- the copies from 1 on
   pub followers : List Content
-  -- what the images hold that were sent, in order
-  pub images : List Content
+  -- the images that were sent, in order: the bytes of each
+  pub images : List (List ℕ)
 
 -- nothing was appended, seen or sent
 abbrev pub new_world : ℕ → World
@@ -40,6 +40,6 @@ at_log_end w b = with_base (next_offset w.log) (pos 0) b
 abbrev pub with_appended : BatchValue → World → World
 with_appended b w = record w { log = w.log ++ b ∷ []; leader = add w.leader b }
 
--- the world after an image was sent
-abbrev pub with_image : Content → World → World
-with_image c w = record w { images = w.images ++ c ∷ [] }
+-- the world after an image of a copy was sent
+abbrev pub with_image_of : Content → World → World
+with_image_of c w = record w { images = w.images ++ image_of c ∷ [] }

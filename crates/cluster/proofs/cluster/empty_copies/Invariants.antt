@@ -1,0 +1,7 @@
+use Rattle.std.proofs.Common.{◌≡◌}
+use Rattle.std.specs.Prelude.{replicate}
+use Rattle.content.specs.Content.{empty}
+use Rattle.cluster.proofs.cluster.empty_copies.Given as goal
+
+abbrev pub invariant-loop : goal.invariant-loop
+invariant-loop g l = l.copies.items ≡ replicate l.counter empty

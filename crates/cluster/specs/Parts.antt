@@ -1,0 +1,45 @@
+-- Words of private clauses: what an event makes of the parts of a cluster.
+use Rattle.std.specs.Prelude.{◌≡◌, ◌≢◌, ℕ, true, false, List, [], ◌∷◌, ◌++◌, Result, Ok, Err}
+use Rattle.std.specs.declared.alloc.AllocError.{AllocError}
+use Rattle.batch_codec.specs.Values.{BatchValue}
+use Rattle.content.specs.declared.report.CleanReport.{CleanReport}
+use Rattle.content.specs.declared.verdict.Verdict.TheVariants as verdict
+use Rattle.content.specs.Content.{Content, end, add}
+use Rattle.content.specs.Joins.{join}
+use Rattle.copy_images.specs.Images.{IsImage}
+use Rattle.partition_log.specs.Appends.{IsSendable, kept_verdict, at_end, HasOffsets, RefusesAppend}
+use Rattle.partition_log.specs.declared.leader.AppendError.{AppendError}
+use Rattle.partition_log.specs.declared.leader.AppendError.TheVariants as append
+use Rattle.cluster.specs.declared.event.Outcome.{Outcome}
+use Rattle.cluster.specs.declared.event.Outcome.TheVariants.{Based, Cleaned, Merged}
+use Rattle.cluster.specs.declared.event.EventError.{EventError}
+use Rattle.cluster.specs.declared.event.EventError.TheVariants.{Append, OutOfMemory}
+
+-- want of memory in a part of an event is want of memory for the event
+abbrev pub append_refusal : AppendError → EventError
+append_refusal append.OutOfMemory = OutOfMemory
+append_refusal why = Append why
+
+-- what a leader's copy and its log become, given a batch
+abbrev pub AppendsTo : Content → List BatchValue → BatchValue → Content → List BatchValue → Result Outcome EventError → Type 0
+AppendsTo c log b after longer (Ok (Based base true)) =
+    IsSendable b × (kept_verdict c b ≡ verdict.Repeat base) × (after ≡ c) × (longer ≡ log)
+AppendsTo c log b after longer (Ok (Based base false)) =
+    IsSendable b × (kept_verdict c b ≡ verdict.New) × HasOffsets c b × (base ≡ end c)
+    × (after ≡ add c (at_end c b)) × (longer ≡ log ++ at_end c b ∷ [])
+AppendsTo c log b after longer (Ok _) = ⊥
+AppendsTo c log b after longer (Err (Append why)) =
+    RefusesAppend c b why × (why ≢ append.OutOfMemory) × (after ≡ c) × (longer ≡ log)
+AppendsTo c log b after longer (Err OutOfMemory) = (after ≡ c) × (longer ≡ log)
+AppendsTo c log b after longer (Err _) = ⊥
+
+-- the outcome of a cleaning
+abbrev pub clean_outcome : Result CleanReport AllocError → Result Outcome EventError
+clean_outcome (Ok report) = Ok (Cleaned report)
+clean_outcome (Err error) = Err OutOfMemory
+
+-- what a copy becomes, given an image that it agrees with
+abbrev pub MergesImage : Content → List ℕ → Content → Result Outcome EventError → Type 0
+MergesImage c bytes after (Ok Merged) = (sent : Content) × IsImage bytes sent × (after ≡ join c sent)
+MergesImage c bytes after (Err OutOfMemory) = after ≡ c
+MergesImage c bytes after _ = ⊥

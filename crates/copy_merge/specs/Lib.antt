@@ -1,0 +1,5 @@
+pub mod Steps
+pub mod Walks
+pub mod Agreement
+pub mod Merges
+pub mod Plans

@@ -1,0 +1,33 @@
+-- What becomes of the kept batches where two copies are merged.
+use Rattle.std.specs.Prelude.{◌≡◌, ℤ, ◌<ℤ◌, List, ◌++◌, Option, Some, None, if◌then◌else◌}
+use Rattle.std.specs.List.{AllByRecursion, cons_option}
+use Rattle.batch_codec.specs.Values.{BatchValue}
+use Rattle.batch_codec.specs.Offsets.{first_offset, last_offset}
+use Rattle.cover_ranges.specs.Runs.{Runs, covers}
+use Rattle.content.specs.Records.{with_common_records}
+use Rattle.segment.specs.declared.turn.Turn.{Turn}
+use Rattle.segment.specs.Weaving.{woven}
+use Rattle.copy_merge.specs.declared.next.Next.{Next}
+use Rattle.copy_merge.specs.declared.next.Next.TheVariants.{Done, Left, Right, Both}
+
+-- what two copies that have seen these offsets leave of what comes next
+abbrev pub merged_next : Runs → Runs → Next → Option BatchValue
+merged_next left right Done = None
+merged_next left right (Left x) = if covers right (first_offset x) then None else Some x
+merged_next left right (Right y) = if covers left (first_offset y) then None else Some y
+merged_next left right (Both x y) = Some (with_common_records x y)
+
+-- the spans lie before an offset
+abbrev pub EndBefore : ℤ → List BatchValue → Type 0
+EndBefore o bs = AllByRecursion (λ b. (first_offset b <ℤ o) × (last_offset b <ℤ o)) bs
+
+-- Turns and batches that come in, behind others. They make `made` of the next batch of the first list.
+pub record Adds (next made : Option BatchValue) (old_turns new_turns : List Turn)
+    (old_more new_more : List BatchValue) : Type 0 where
+  pub turns : List Turn
+  pub batches : List BatchValue
+  pub more_turns : new_turns ≡ old_turns ++ turns
+  pub more_batches : new_more ≡ old_more ++ batches
+  pub makes : (rest : List Turn) (xs ys : List BatchValue)
+      → woven (turns ++ rest) (cons_option next xs) (batches ++ ys) ≡ cons_option made (woven rest xs ys)
+  pub brings : AllByRecursion (λ b. made ≡ Some b) batches
