@@ -44,8 +44,8 @@ pub enum SessionError {
 /// The most reads of one session.
 const MOST_READS: u64 = 4_294_967_296;
 
-/// A session that has answered so many frames goes no further: their number couldn't overflow before.
-/// No input reaches it.
+/// A session goes no further once so many frames were answered, so that their number can't overflow
+/// while those that are held are answered. No input reaches it.
 const MOST_FRAMES: u64 = 9_223_372_036_854_775_808;
 
 /// Answers the frames that come from the source, in order, each as soon as it is complete. Each
