@@ -8,7 +8,7 @@ use thiserror::Error;
 /// other, each for `BadBatch` and then for `Outside`.
 #[derive(Clone, Copy, Debug, PartialEq, Eq, Error)]
 pub enum ImageError {
-    /// There are under 18 bytes, or fewer than the ranges and the count of batches take.
+    /// There are under 18 bytes, or fewer than the ranges, the count of batches and the crc take.
     #[error("Short")]
     Short,
     /// The first four bytes are not `KCPY`.
