@@ -1,16 +1,12 @@
 -- What each event makes of the world of the copies.
-use Rattle.std.proofs.Common.{◌≡◌, ℕ, zero, suc, ◌+◌, ◌<◌, ℤ, pos, ◌+ℤ◌, Bool, ◌⊎◌, inl, inr, Result, Ok, Err, List, [], ◌∷◌, ◌++◌, length, get_or, set, Option, Some, None, refl, sym, ap, subst, ◌∙◌, cond, arith, true, false, true≢false}
+use Rattle.std.proofs.Common.{◌≡◌, ℕ, zero, suc, ◌+◌, ◌<◌, ℤ, pos, ◌+ℤ◌, Bool, ◌⊎◌, inl, inr, Result, Ok, Err, List, [], ◌∷◌, length, get_or, set, Some, None, refl, sym, ap, subst, ◌∙◌, cond, arith, true, false, true≢false}
 use Rattle.std.specs.Prelude.{slice_get, ◌↔◌}
-use Rattle.std.specs.List.{AllByRecursion}
 use Rattle.batch_codec.specs.Values.{BatchValue}
 use Rattle.batch_codec.specs.Offsets.{first_offset, IsWhole, HasKeys}
-use Rattle.content.specs.declared.delivery.DeliverError.{DeliverError}
-use Rattle.content.specs.declared.delivery.DeliverError.TheVariants as refused
 use Rattle.content.specs.declared.delivery.Delivered.{Delivered}
 use Rattle.content.specs.declared.delivery.Delivered.TheVariants.{Repeat}
 use Rattle.content.specs.ByOffset.{look_up, Rises}
 use Rattle.content.specs.Content.{Content, IsContent, IsLogBatch, IsInRange, HasSeenNone, has_seen_all, with_batch, add}
-use Rattle.content.specs.Deliveries.{Refuses}
 use Rattle.content.specs.Logs.{IsPlainLog}
 use Rattle.content.specs.Copies.{IsCopy}
 use Rattle.content_laws.proofs.ContentSteps.{content_with_batch, content_add}
@@ -26,7 +22,7 @@ use Rattle.cluster.specs.declared.event.EventError.TheVariants.{NoCopy, LeaderCo
 use Rattle.cluster.specs.Worlds.{World, copy_at, with_copy}
 use Rattle.cluster.specs.Events.{IsFollower, Delivers, DeliversTo}
 use Rattle.cluster.specs.Headline.{IsCopyOf, IsConsistent}
-use Rattle.cluster.proofs.WorldSteps.{all_get, copy_is, after_change}
+use Rattle.cluster.proofs.WorldSteps.{copy_is, after_change}
 
 -- ---- a delivery
 

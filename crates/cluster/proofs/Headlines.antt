@@ -1,5 +1,5 @@
 -- What a consistent world shows.
-use Rattle.std.proofs.Common.{◌≡◌, refl, sym, ap, ◌∙◌}
+use Rattle.std.proofs.Common.{sym, ap, ◌∙◌}
 use Rattle.cover_ranges.specs.Runs.{Runs, covers}
 use Rattle.content.specs.Records.{log_records}
 use Rattle.content.specs.Table.{table_within}

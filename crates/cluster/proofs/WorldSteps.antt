@@ -1,18 +1,15 @@
 -- Each event leaves every copy and every image a copy of the log.
-use Rattle.std.proofs.Common.{◌≡◌, ℕ, zero, suc, ◌<◌, ℤ, pos, Bool, inl, inr, List, [], ◌∷◌, ◌++◌, length, set, Option, Some, None, refl, sym, ap, subst, ◌∙◌, arith}
+use Rattle.std.proofs.Common.{◌≡◌, ℕ, zero, suc, ◌<◌, ℤ, inl, inr, List, [], ◌∷◌, ◌++◌, set, Some, subst, arith}
 use Rattle.std.specs.Prelude.{slice_get}
 use Rattle.std.specs.List.{AllByRecursion}
 use Rattle.batch_codec.specs.Values.{BatchValue}
 use Rattle.batch_codec.specs.Offsets.{first_offset}
-use Rattle.content.specs.ByOffset.{look_up}
 use Rattle.content.specs.Windows.{heads}
 use Rattle.content.specs.Content.{Content, IsContent, IsLogBatch, add}
 use Rattle.content.specs.Cleaning.{clean}
 use Rattle.content.specs.Joins.{join, Agree}
 use Rattle.content.specs.Logs.{IsPlainLog, next_offset}
-use Rattle.content.specs.Copies.{IsCopy}
 use Rattle.content.specs.LegalLogs.{IsNew, IsLeaderCopy}
-use Rattle.content_laws.proofs.PlainLogs.{Batches}
 use Rattle.content_laws.proofs.ContentSteps.{content_clean, content_join}
 use Rattle.content_laws.proofs.CopyGrow.{copy_of_longer}
 use Rattle.content_laws.proofs.CopyClean.{copy_of_clean}
