@@ -56,14 +56,14 @@ first_answered s after sink sink' held frame rest reply index first answered tak
 
 pub taking_stops : (s : State) (sink : SinkState) (held : List ℕ) (index : ℕ) (e : SessionError) → StopsTaking held index e → StopsNext s s sink sink held index e
 taking_stops s sink held index (Frame n why) stops = (refl, refl, stops.0, inl stops.1)
-taking_stops s sink held index OutOfMemory stops = (refl, refl)
+taking_stops s sink held index OutOfMemory stops = (refl, refl, inr stops)
 taking_stops s sink held index Read stops = stops
 taking_stops s sink held index Write stops = absurd stops
 
 pub replying_stops : (s after : State) (sink : SinkState) (held frame rest : List ℕ) (index : ℕ) (e : SessionError) → IsFirstFrame frame held rest → after ≡ s
     → StopsReplying frame index e → StopsNext s after sink sink held index e
 replying_stops s after sink held frame rest index (Frame n why) first same stops = (same, refl, stops.0, inr (frame, rest, first, stops.1))
-replying_stops s after sink held frame rest index OutOfMemory first same stops = (same, refl)
+replying_stops s after sink held frame rest index OutOfMemory first same stops = (same, refl, inr (frame, rest, first))
 replying_stops s after sink held frame rest index Read first same stops = stops
 replying_stops s after sink held frame rest index Write first same stops = absurd stops
 

@@ -1,17 +1,17 @@
 -- A session, read by read: what it has answered so far, and how it ends or stops.
-use Rattle.std.proofs.Common.{◌≡◌, ◌⊎◌, inl, inr, ℕ, ◌+◌, ◌^◌, ◌≤◌, arith, List, [], ◌∷◌, ◌++◌, length, sym, ap, subst, ◌∙◌, append_assoc, append-nil, Result, Ok, Err, IfErr}
+use Rattle.std.proofs.Common.{◌≡◌, inl, inr, ℕ, ◌+◌, ◌^◌, ◌<◌, false, arith, List, [], ◌∷◌, ◌++◌, length, sym, ap, subst, ◌∙◌, append_assoc, append-nil, Result, Ok, Err, IfErr}
 use Rattle.std.specs.Io.KnownBytes.{Consumes}
 use Rattle.std.proofs.KnownBytes.{Consumes-nil, Consumes-trans, Consumes-kept, Appends-trans}
-use Rattle.std.proofs.lemmas.List.{length-append}
-use Rattle.streams.specs.State.{SourceState, SinkState}
+use Rattle.std.proofs.lemmas.Int.{clamps}
+use Rattle.streams.specs.State.{SourceState, SinkState, counted}
 use Rattle.request_frames.specs.Frames.{stream, IsIncomplete}
 use Rattle.broker_core.specs.declared.session.SessionError.{SessionError}
 use Rattle.broker_core.specs.declared.session.SessionError.TheVariants.{Frame, Read, Write, OutOfMemory}
 use Rattle.broker_core.specs.State.{State}
 use Rattle.broker_core.specs.Streams.{IsAnswered}
 use Rattle.broker_core.specs.Sessions.{Session, EndsAs, StopsAs}
-use Rattle.broker_core.specs.SessionSteps.{ReadsMore, ReadsEnd, StopsReading, AnswersFront, StopsNext, StopsWithin, Serves}
-use Rattle.broker_core.proofs.ServedFrames.{cut_append, one_cut, front_none, front_then, front_fits}
+use Rattle.broker_core.specs.SessionSteps.{ReadsOnce, ReadsMore, ReadsEnd, StopsReading, AnswersFront, StopsNext, StopsWithin, Serves}
+use Rattle.broker_core.proofs.ServedFrames.{cut_append, one_cut, front_none, front_then}
 
 -- ---- one read
 
@@ -33,21 +33,19 @@ front_longer s after sink sink' held rest piece a b p = record {
 }
 
 -- What was read is answered but for what is held, complete or not.
-record Holds (s after : State) (source source' : SourceState) (sink sink' : SinkState) (held : List ℕ) (count reads : ℕ) : Type 0 where
+record Holds (s after : State) (source source' : SourceState) (sink sink' : SinkState) (held : List ℕ) (count : ℕ) : Type 0 where
   input : List ℕ
   leaves : Consumes source.left source'.left input
   front : AnswersFront s after sink sink' input held 0 count
-  gives : reads ≤ length input
 
 more_held : (s after : State) (source mid source' : SourceState) (sink sink' : SinkState) (held held' : List ℕ) (count reads : ℕ)
-    → Serves s after source mid sink sink' held count reads → ReadsMore mid source' held held' → Holds s after source source' sink sink' held' count (reads + 1)
+    → Serves s after source mid sink sink' held count reads → ReadsMore mid source' held held' → Holds s after source source' sink sink' held' count
 more_held s after source mid source' sink sink' held held' count reads p more =
     let piece = more.0.1.piece in
     record {
       input = p.input ++ piece;
       leaves = Consumes-trans source.left mid.left source'.left p.input piece p.leaves more.0.1.consumes;
       front = subst (λ x. AnswersFront s after sink sink' (p.input ++ piece) x 0 count) (sym more.0.1.appends) (front_longer s after sink sink' p.input held piece 0 count p.front);
-      gives = omega (arith, p.gives, more.1, ap length more.0.1.appends, length-append held piece, length-append p.input piece);
     }
 
 -- ---- how a session goes on
@@ -58,21 +56,26 @@ nothing_served s source sink = record {
   leaves = Consumes-nil source.left;
   front = front_none s sink [] 0;
   incomplete = inl (omega arith);
-  gives = omega arith;
+  few = omega arith;
+  counts = omega (arith, clamps);
 }
 
+counted_once : (first now next reads : ℕ) → now ≡ counted first reads → next ≡ counted now 1 → next ≡ counted first (reads + 1)
+counted_once first now next reads before one = omega (arith, clamps, before, one)
+
 pub read_served : (s m after : State) (source mid source' : SourceState) (sink mid_sink sink' : SinkState) (held held' rest : List ℕ) (count index reads : ℕ)
-    → Serves s m source mid sink mid_sink held count reads → ReadsMore mid source' held held'
-    → AnswersFront m after mid_sink sink' held' rest count index → IsIncomplete rest
+    → Serves s m source mid sink mid_sink held count reads → ReadsMore mid source' held held' → ReadsOnce mid source'
+    → AnswersFront m after mid_sink sink' held' rest count index → IsIncomplete rest → index < 2 ^ 63
     → Serves s after source source' sink sink' rest index (reads + 1)
-read_served s m after source mid source' sink mid_sink sink' held held' rest count index reads p more front incomplete =
+read_served s m after source mid source' sink mid_sink sink' held held' rest count index reads p more once front incomplete few =
     let now = more_held s m source mid source' sink mid_sink held held' count reads p more in
     record {
       input = now.input;
       leaves = now.leaves;
       front = front_then s m after sink mid_sink sink' now.input held' rest 0 count index now.front front;
       incomplete = incomplete;
-      gives = now.gives;
+      few = few;
+      counts = counted_once source.reads mid.reads source'.reads reads p.counts once.0;
     }
 
 -- ---- how it ends
@@ -89,13 +92,14 @@ session_of s after source source' sink sink' input held count leaves front = rec
 }
 
 pub session_ends : (s after : State) (source mid source' : SourceState) (sink sink' : SinkState) (held held' : List ℕ) (count reads n : ℕ)
-    → Serves s after source mid sink sink' held count reads → ReadsEnd mid source' held held' → n ≡ length held'
+    → Serves s after source mid sink sink' held count reads → ReadsEnd mid source' held held' → source'.failed ≡ false → n ≡ length held'
     → EndsAs s source source' sink sink' after (record { frames = count; rest = n })
-session_ends s after source mid source' sink sink' held held' count reads n p end long =
+session_ends s after source mid source' sink sink' held held' count reads n p end fine long =
     let leaves : Consumes source.left source'.left p.input = subst (Consumes source.left source'.left) (append-nil p.input) (Consumes-trans source.left mid.left source'.left p.input [] p.leaves end.0) in
     record {
       session = session_of s after source source' sink sink' p.input held count leaves p.front;
       at_end = end.1;
+      has_not_failed = fine;
       incomplete = p.incomplete;
       frames = omega (arith, p.front.counts);
       rest = long ∙ ap length end.2;
@@ -109,31 +113,30 @@ reading_stops s after source mid source' sink sink' held count reads Read p stop
     let leaves = Consumes-kept source.left mid.left source'.left p.input p.leaves stops.0 in
     (session_of s after source source' sink sink' p.input held count leaves p.front, p.incomplete, inl stops.1)
 reading_stops s after source mid source' sink sink' held count reads OutOfMemory p stops =
-    session_of s after source source' sink sink' p.input held count (Consumes-kept source.left mid.left source'.left p.input p.leaves stops) p.front
+    let leaves = subst (λ x. Consumes source.left x.left p.input) (sym stops.0) p.leaves in
+    (session_of s after source source' sink sink' p.input held count leaves p.front, stops.1, inl p.incomplete)
 reading_stops s after source mid source' sink sink' held count reads Write p stops = absurd stops
 reading_stops s after source mid source' sink sink' held count reads (Frame index why) p stops = absurd stops
 
--- the last read was made, or more frames were answered than reads may be made
+-- the last read was made
 pub read_out : (s after : State) (source source' : SourceState) (sink sink' : SinkState) (held : List ℕ) (count reads : ℕ)
-    → Serves s after source source' sink sink' held count reads → (2 ^ 32 ≤ reads) ⊎ (2 ^ 32 ≤ count) → StopsAs s source source' sink sink' after Read
-read_out s after source source' sink sink' held count reads p (inl all) =
-    (session_of s after source source' sink sink' p.input held count p.leaves p.front, p.incomplete, inr (omega (arith, all, p.gives)))
-read_out s after source source' sink sink' held count reads p (inr many) =
-    (session_of s after source source' sink sink' p.input held count p.leaves p.front, p.incomplete, inr (omega (arith, many, front_fits s after sink sink' p.input held 0 count p.front)))
+    → Serves s after source source' sink sink' held count reads → reads ≡ 2 ^ 32 → StopsAs s source source' sink sink' after Read
+read_out s after source source' sink sink' held count reads p all =
+    (session_of s after source source' sink sink' p.input held count p.leaves p.front, p.incomplete, inr (p.counts ∙ ap (counted source.reads) all))
 
 stops_at : (s before after : State) (source source' : SourceState) (sink mid_sink sink' : SinkState) (input held : List ℕ) (index : ℕ) (e : SessionError)
     → Consumes source.left source'.left input → AnswersFront s before sink mid_sink input held 0 index → StopsNext before after mid_sink sink' held index e
-    → StopsAs s source source' sink sink' after e
-stops_at s before after source source' sink mid_sink sink' input held index (Frame n why) leaves front stops =
+    → source'.failed ≡ false → StopsAs s source source' sink sink' after e
+stops_at s before after source source' sink mid_sink sink' input held index (Frame n why) leaves front stops fine =
     subst (λ x. StopsAs s source source' sink x after (Frame n why)) (sym stops.1)
     (subst (λ x. StopsAs s source source' sink mid_sink x (Frame n why)) (sym stops.0)
     (session_of s before source source' sink mid_sink input held index leaves front, omega (arith, stops.2, front.counts), stops.3))
-stops_at s before after source source' sink mid_sink sink' input held index OutOfMemory leaves front stops =
+stops_at s before after source source' sink mid_sink sink' input held index OutOfMemory leaves front stops fine =
     subst (λ x. StopsAs s source source' sink x after OutOfMemory) (sym stops.1)
     (subst (λ x. StopsAs s source source' sink mid_sink x OutOfMemory) (sym stops.0)
-    (session_of s before source source' sink mid_sink input held index leaves front))
-stops_at s before after source source' sink mid_sink sink' input held index Read leaves front stops = absurd stops
-stops_at s before after source source' sink mid_sink sink' input held index Write leaves front stops =
+    (session_of s before source source' sink mid_sink input held index leaves front, fine, stops.2))
+stops_at s before after source source' sink mid_sink sink' input held index Read leaves front stops fine = absurd stops
+stops_at s before after source source' sink mid_sink sink' input held index Write leaves front stops fine =
     let last = stops.0 in
     let lost = last.loses.0 in
     let taken = last.loses.2 in (
@@ -159,12 +162,21 @@ stops_at s before after source source' sink mid_sink sink' input held index Writ
     )
 
 pub answering_stops : (s m after : State) (source mid source' : SourceState) (sink mid_sink sink' : SinkState) (held held' : List ℕ) (count reads : ℕ) (e : SessionError)
-    → Serves s m source mid sink mid_sink held count reads → ReadsMore mid source' held held' → StopsWithin m after mid_sink sink' held' count e
-    → StopsAs s source source' sink sink' after e
-answering_stops s m after source mid source' sink mid_sink sink' held held' count reads e p more stops =
+    → Serves s m source mid sink mid_sink held count reads → ReadsMore mid source' held held' → ReadsOnce mid source'
+    → StopsWithin m after mid_sink sink' held' count e → StopsAs s source source' sink sink' after e
+answering_stops s m after source mid source' sink mid_sink sink' held held' count reads e p more once stops =
     let now = more_held s m source mid source' sink mid_sink held held' count reads p more in
     let front = front_then s m stops.before sink mid_sink stops.sink_before now.input held' stops.rest 0 count stops.index now.front stops.front in
-    stops_at s stops.before after source source' sink stops.sink_before sink' now.input stops.rest stops.index e now.leaves front stops.stops
+    stops_at s stops.before after source source' sink stops.sink_before sink' now.input stops.rest stops.index e now.leaves front stops.stops once.1
+
+-- so many frames were answered that their number goes no further
+pub frames_out : (s m after : State) (source mid source' : SourceState) (sink mid_sink sink' : SinkState) (held held' rest : List ℕ) (count index reads : ℕ)
+    → Serves s m source mid sink mid_sink held count reads → ReadsMore mid source' held held' → ReadsOnce mid source'
+    → AnswersFront m after mid_sink sink' held' rest count index → IsIncomplete rest → StopsAs s source source' sink sink' after OutOfMemory
+frames_out s m after source mid source' sink mid_sink sink' held held' rest count index reads p more once front incomplete =
+    let now = more_held s m source mid source' sink mid_sink held held' count reads p more in
+    let all = front_then s m after sink mid_sink sink' now.input held' rest 0 count index now.front front in
+    (session_of s after source source' sink sink' now.input rest index now.leaves all, once.1, inl incomplete)
 
 pub if_err : {T E : Type 0} (P Q : E → Type 0) (r : Result T E) → ((e : E) → P e → Q e) → IfErr r P → IfErr r Q
 if_err P Q (Ok x) f p = p

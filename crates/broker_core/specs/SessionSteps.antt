@@ -1,15 +1,20 @@
 -- A session step by step: what one read did, and what became of the frames that are held. Words of private clauses.
-use Rattle.std.specs.Prelude.{◌≡◌, ℕ, ◌+◌, ◌<◌, ◌≤◌, true, List, [], length, ⊤}
+use Rattle.std.specs.Prelude.{◌≡◌, ℕ, ◌+◌, ◌<◌, ◌^◌, true, false, List, [], length, ⊤}
 use Rattle.std.specs.Io.KnownBytes.{Consumes, Keeps, Appends, IsAtEnd}
-use Rattle.streams.specs.State.{SourceState, SinkState, MovesPiece, LosesRest}
+use Rattle.streams.specs.State.{SourceState, SinkState, counted, MovesPiece, LosesRest}
 use Rattle.request_frames.specs.Frames.{IsIncomplete, IsFirstFrame, SizeFault}
 use Rattle.request_frames.specs.Requests.{IsRefused}
 use Rattle.broker_core.specs.declared.session.SessionError.{SessionError}
 use Rattle.broker_core.specs.declared.session.SessionError.TheVariants.{Frame, Read, Write, OutOfMemory}
 use Rattle.broker_core.specs.State.{State}
 use Rattle.broker_core.specs.Streams.{IsAnswered, Answered, RefusesNext}
+use Rattle.broker_core.specs.Sessions.{HasNoBadSize}
 
 -- ---- reads
+
+-- one read was made, and it didn't fail
+abbrev pub ReadsOnce : (source source' : SourceState) → Type 0
+ReadsOnce source source' = (source'.reads ≡ counted source.reads 1) × (source'.failed ≡ false)
 
 -- Some bytes left the source, and stand behind those that were held; or it is at its end, and what is held stays.
 abbrev pub ReadsMore : (source source' : SourceState) (held held' : List ℕ) → Type 0
@@ -23,7 +28,7 @@ ReadsEnd source source' held held' =
 -- why no read was made, or the one that was made gave nothing
 abbrev pub StopsReading : (source source' : SourceState) → SessionError → Type 0
 StopsReading source source' Read = Keeps source.left source'.left × (source'.failed ≡ true)
-StopsReading source source' OutOfMemory = Keeps source.left source'.left
+StopsReading source source' OutOfMemory = (source' ≡ source) × (source'.failed ≡ false)
 StopsReading source source' _ = ⊥
 
 -- ---- one frame
@@ -31,7 +36,7 @@ StopsReading source source' _ = ⊥
 -- why the first frame that is held, which has the number `index`, is not taken
 abbrev pub StopsTaking : (held : List ℕ) (index : ℕ) → SessionError → Type 0
 StopsTaking held index (Frame n why) = (n ≡ index) × SizeFault why held
-StopsTaking held index OutOfMemory = ⊤
+StopsTaking held index OutOfMemory = (frame rest : List ℕ) × IsFirstFrame frame held rest
 StopsTaking held index _ = ⊥
 
 -- why a frame, which has the number `index`, is not handled
@@ -64,7 +69,7 @@ abbrev pub StopsNext : (s after : State) (sink sink' : SinkState) (held : List �
 StopsNext s after sink sink' held count (Frame index why) = (after ≡ s) × (sink' ≡ sink) × (index ≡ count) × RefusesNext why held
 StopsNext s after sink sink' held count Read = ⊥
 StopsNext s after sink sink' held count Write = CutsFirst s after sink sink' held × (sink'.failed ≡ true)
-StopsNext s after sink sink' held count OutOfMemory = (after ≡ s) × (sink' ≡ sink)
+StopsNext s after sink sink' held count OutOfMemory = (after ≡ s) × (sink' ≡ sink) × HasNoBadSize held
 
 -- some of the frames that are held are answered, and then the session stops
 pub record StopsWithin (s after : State) (sink sink' : SinkState) (held : List ℕ) (count : ℕ) (e : SessionError) : Type 0 where
@@ -77,10 +82,12 @@ pub record StopsWithin (s after : State) (sink sink' : SinkState) (held : List �
 
 -- ---- the whole session
 
--- What was read so far, in so many reads, is answered but for an incomplete frame, which is held.
+-- What was read so far, in so many reads, is answered but for an incomplete frame, which is held. It is fewer than 2^63
+-- frames.
 pub record Serves (s after : State) (source source' : SourceState) (sink sink' : SinkState) (held : List ℕ) (count reads : ℕ) : Type 0 where
   pub input : List ℕ
   pub leaves : Consumes source.left source'.left input
   pub front : AnswersFront s after sink sink' input held 0 count
   pub incomplete : IsIncomplete held
-  pub gives : reads ≤ length input
+  pub few : count < 2 ^ 63
+  pub counts : source'.reads ≡ counted source.reads reads

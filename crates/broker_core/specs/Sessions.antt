@@ -1,9 +1,9 @@
 -- What a session does: how it ends at the end of its input, and how it stops before. Kafka's documentation, "Protocol
 -- Guide", section "Network". That a broker stops at the first frame that it refuses is this project's own.
-use Rattle.std.specs.Prelude.{◌≡◌, ◌⊎◌, ℕ, ◌<◌, ◌≤◌, ◌^◌, true, List, [], ◌∷◌, ◌++◌, length}
+use Rattle.std.specs.Prelude.{◌≡◌, ◌⊎◌, ℕ, ◌<◌, ◌^◌, true, false, List, [], ◌∷◌, ◌++◌, length}
 use Rattle.std.specs.Io.KnownBytes.{Consumes, Appends, IsAtEnd}
-use Rattle.streams.specs.State.{SourceState, SinkState}
-use Rattle.request_frames.specs.Frames.{IsFrames, IsIncomplete}
+use Rattle.streams.specs.State.{SourceState, SinkState, counted}
+use Rattle.request_frames.specs.Frames.{IsFrames, IsFirstFrame, IsIncomplete}
 use Rattle.broker_core.specs.declared.session.Ended.{Ended}
 use Rattle.broker_core.specs.declared.session.SessionError.{SessionError}
 use Rattle.broker_core.specs.declared.session.SessionError.TheVariants.{Frame, Read, Write, OutOfMemory}
@@ -24,18 +24,22 @@ pub record Session (s : State) (source source' : SourceState) (sink sink' : Sink
   pub moves : Moves source source' sink sink' input output
   pub answers : Answered s input output after frames rest
 
--- The input came to its end, and no complete frame is left.
+-- The input came to its end without a failed read, and no complete frame is left.
 pub record EndsAs (s : State) (source source' : SourceState) (sink sink' : SinkState) (after : State) (ended : Ended) : Type 0 where
   pub session : Session s source source' sink sink' after
   pub at_end : IsAtEnd source'.left
+  pub has_not_failed : source'.failed ≡ false
   pub incomplete : IsIncomplete session.rest
   pub frames : ended.frames ≡ length session.frames
   pub rest : ended.rest ≡ length session.rest
 
--- The source has failed, or it was read 2^32 times. Each of these reads gave a byte at least, and this is what is seen of
--- them.
-abbrev pub IsReadOut : SourceState → (input : List ℕ) → Type 0
-IsReadOut source input = (source.failed ≡ true) ⊎ (2 ^ 32 ≤ length input)
+-- the source has failed, or 2^32 reads of it were made
+abbrev pub IsReadOut : (source source' : SourceState) → Type 0
+IsReadOut source source' = (source'.failed ≡ true) ⊎ (source'.reads ≡ counted source.reads (2 ^ 32))
+
+-- what is left is an incomplete frame, or begins with a whole one: its size, if it is there, is none that is refused
+abbrev pub HasNoBadSize : (rest : List ℕ) → Type 0
+HasNoBadSize rest = IsIncomplete rest ⊎ (frame more : List ℕ) × IsFirstFrame frame rest more
 
 -- The reply to one more frame was cut: the sink took the front of it, and the rest is lost, at least one byte.
 pub record CutReply (s : State) (source source' : SourceState) (sink sink' : SinkState) (after : State) : Type 0 where
@@ -58,6 +62,7 @@ abbrev pub StopsAs : State → (source source' : SourceState) (sink sink' : Sink
 StopsAs s source source' sink sink' after (Frame index why) =
     (session : Session s source source' sink sink' after) × (index ≡ length session.frames) × RefusesNext why session.rest
 StopsAs s source source' sink sink' after Read =
-    (session : Session s source source' sink sink' after) × IsIncomplete session.rest × IsReadOut source' session.input
+    (session : Session s source source' sink sink' after) × IsIncomplete session.rest × IsReadOut source source'
 StopsAs s source source' sink sink' after Write = CutReply s source source' sink sink' after × (sink'.failed ≡ true)
-StopsAs s source source' sink sink' after OutOfMemory = Session s source source' sink sink' after
+StopsAs s source source' sink sink' after OutOfMemory =
+    (session : Session s source source' sink sink' after) × (source'.failed ≡ false) × HasNoBadSize session.rest

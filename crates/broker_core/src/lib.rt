@@ -4,7 +4,8 @@
 //! A broker's state is its configuration and the content of each partition of its topics. A reply is
 //! a function of the state and the request: the bytes of one response or none, and the state after.
 //! Where memory runs out within one partition, that partition is answered with a storage error and is
-//! as it was. `examples` works replies out, byte for byte.
+//! as it was. `examples` works replies out, byte for byte. [`Cluster`], one partition with all its copies,
+//! stands in a crate of its own and is handed on.
 //!
 //! Terms: *entry*, what a request says of one partition; *work*, the checks of an entry in their order,
 //! what is done where all pass, and what is answered where one fails.
@@ -34,6 +35,7 @@ mod receiving;
 mod room;
 mod session;
 
+pub use cluster::{Cluster, ClusterError, Event, EventError, MAX_COPIES, Outcome};
 pub use codes::ErrorCode;
 pub use config::{Config, Role, TopicConfig};
 pub use error::ConfigError;

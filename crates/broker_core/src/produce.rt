@@ -1,6 +1,6 @@
 //! The response to a Produce request, and what it changes.
 
-ghost use Rattle.std.specs.Prelude.{◌≡◌, ◌≤◌, ◌+◌, ◌++◌, length, IfOk, IfSome, OnErr};
+ghost use Rattle.std.specs.Prelude.{◌≡◌, ◌≤◌, ◌+◌, ◌^◌, ◌++◌, length, IfOk, IfSome, IfNone, OnErr};
 ghost use Rattle.std.specs.Vec.{vec_len, vec_capacity};
 ghost use Rattle.request_frames.specs.Arrays.{values};
 ghost use Rattle.request_frames.specs.Types.{topic};
@@ -36,7 +36,8 @@ fn topic_room<'a>(topic: &Topic<'a, ProducePartition<'a>>) -> usize
 
 /// How many bytes the response has; `None` of more than there are addresses.
 fn produce_room(request: &ProduceRequest<'_>) -> Option<usize>
-    ensures { IfSome result (λ room. room ≡ produce_room request.now) }
+    ensures room { IfSome result (λ room. room ≡ produce_room request.now) }
+    ensures too_large { IfNone result (2 ^ 64 ≤ produce_room request.now) }
 {
     let mut room = RESPONSE_HEAD_BYTES + COUNT_BYTES + PRODUCE_TAIL_BYTES;
     for topic in request.topics.duplicate() {

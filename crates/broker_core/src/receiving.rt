@@ -2,7 +2,7 @@
 
 ghost use Rattle.std.specs.Prelude.{◌≡◌, ◌^◌, ◌<◌, length, MatchBool, IfOk, IfErr, OnOk, OnErr};
 ghost use Rattle.std.specs.Io.KnownBytes.{Keeps};
-ghost use Rattle.broker_core.specs.SessionSteps.{ReadsMore, ReadsEnd, StopsReading};
+ghost use Rattle.broker_core.specs.SessionSteps.{ReadsOnce, ReadsMore, ReadsEnd, StopsReading};
 
 use crate::session::SessionError;
 use bytes::BytesMut;
@@ -57,6 +57,7 @@ pub(crate) fn read_more<R: Read, A: Allocator + Copy>(
     ensures reads { IfOk result (λ more. MatchBool more
         (ReadsMore source.old source.new buffer.old.items buffer.new.items)
         (ReadsEnd source.old source.new buffer.old.items buffer.new.items)) }
+    ensures reads_once { OnOk result (ReadsOnce source.old source.new) }
     ensures bound { OnOk result (length buffer.new.items < 2 ^ 63) }
     ensures stops { IfErr result (StopsReading source.old source.new) }
 {

@@ -35,7 +35,8 @@ pub enum SessionError {
     /// A write failed.
     #[error("write failed")]
     Write,
-    /// There is no memory for a frame, for what is read, or for a response.
+    /// There is no memory for a frame, for what is read, or for a response; or 2^63 frames were
+    /// answered. No read failed, and the next frame's size isn't refused.
     #[error("out of memory")]
     OutOfMemory,
 }
@@ -43,9 +44,8 @@ pub enum SessionError {
 /// The most reads of one session.
 const MOST_READS: u64 = 4_294_967_296;
 
-/// No read is made once so many frames were answered: then their number can't overflow while those
-/// that are held are answered, each of at least 4 bytes. So many frames came in more bytes than
-/// `MOST_READS`, and stopping there says no more of them than stopping at the last read.
+/// A session goes no further once so many frames were answered, so that their number can't overflow
+/// while those that are held are answered. No input reaches it.
 const MOST_FRAMES: u64 = 9_223_372_036_854_775_808;
 
 /// Answers the frames that come from the source, in order, each as soon as it is complete. Each
@@ -91,14 +91,14 @@ pub fn serve<S: BatchStore, R: Read, W: Write, A: Allocator + Copy>(
     let mut out = Vec::new(alloc);
     let mut frames = 0;
     for _ in 0..MOST_READS {
-        if frames >= MOST_FRAMES {
-            return Err(SessionError::Read);
-        }
         if !read_more(source, &mut buffer)? {
             let rest = buffer.len();
             return Ok(Ended { frames, rest });
         }
         frames = answer_frames(node, &mut buffer, frames, sink, &mut out)?;
+        if frames >= MOST_FRAMES {
+            return Err(SessionError::OutOfMemory);
+        }
     }
     Err(SessionError::Read)
 }

@@ -1,16 +1,12 @@
 -- What each event makes of the world of the copies.
-use Rattle.std.proofs.Common.{◌≡◌, ℕ, zero, suc, ◌+◌, ◌<◌, ℤ, pos, ◌+ℤ◌, Bool, ◌⊎◌, inl, inr, Result, Ok, Err, List, [], ◌∷◌, ◌++◌, length, get_or, set, Option, Some, None, refl, sym, ap, subst, ◌∙◌, cond, arith, true, false, true≢false}
+use Rattle.std.proofs.Common.{◌≡◌, ℕ, zero, suc, ◌+◌, ◌<◌, ℤ, pos, ◌+ℤ◌, Bool, ◌⊎◌, inl, inr, Result, Ok, Err, List, [], ◌∷◌, length, get_or, set, Some, None, refl, sym, ap, subst, ◌∙◌, cond, arith, true, false, true≢false}
 use Rattle.std.specs.Prelude.{slice_get, ◌↔◌}
-use Rattle.std.specs.List.{AllByRecursion}
 use Rattle.batch_codec.specs.Values.{BatchValue}
 use Rattle.batch_codec.specs.Offsets.{first_offset, IsWhole, HasKeys}
-use Rattle.content.specs.declared.delivery.DeliverError.{DeliverError}
-use Rattle.content.specs.declared.delivery.DeliverError.TheVariants as refused
 use Rattle.content.specs.declared.delivery.Delivered.{Delivered}
 use Rattle.content.specs.declared.delivery.Delivered.TheVariants.{Repeat}
 use Rattle.content.specs.ByOffset.{look_up, Rises}
 use Rattle.content.specs.Content.{Content, IsContent, IsLogBatch, IsInRange, HasSeenNone, has_seen_all, with_batch, add}
-use Rattle.content.specs.Deliveries.{Refuses}
 use Rattle.content.specs.Logs.{IsPlainLog}
 use Rattle.content.specs.Copies.{IsCopy}
 use Rattle.content_laws.proofs.ContentSteps.{content_with_batch, content_add}
@@ -24,9 +20,10 @@ use Rattle.cluster.specs.declared.event.Outcome.TheVariants as outcome
 use Rattle.cluster.specs.declared.event.EventError.{EventError}
 use Rattle.cluster.specs.declared.event.EventError.TheVariants.{NoCopy, LeaderCopy, NoBatch, NoImage, BadBatch, Extra, Append, OutOfMemory}
 use Rattle.cluster.specs.Worlds.{World, copy_at, with_copy}
-use Rattle.cluster.specs.Events.{IsFollower, Delivers, DeliversTo}
+use Rattle.cluster.specs.Events.{IsFollower, Delivers}
+use Rattle.cluster.specs.Parts.{DeliversTo}
 use Rattle.cluster.specs.Headline.{IsCopyOf, IsConsistent}
-use Rattle.cluster.proofs.WorldSteps.{all_get, copy_is, after_change}
+use Rattle.cluster.proofs.WorldSteps.{copy_is, after_change, start_of_add}
 
 -- ---- a delivery
 
@@ -60,7 +57,7 @@ module _ (c : Content) (b : BatchValue) (log : List BatchValue) (plain : IsPlain
   never_out_of_range not = not.2 is_log_batch.in_range
 
   pub added_copy : IsCopyOf log (add c b)
-  added_copy = (content_add c b copy.0 is_log_batch (all_or_none c log copy.0 plain copy.1 b there), copy_of_add c b log copy.0 plain copy.1 there)
+  added_copy = (content_add c b copy.0 is_log_batch (all_or_none c log copy.0 plain copy.1 b there), copy_of_add c b log copy.0 plain copy.1 there, start_of_add c b copy.2)
 
 -- a batch of a log is found by its base offset
 on_log_from : (low : ℤ) (log : List BatchValue) (i : ℕ) (b : BatchValue) → Rises first_offset low log → slice_get log i ≡ Some b → look_up first_offset (first_offset b) log ≡ Some b
@@ -136,7 +133,7 @@ module _ (w : World) (is : IsConsistent w) (copy i batch : ℕ) (c : Content) (n
     where
       by : WasDelivered b after r → Delivers w copy batch (changed after) r
       by (inl is_ok) = subst (Delivers w copy batch (changed after)) (sym is_ok.1) (c, b, is_follower, at, changed_is after ∙ ap (λ x. with_copy copy x w) is_ok.2, is_ok.3)
-      by (inr is_err) = subst (Delivers w copy batch (changed after)) (sym is_err.0) (tt, unchanged_is after is_err.1)
+      by (inr is_err) = subst (Delivers w copy batch (changed after)) (sym is_err.0) ((c, b, is_follower, at), unchanged_is after is_err.1)
 
 -- the same, as code finds the copy and the batch
 pub after_delivery : (W w : World) (copy i batch : ℕ) (c after : Content) (b : BatchValue) (archive : List BatchValue) (r : Result Outcome EventError) → W ≡ w → IsConsistent W

@@ -1,5 +1,5 @@
 -- What a consistent world shows.
-use Rattle.std.proofs.Common.{◌≡◌, refl, sym, ap, ◌∙◌}
+use Rattle.std.proofs.Common.{sym, ap, ◌∙◌}
 use Rattle.cover_ranges.specs.Runs.{Runs, covers}
 use Rattle.content.specs.Records.{log_records}
 use Rattle.content.specs.Table.{table_within}
@@ -9,7 +9,8 @@ use Rattle.content_laws.proofs.JoinLaws.{join_self, join_assoc, join_comm_agree}
 use Rattle.content_laws.proofs.LeaderCopies.{leader_window}
 use Rattle.cluster.specs.Worlds.{World}
 use Rattle.cluster.specs.Headline.{IsCopyOf, IsConsistent, ShowsLog, MergeAlike, Headline}
-use Rattle.cluster.proofs.WorldSteps.{held_is, copies_merge}
+use Rattle.content.specs.Joins.{join}
+use Rattle.cluster.proofs.WorldSteps.{held_is, copies_merge, merged_copy}
 
 pub headline_of : (w : World) → IsConsistent w → Headline w
 headline_of w is = record {
@@ -19,6 +20,8 @@ headline_of w is = record {
   tables = λ c held. shows c (held_is w is c held);
   idempotent = λ a held. join_self a (held_is w is a held).0;
   alike = λ a b left right. alike a b (held_is w is a left) (held_is w is b right);
+  merged = λ a b left right. merged_copy w is a b (held_is w is a left) (held_is w is b right);
+  accepted = λ a b c one two three. copies_merge w is (join a b) c (merged_copy w is a b (held_is w is a one) (held_is w is b two)) (held_is w is c three);
   associative = λ a b c one two three. join_assoc a b c (held_is w is a one).0 (held_is w is b two).0 (held_is w is c three).0;
 }
   where

@@ -1,5 +1,5 @@
 -- What sending and merging an image make of the world.
-use Rattle.std.proofs.Common.{◌≡◌, ℕ, zero, suc, ◌+◌, ◌<◌, ◌≤◌, ℤ, pos, inl, inr, ◌⊎◌, Result, Ok, Err, List, [], ◌∷◌, ◌++◌, length, get_or, set, Option, Some, None, refl, sym, ap, subst, ◌∙◌, arith}
+use Rattle.std.proofs.Common.{◌≡◌, ℕ, zero, suc, ◌+◌, ◌<◌, ◌≤◌, pos, inl, inr, ◌⊎◌, Result, Ok, Err, List, [], ◌∷◌, ◌++◌, length, get_or, set, Some, None, refl, sym, ap, subst, ◌∙◌, arith}
 use Rattle.std.specs.Prelude.{slice_get, replicate}
 use Rattle.std.specs.List.{AllByRecursion}
 use Rattle.std.proofs.lemmas.Int.{ints}
@@ -10,7 +10,7 @@ use Rattle.content.specs.Logs.{IsPlainLog}
 use Rattle.content.specs.Copies.{IsCopy}
 use Rattle.copy_images.specs.Images.{image_of, IsImage}
 use Rattle.copy_images.specs.declared.layout.TheConstants.{MAX_COUNT}
-use Rattle.cluster.specs.Worlds.{World, copy_at, with_copy, with_image_of}
+use Rattle.cluster.specs.Worlds.{World, copy_at, with_copy}
 use Rattle.cluster.specs.Headline.{IsCopyOf, IsConsistent}
 use Rattle.cluster.specs.Events.{IsFollower, Merges}
 use Rattle.cluster.specs.Parts.{MergesImage}
@@ -20,6 +20,9 @@ use Rattle.cluster.specs.declared.event.EventError.{EventError}
 use Rattle.cluster.specs.declared.event.EventError.TheVariants.{NoCopy, LeaderCopy, NoBatch, NoImage, BadBatch, Extra, Append, OutOfMemory}
 use Rattle.cluster.proofs.EventSteps.{at_index, a_follower, is_follower, follower_copy, changed, changed_is, unchanged_is}
 use Rattle.cluster.proofs.WorldSteps.{copy_is, image_is, after_image, after_change, merged_copy, copies_merge}
+
+pub sent_image : (c : Content) → IsContent c → c.start ≡ pos 0 → length c.cover ≤ MAX_COUNT → length c.kept ≤ MAX_COUNT → IsImage (image_of c) c
+sent_image c content start few_ranges few_batches = record { content = content; start = start; ranges = few_ranges; batches = few_batches; encoded = refl }
 
 pub after_sent : (W w : World) (copy : ℕ) (c : Content) (bytes : List ℕ) (images : List (List ℕ)) → W ≡ w → IsConsistent W → copy_at w copy ≡ Some c → c.start ≡ pos 0
     → length c.cover ≤ MAX_COUNT → length c.kept ≤ MAX_COUNT → bytes ≡ image_of c → images ≡ W.images ++ bytes ∷ [] → IsConsistent (record W { images = images })
@@ -36,13 +39,13 @@ new_consistent log leader followers images n no_log no_leader no_followers no_im
     subst IsConsistent (λ k. record { log = sym no_log k; leader = sym no_leader k; followers = sym no_followers k; images = sym no_images k }) (record {
       plain = tt;
       leads = record { copy = copy [] tt; whole = λ o. grind (arith, ints); legal = ([], tt) };
-      copies = ((content, copy [] tt), every n);
+      copies = ((content, copy [] tt, refl), every n);
       images = tt;
     })
   where
     every : (m : ℕ) → AllByRecursion (IsCopyOf []) (replicate m empty)
     every zero = tt
-    every (suc m) = ((content, copy [] tt), every m)
+    every (suc m) = ((content, copy [] tt, refl), every m)
 
 -- ---- a merge
 
@@ -87,7 +90,7 @@ module _ (w : World) (is : IsConsistent w) (copy i image : ℕ) (c : Content) (n
           )
       by (inr (is_err, same)) =
           let unchanged = unchanged_is w is copy i 0 c number there after same in
-          (subst IsConsistent (sym unchanged) is, subst (Merges w copy image (changed w is copy i 0 c number there after)) (sym is_err) (tt, unchanged))
+          (subst IsConsistent (sym unchanged) is, subst (Merges w copy image (changed w is copy i 0 c number there after)) (sym is_err) ((c, bytes, follows, at), unchanged))
 
 -- the same, as code finds the copy and the image
 pub after_merge : (W w : World) (copy i image : ℕ) (c after : Content) (bytes : List ℕ) (images : List (List ℕ)) (r : Result Outcome EventError) → W ≡ w → IsConsistent W

@@ -14,7 +14,7 @@ use Rattle.content.specs.Content.{Content, add, has_seen_all}
 use Rattle.content.specs.Cleaning.{clean, clean_report}
 use Rattle.content.specs.Joins.{join}
 use Rattle.content.specs.Logs.{next_offset}
-use Rattle.copy_images.specs.Images.{IsImage}
+use Rattle.copy_images.specs.Images.{IsImage, image_of}
 use Rattle.partition_log.specs.Appends.{IsProducerValid, IsSendable}
 use Rattle.partition_log.specs.declared.leader.AppendError.{AppendError}
 use Rattle.partition_log.specs.declared.leader.AppendError.TheVariants as append
@@ -66,7 +66,7 @@ RefusesBytes w bytes (BadBatch fault) = FirstFault fault bytes
 RefusesBytes w bytes Extra =
     (b : BatchValue) × StartsWith b bytes × (length (batch_encoding b) < length bytes)
 RefusesBytes w bytes (Append why) = (b : BatchValue) × IsBatch bytes b × RefusesBatch w b why
-RefusesBytes w bytes OutOfMemory = Unit {0}
+RefusesBytes w bytes OutOfMemory = (b : BatchValue) × IsBatch bytes b
 RefusesBytes w bytes _ = ⊥
 
 -- ---- the events, each with its outcome or the first fault in the order of the checks; any may lack memory
@@ -88,14 +88,9 @@ RefusesFollower w copy _ = ⊥
 
 abbrev pub RefusesDelivery : World → (copy batch : ℕ) → EventError → Type 0
 RefusesDelivery w copy batch NoBatch = (c : Content) × IsFollower w copy c × (slice_get w.log batch ≡ None)
-RefusesDelivery w copy batch OutOfMemory = Unit {0}
+RefusesDelivery w copy batch OutOfMemory =
+    (c : Content) × (b : BatchValue) × IsFollower w copy c × (slice_get w.log batch ≡ Some b)
 RefusesDelivery w copy batch error = RefusesFollower w copy error
-
--- what a delivery makes of one copy
-abbrev pub DeliversTo : Content → BatchValue → Content → Result Outcome EventError → Type 0
-DeliversTo c b after (Ok (Delivered delivered)) = (after ≡ add c b) × ((delivered ≡ Repeat) ↔ (has_seen_all c b ≡ true))
-DeliversTo c b after (Err OutOfMemory) = after ≡ c
-DeliversTo c b after _ = ⊥
 
 abbrev pub Delivers : World → (copy batch : ℕ) → World → Result Outcome EventError → Type 0
 Delivers w copy batch after (Ok (Delivered delivered)) =
@@ -107,7 +102,7 @@ Delivers w copy batch after (Err error) = RefusesDelivery w copy batch error × 
 -- a cleaning and a sending are refused where there is no such copy
 abbrev pub RefusesCopy : World → (copy : ℕ) → EventError → Type 0
 RefusesCopy w copy NoCopy = copy_at w copy ≡ None
-RefusesCopy w copy OutOfMemory = Unit {0}
+RefusesCopy w copy OutOfMemory = (c : Content) × (copy_at w copy ≡ Some c)
 RefusesCopy w copy _ = ⊥
 
 abbrev pub Cleans : World → (copy : ℕ) (upto tomb_before : ℤ) → World → Result Outcome EventError → Type 0
@@ -119,13 +114,14 @@ Cleans w copy upto tomb_before after (Err error) = RefusesCopy w copy error × (
 
 abbrev pub Sends : World → (copy : ℕ) → World → Result Outcome EventError → Type 0
 Sends w copy after (Ok (Sent image)) =
-    (c : Content) × (copy_at w copy ≡ Some c) × (after ≡ with_image_of c w) × (image ≡ length w.images)
+    (c : Content) × (copy_at w copy ≡ Some c) × IsImage (image_of c) c × (after ≡ with_image_of c w) × (image ≡ length w.images)
 Sends w copy after (Ok _) = ⊥
 Sends w copy after (Err error) = RefusesCopy w copy error × (after ≡ w)
 
 abbrev pub RefusesMerge : World → (copy image : ℕ) → EventError → Type 0
 RefusesMerge w copy image NoImage = (c : Content) × IsFollower w copy c × (slice_get w.images image ≡ None)
-RefusesMerge w copy image OutOfMemory = Unit {0}
+RefusesMerge w copy image OutOfMemory =
+    (c : Content) × (bytes : List ℕ) × IsFollower w copy c × (slice_get w.images image ≡ Some bytes)
 RefusesMerge w copy image error = RefusesFollower w copy error
 
 abbrev pub Merges : World → (copy image : ℕ) → World → Result Outcome EventError → Type 0

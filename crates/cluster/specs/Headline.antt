@@ -16,7 +16,7 @@ use Rattle.copy_images.specs.Images.{IsImage}
 use Rattle.cluster.specs.Worlds.{World, copy_at}
 
 abbrev pub IsCopyOf : List BatchValue → Content → Type 0
-IsCopyOf log c = IsContent c × IsCopy c log
+IsCopyOf log c = IsContent c × IsCopy c log × (c.start ≡ pos 0)
 
 -- bytes that are the image of a copy of the log
 abbrev pub IsImageOfCopy : List BatchValue → List ℕ → Type 0
@@ -56,5 +56,8 @@ pub record Headline (w : World) : Type 0 where
   -- merging
   pub idempotent : (a : Content) → IsHeld w a → join a a ≡ a
   pub alike : (a b : Content) → IsHeld w a → IsHeld w b → MergeAlike a b
+  -- and what is merged is a copy of the log, so that a third can be merged with it
+  pub merged : (a b : Content) → IsHeld w a → IsHeld w b → IsCopyOf w.log (join a b)
+  pub accepted : (a b c : Content) → IsHeld w a → IsHeld w b → IsHeld w c → Agree (join a b) c
   pub associative : (a b c : Content) → IsHeld w a → IsHeld w b → IsHeld w c
       → join (join a b) c ≡ join a (join b c)

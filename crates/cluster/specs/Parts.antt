@@ -1,17 +1,18 @@
 -- Words of private clauses: what an event makes of the parts of a cluster.
-use Rattle.std.specs.Prelude.{◌≡◌, ◌≢◌, ℕ, true, false, List, [], ◌∷◌, ◌++◌, Result, Ok, Err}
+use Rattle.std.specs.Prelude.{◌≡◌, ◌≢◌, ◌↔◌, ℕ, true, false, List, [], ◌∷◌, ◌++◌, Result, Ok, Err}
 use Rattle.std.specs.declared.alloc.AllocError.{AllocError}
 use Rattle.batch_codec.specs.Values.{BatchValue}
 use Rattle.content.specs.declared.report.CleanReport.{CleanReport}
 use Rattle.content.specs.declared.verdict.Verdict.TheVariants as verdict
-use Rattle.content.specs.Content.{Content, end, add}
+use Rattle.content.specs.declared.delivery.Delivered.TheVariants.{Repeat}
+use Rattle.content.specs.Content.{Content, end, add, has_seen_all}
 use Rattle.content.specs.Joins.{join}
 use Rattle.copy_images.specs.Images.{IsImage}
 use Rattle.partition_log.specs.Appends.{IsSendable, kept_verdict, at_end, HasOffsets, RefusesAppend}
 use Rattle.partition_log.specs.declared.leader.AppendError.{AppendError}
 use Rattle.partition_log.specs.declared.leader.AppendError.TheVariants as append
 use Rattle.cluster.specs.declared.event.Outcome.{Outcome}
-use Rattle.cluster.specs.declared.event.Outcome.TheVariants.{Based, Cleaned, Merged}
+use Rattle.cluster.specs.declared.event.Outcome.TheVariants.{Based, Delivered, Cleaned, Merged}
 use Rattle.cluster.specs.declared.event.EventError.{EventError}
 use Rattle.cluster.specs.declared.event.EventError.TheVariants.{Append, OutOfMemory}
 
@@ -43,3 +44,9 @@ abbrev pub MergesImage : Content → List ℕ → Content → Result Outcome Eve
 MergesImage c bytes after (Ok Merged) = (sent : Content) × IsImage bytes sent × (after ≡ join c sent)
 MergesImage c bytes after (Err OutOfMemory) = after ≡ c
 MergesImage c bytes after _ = ⊥
+
+-- what a delivery makes of one copy
+abbrev pub DeliversTo : Content → BatchValue → Content → Result Outcome EventError → Type 0
+DeliversTo c b after (Ok (Delivered delivered)) = (after ≡ add c b) × ((delivered ≡ Repeat) ↔ (has_seen_all c b ≡ true))
+DeliversTo c b after (Err OutOfMemory) = after ≡ c
+DeliversTo c b after _ = ⊥

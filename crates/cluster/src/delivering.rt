@@ -6,7 +6,8 @@ ghost use Rattle.batch_codec.specs.Offsets.{first_offset};
 ghost use Rattle.content.specs.ByOffset.{look_up};
 ghost use Rattle.content.specs.Logs.{IsPlainLog};
 ghost use Rattle.cluster.specs.Headline.{IsCopyOf};
-ghost use Rattle.cluster.specs.Events.{Delivers, DeliversTo, RefusesFollower};
+ghost use Rattle.cluster.specs.Events.{Delivers, RefusesFollower};
+ghost use Rattle.cluster.specs.Parts.{DeliversTo};
 
 use crate::archived::archived_at;
 use crate::cluster::Cluster;

@@ -45,6 +45,7 @@ fn merge_image<S: BatchStore>(
 
 impl<S: BatchStore> Cluster<S> {
     /// Sends an image of a copy.
+    #[tactic(auto, using(crate::proofs::ImageSteps::sent_image))]
     pub(crate) fn send(&mut self, copy: usize) -> Result<Outcome, EventError>
         ensures { Sends self.old copy self.new result }
     {
@@ -52,6 +53,7 @@ impl<S: BatchStore> Cluster<S> {
             return Err(EventError::NoCopy);
         };
         let _ = copy.start();
+        let _ = copy.end();
         let number = self.images.len();
         let Ok(image) = write_image(self.alloc, copy) else {
             return Err(EventError::OutOfMemory);

@@ -18,7 +18,7 @@ use Rattle.cover_ranges.proofs.RunsFrom.{RunsFrom, runs_lower, canonical_from}
 use Rattle.content.specs.ByOffset.{look_up}
 use Rattle.content.specs.Records.{IsKeepable}
 use Rattle.content.specs.Content.{IsInRange}
-use Rattle.copy_images.specs.Refusals.{IsNext, end_of}
+use Rattle.copy_images.specs.Refusals.{IsNext, end_of_batches}
 use Rattle.copy_images.specs.Judging.{ending_from, first_holds, HasContent, BatchesFault}
 use Rattle.copy_images.specs.declared.error.ImageError.TheVariants.{Outside}
 
@@ -150,7 +150,7 @@ nothing_yet ranges bytes canonical = record {
   list = record { disjoint = tt; in_range = tt; writable = tt };
 }
 
-pub one_batch : (ranges : Runs) (batches : Batches) (bytes rest : List ℕ) (b : BatchValue) (more : List ℕ) → HasContent ranges batches bytes rest → IsNext (end_of batches) b rest → CoversAll ranges (first_offset b) (last_offset b)
+pub one_batch : (ranges : Runs) (batches : Batches) (bytes rest : List ℕ) (b : BatchValue) (more : List ℕ) → HasContent ranges batches bytes rest → IsNext (end_of_batches batches) b rest → CoversAll ranges (first_offset b) (last_offset b)
     → rest ≡ batch_encoding b ++ more → HasContent ranges (batches ++ b ∷ []) bytes more
 one_batch ranges batches bytes rest b more has next all is = record {
   encoded =
@@ -183,7 +183,7 @@ pub record IsJudged (ranges : Runs) (bytes : List ℕ) (index : ℕ) (from : ℤ
   pub batches : Batches
   pub has : HasContent ranges batches bytes rest
   pub counted : length batches ≡ index
-  pub ends : from ≡ end_of batches
+  pub ends : from ≡ end_of_batches batches
   pub runs : RunsFrom (pos 0) left
   pub same : SameSpans from ranges left
 
@@ -212,7 +212,7 @@ pub judged_one : (ranges : Runs) (bytes : List ℕ) (index : ℕ) (from : ℤ) (
     → IsJudged ranges bytes (index + 1) (last_offset b +ℤ pos 1) (take (length rest - n) (drop n rest)) (ending_from (first_offset b) left)
 judged_one ranges bytes index from rest left b n canonical j next holds size =
     let delta : pos 0 ≤ℤ b.head.last_delta = next.starts.writable.valid.last_delta in
-    let next_here : IsNext (end_of j.batches) b rest = subst (λ (o : ℤ). IsNext o b rest) j.ends next in
+    let next_here : IsNext (end_of_batches j.batches) b rest = subst (λ (o : ℤ). IsNext o b rest) j.ends next in
     let all : CoversAll ranges (first_offset b) (last_offset b) = has_all_covers ranges (first_offset b) (last_offset b) (decided ranges bytes index from rest left b j next ∙ holds) in
     let behind : take (length rest - n) (drop n rest) ≡ next.starts.rest = take_rest rest n ∙ ap (drop n) next.starts.encoded ∙ drop_at (batch_encoding b) next.starts.rest n (sym size) in
     let is : rest ≡ batch_encoding b ++ take (length rest - n) (drop n rest) = next.starts.encoded ∙ ap (λ (x : List ℕ). batch_encoding b ++ x) (sym behind) in

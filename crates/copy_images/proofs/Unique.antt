@@ -23,7 +23,7 @@ use Rattle.content_laws.proofs.Slots.{bases_rise, kept_keepable}
 use Rattle.cleaner.specs.Given.{content_of}
 use Rattle.copy_images.specs.declared.error.ImageError.{ImageError}
 use Rattle.copy_images.specs.declared.error.ImageError.TheVariants.{BadBatch, Outside, Extra, OutOfMemory}
-use Rattle.copy_images.specs.Refusals.{HasFront, IsNext, end_of}
+use Rattle.copy_images.specs.Refusals.{HasFront, IsNext, end_of_batches}
 use Rattle.copy_images.specs.Judging.{ranges_of}
 use Rattle.copy_images.proofs.PartsAgain.{IsReadAs, front_again}
 use Rattle.copy_images.proofs.Kept.{Batches}
@@ -115,8 +115,8 @@ goes_on (x ∷ xs) (y ∷ ys) rest rest' v w le e =
 -- each way to end, with the refusal that it gives
 abbrev pub Ends : Runs → ℤ → Batches → List ℕ → ImageError → Type 0
 Ends ranges count batches rest error =
-    (((pos (length batches) <ℤ count) × ((b : BatchValue) → IsNext (end_of batches) b rest → ⊥)) × (error ≡ BadBatch (length batches)))
-    ⊎ (((b : BatchValue) × (pos (length batches) <ℤ count) × IsNext (end_of batches) b rest × ¬ CoversAll ranges (first_offset b) (last_offset b)) × (error ≡ Outside)
+    (((pos (length batches) <ℤ count) × ((b : BatchValue) → IsNext (end_of_batches batches) b rest → ⊥)) × (error ≡ BadBatch (length batches)))
+    ⊎ (((b : BatchValue) × (pos (length batches) <ℤ count) × IsNext (end_of_batches batches) b rest × ¬ CoversAll ranges (first_offset b) (last_offset b)) × (error ≡ Outside)
     ⊎ (((pos (length batches) ≡ count) × (0 < length rest)) × (error ≡ Extra) ⊎ ((pos (length batches) ≡ count) × (rest ≡ [])) × (error ≡ OutOfMemory)))
 
 pub record StopsFor (ranges : Runs) (count : ℤ) (bytes : List ℕ) (error : ImageError) : Type 0 where
@@ -127,7 +127,7 @@ pub record StopsFor (ranges : Runs) (count : ℤ) (bytes : List ℕ) (error : Im
   pub ends : Ends ranges count batches rest error
 
 -- it does not end where another batch stands next, whose span was seen
-does_not_end : (ranges : Runs) (count : ℤ) (batches : Batches) (rest : List ℕ) (error : ImageError) (b : BatchValue) → Ends ranges count batches rest error → pos (length batches) <ℤ count → IsNext (end_of batches) b rest → CoversAll ranges (first_offset b) (last_offset b) → ⊥
+does_not_end : (ranges : Runs) (count : ℤ) (batches : Batches) (rest : List ℕ) (error : ImageError) (b : BatchValue) → Ends ranges count batches rest error → pos (length batches) <ℤ count → IsNext (end_of_batches batches) b rest → CoversAll ranges (first_offset b) (last_offset b) → ⊥
 does_not_end ranges count batches rest error b (inl why) few next all = why.0.1 b next
 does_not_end ranges count batches rest error b (inr (inl why)) few next all =
     let same : b ≡ why.0.0 = (one_encoding b why.0.0 next.starts.rest why.0.2.starts.rest next.starts.writable why.0.2.starts.writable (sym next.starts.encoded ∙ why.0.2.starts.encoded)).0 in
@@ -157,10 +157,10 @@ not_shorter ranges count bytes e f s t less = by g.later g.is g.left
     by [] is left = omega (arith, less, ap length is, length-append s.batches [])
     by (b ∷ later) is left =
         let inside : IsInside ranges b = (all_after (IsInside ranges) s.batches (b ∷ later) (subst (AllByRecursion (IsInside ranges)) is inside_t)).0 in
-        let rises : end_of s.batches ≤ℤ first_offset b = rises_after (pos 0) s.batches b later (subst (SpansRise (pos 0)) is t.content.disjoint) in
+        let rises : end_of_batches s.batches ≤ℤ first_offset b = rises_after (pos 0) s.batches b later (subst (SpansRise (pos 0)) is t.content.disjoint) in
         let most = at_most ranges count t.batches t.rest f t.ends in
         let few : pos (length s.batches) <ℤ count = omega (arith, ints, less, most) in
-        let next : IsNext (end_of s.batches) b s.rest = record {
+        let next : IsNext (end_of_batches s.batches) b s.rest = record {
           starts = record { writable = inside.writable; rest = flat_map batch_encoding later ++ t.rest; encoded = left ∙ append_assoc (batch_encoding b) (flat_map batch_encoding later) t.rest };
           keys = inside.keys;
           in_range = inside.in_range;

@@ -12,7 +12,7 @@ use Rattle.cleaner.specs.Given.{content_of}
 use Rattle.segment.specs.BatchLists.{IsBatchList}
 use Rattle.copy_images.specs.declared.error.ImageError.{ImageError}
 use Rattle.copy_images.specs.declared.error.ImageError.TheVariants.{BadBatch, Outside, Extra}
-use Rattle.copy_images.specs.Refusals.{IsNext, end_of}
+use Rattle.copy_images.specs.Refusals.{IsNext, end_of_batches}
 
 -- ---- ranges
 
@@ -50,10 +50,10 @@ HoldsBatches ranges count bytes =
 abbrev pub BatchesFault : Runs → ℤ → List ℕ → ImageError → Type 0
 BatchesFault ranges count bytes (BadBatch i) =
     (batches : List BatchValue) × (rest : List ℕ) × HasContent ranges batches bytes rest
-    × (length batches ≡ i) × (pos i <ℤ count) × ((b : BatchValue) → IsNext (end_of batches) b rest → ⊥)
+    × (length batches ≡ i) × (pos i <ℤ count) × ((b : BatchValue) → IsNext (end_of_batches batches) b rest → ⊥)
 BatchesFault ranges count bytes Outside =
     (batches : List BatchValue) × (rest : List ℕ) × (b : BatchValue) × HasContent ranges batches bytes rest
-    × (pos (length batches) <ℤ count) × IsNext (end_of batches) b rest
+    × (pos (length batches) <ℤ count) × IsNext (end_of_batches batches) b rest
     × ¬ CoversAll ranges (first_offset b) (last_offset b)
 BatchesFault ranges count bytes Extra =
     (batches : List BatchValue) × (rest : List ℕ) × HasContent ranges batches bytes rest

@@ -60,8 +60,8 @@ pub record HasBatches (bytes : List ℕ) (ranges : Runs) (count : ℤ) (batches 
   pub content : IsContent (content_of ranges batches)
 
 -- the offset after the last batch; 0 where there is none
-abbrev pub end_of : List BatchValue → ℤ
-end_of batches = fold (λ _ b. last_offset b +ℤ pos 1) (pos 0) batches
+abbrev pub end_of_batches : List BatchValue → ℤ
+end_of_batches batches = fold (λ _ b. last_offset b +ℤ pos 1) (pos 0) batches
 
 -- The batch stands at the front of the bytes, and may follow batches that end before the offset `from`.
 pub record IsNext (from : ℤ) (b : BatchValue) (bytes : List ℕ) : Type 0 where
@@ -88,12 +88,12 @@ Refuses bytes (BadBatch i) =
     × HasFront bytes ranges count rest × IsCanonical ranges × (count <ℤ pos 0)))
     ⊎ ((ranges : Runs) × (count : ℤ) × (batches : List BatchValue) × (rest : List ℕ)
     × HasBatches bytes ranges count batches rest × (length batches ≡ i) × (pos i <ℤ count)
-    × ((b : BatchValue) → IsNext (end_of batches) b rest → ⊥))
+    × ((b : BatchValue) → IsNext (end_of_batches batches) b rest → ⊥))
 -- the first batches are valid, and the next is too, but that some offset of its span was not seen
 Refuses bytes Outside =
     (ranges : Runs) × (count : ℤ) × (batches : List BatchValue) × (rest : List ℕ) × (b : BatchValue)
     × HasBatches bytes ranges count batches rest × (pos (length batches) <ℤ count)
-    × IsNext (end_of batches) b rest × ¬ CoversAll ranges (first_offset b) (last_offset b)
+    × IsNext (end_of_batches batches) b rest × ¬ CoversAll ranges (first_offset b) (last_offset b)
 -- all batches are valid, and bytes follow them
 Refuses bytes Extra =
     (ranges : Runs) × (batches : List BatchValue) × (rest : List ℕ)

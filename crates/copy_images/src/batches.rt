@@ -1,6 +1,6 @@
 //! The batches of an image, judged where they stand in its bytes.
 
-ghost use Rattle.std.specs.Prelude.{◌≡◌, ◌≤ℤ◌, ◌<ℤ◌, ◌^◌, pos, ◌↔◌, IsTrue, OnOk, IfErr, MatchOption};
+ghost use Rattle.std.specs.Prelude.{◌≤ℤ◌, pos, ◌↔◌, IsTrue, OnOk, IfErr, MatchOption};
 ghost use Rattle.batch_codec.specs.Values.{BatchValue};
 ghost use Rattle.batch_codec.specs.Offsets.{first_offset, HasKeys};
 ghost use Rattle.content.specs.Content.{IsInRange};

@@ -3,12 +3,12 @@
 use thiserror::Error;
 
 /// Why bytes are not an image: the first fault in the order of the checks. That is the order of the
-/// variants, with three exceptions. A negative count of ranges is `BadCover`, and comes before the
-/// second `Short`, that ranges or the count of batches are missing. The batches are judged one after the
-/// other, each by `BadBatch` and then by `Outside`.
+/// variants, but that after `BadCrc` a negative count of ranges is judged first (`BadCover`), then
+/// whether the ranges are all there (`Short`), then the ranges. The batches are judged one after the
+/// other, each for `BadBatch` and then for `Outside`.
 #[derive(Clone, Copy, Debug, PartialEq, Eq, Error)]
 pub enum ImageError {
-    /// There are under 18 bytes, or fewer than the ranges and the count of batches take.
+    /// There are under 18 bytes, or fewer than the ranges, the count of batches and the crc take.
     #[error("Short")]
     Short,
     /// The first four bytes are not `KCPY`.

@@ -2,6 +2,11 @@
 //!
 //! [`write_image`] makes the image of a copy, and [`read_image`] makes the copy of an image. Each copy
 //! has one image, and bytes that are not an image are refused for the first fault that stands in them.
+//!
+//! ```
+//! let image = write_image(alloc, &copy)?;
+//! let same = read_image::<VecStore<_>>(alloc, &image)?;
+//! ```
 #![tactic(auto)]
 
 mod batches;

@@ -1,6 +1,6 @@
 //! The ranges of an image, judged where they stand in its bytes.
 
-ghost use Rattle.std.specs.Prelude.{◌≡◌, ◌≤ℤ◌, IfOk, MatchBool, map};
+ghost use Rattle.std.specs.Prelude.{◌≡◌, IfOk, MatchBool};
 ghost use Rattle.cover_ranges.specs.Runs.{IsCanonical};
 ghost use Rattle.copy_images.specs.Judging.{range_at, ranges_of, ending_from, first_holds};
 

@@ -95,7 +95,7 @@ fn put_crc<A: Allocator + Copy>(out: &mut Vec<u8, A>) -> Result<(), AllocError>
 ///
 /// # Errors
 ///
-/// Out of memory; so it is also of a copy with more than `MAX_COUNT` ranges, or as many batches.
+/// Out of memory; so it is also of a copy with more than `MAX_COUNT` ranges, or more batches than that.
 #[tactic(auto, unfolding(crate::specs::Images::front_of))]
 pub fn write_image<A: Allocator + Copy, S: BatchStore>(
     alloc: A,

@@ -1,8 +1,7 @@
 -- A merge of two copies that start at 0, by its parts.
 use Rattle.std.proofs.Common.{◌≡◌, ℤ, pos, Bool, true, false, ◌&&◌, ◌||◌, List, refl, sym, ap, subst, ◌∙◌, arith}
 use Rattle.std.specs.Prelude.{◌≤ℤ◌, int_le, Result, Ok, Err, OnOk}
-use Rattle.std.specs.Int.{int_max}
-use Rattle.std.proofs.lemmas.Int.{ints, clamps}
+use Rattle.std.proofs.lemmas.Int.{ints}
 use Rattle.batch_codec.specs.Values.{BatchValue}
 use Rattle.cover_ranges.specs.Runs.{Runs, IsCanonical, covers, union_of, cut_below}
 use Rattle.cover_ranges.proofs.Law.{equal_lists}

@@ -21,7 +21,7 @@ merged_next left right (Both x y) = Some (with_common_records x y)
 abbrev pub EndBefore : ℤ → List BatchValue → Type 0
 EndBefore o bs = AllByRecursion (λ b. (first_offset b <ℤ o) × (last_offset b <ℤ o)) bs
 
--- Turns and batches that come in, behind others. They make `made` of the next batch of the first list.
+-- Turns and batches that come in, behind others. They make `made` of the first list's next batch.
 pub record Adds (next made : Option BatchValue) (old_turns new_turns : List Turn)
     (old_more new_more : List BatchValue) : Type 0 where
   pub turns : List Turn
@@ -29,5 +29,6 @@ pub record Adds (next made : Option BatchValue) (old_turns new_turns : List Turn
   pub more_turns : new_turns ≡ old_turns ++ turns
   pub more_batches : new_more ≡ old_more ++ batches
   pub makes : (rest : List Turn) (xs ys : List BatchValue)
-      → woven (turns ++ rest) (cons_option next xs) (batches ++ ys) ≡ cons_option made (woven rest xs ys)
+      → woven (turns ++ rest) (cons_option next xs) (batches ++ ys)
+      ≡ cons_option made (woven rest xs ys)
   pub brings : AllByRecursion (λ b. made ≡ Some b) batches

@@ -41,7 +41,8 @@ WalkAlike (r ∷ rs) ss = ((s : RecordValue) → at_delta r.delta ss ≡ Some s 
 -- whether the second records have one at the delta of each of the first ones
 abbrev pub walk_has_all : List RecordValue → List RecordValue → Bool
 walk_has_all [] ss = true
-walk_has_all (r ∷ rs) ss = is_some (at_delta r.delta ss) && walk_has_all rs (behind_delta r.delta ss)
+walk_has_all (r ∷ rs) ss =
+    is_some (at_delta r.delta ss) && walk_has_all rs (behind_delta r.delta ss)
 
 -- those of the first records at whose deltas the second ones have one
 abbrev pub walk_common : List RecordValue → List RecordValue → List RecordValue

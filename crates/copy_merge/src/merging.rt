@@ -36,9 +36,9 @@ fn united<S: BatchStore>(
     Ok(merged)
 }
 
-/// Two copies of a partition merged into a third, in memory of its own: the offsets that either has
-/// seen. At each base offset, a batch that only one copy has seen is taken over; one that either has
-/// dropped is gone; and of one that both keep, the records stay that both have.
+/// Two copies of a partition merged into a third, in memory of its own. It has seen the offsets that
+/// either has seen. At each base offset, a batch that only one copy has seen is taken over; one that
+/// either has dropped is gone; and of one that both keep, the records stay that both have.
 ///
 /// ```
 /// let both = merge(&left, &right)?;
@@ -46,8 +46,8 @@ fn united<S: BatchStore>(
 ///
 /// # Errors
 ///
-/// The first that applies, in the order of the variants of [`MergeError`]. Whether the copies agree is
-/// found out without memory.
+/// The first that applies, in the order of the variants of [`MergeError`]. Whether the copies agree
+/// is found out without memory.
 pub fn merge<S: BatchStore>(
     a: &PartitionLog<S>,
     b: &PartitionLog<S>,

@@ -1,4 +1,5 @@
-//! Tests of sessions: requests in pieces, refused frames, failing streams, and failing allocations.
+//! Tests of sessions: requests in pieces, refused frames, failing streams, failing allocations, and a
+//! client that waits for each reply.
 #![tactic(auto)]
 
 #[cfg(test)]
@@ -9,3 +10,5 @@ mod producing;
 mod serving;
 #[cfg(test)]
 mod setting;
+#[cfg(test)]
+mod waiting;

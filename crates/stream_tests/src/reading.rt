@@ -76,6 +76,7 @@ fn reads_of_a_slice(rt: HostRuntime) -> std::result::Result<(), Fail> {
             assert_eq!(rt; answer, wanted, "{name}");
             assert_eq!(rt; source.failed(), fails, "{name}");
             assert_eq!(rt; source.get_ref().calls, call.saturating_add(1), "{name}");
+            assert_eq!(rt; source.reads(), source.get_ref().calls as u64, "{name}");
             if let Ok(given) = answer {
                 got.extend_from_slice(&buf[..given])?;
             }
@@ -109,6 +110,7 @@ fn reads_into_a_buffer(rt: HostRuntime) -> std::result::Result<(), Fail> {
             assert_eq!(rt; answer, wanted, "{name}");
             assert_eq!(rt; source.failed(), fails, "{name}");
             assert_eq!(rt; source.get_ref().calls, call.saturating_add(1), "{name}");
+            assert_eq!(rt; source.reads(), source.get_ref().calls as u64, "{name}");
             let mut whole = Vec::from_slice(rt.alloc(), buffer.as_slice())?;
             whole.extend_from_slice(source.get_ref().left)?;
             assert_eq!(rt; whole.as_slice(), b"old abc".as_slice(), "{name}");

@@ -1,11 +1,17 @@
 -- What is known of a source and of a sink, and what their calls do to it.
-use Rattle.std.specs.Prelude.{◌≡◌, ℕ, ◌<◌, Bool, List, ◌++◌, length, Option}
+use Rattle.std.specs.Prelude.{◌≡◌, ℕ, ◌+◌, ◌-◌, ◌^◌, ◌<◌, min, Bool, List, ◌++◌, length, Option}
 use Rattle.std.specs.Io.KnownBytes.{Consumes, Appends}
 
--- What a source's reader has left to give, where that is known, and whether a read has failed.
+-- What a source's reader has left to give, where that is known, how many reads were made, as far as they are counted,
+-- and whether one has failed.
 pub record SourceState : Type 0 where
   pub left : Option (List ℕ)
+  pub reads : ℕ
   pub failed : Bool
+
+-- a count of reads after so many more: it goes up to 2^64 - 1, and stays there
+abbrev pub counted : (reads more : ℕ) → ℕ
+counted reads more = reads + min more (2 ^ 64 - 1 - reads)
 
 -- What a sink's writer has taken, where that is known, and whether a write has failed.
 pub record SinkState : Type 0 where

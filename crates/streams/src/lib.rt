@@ -2,7 +2,7 @@
 //!
 //! A session makes many reads and writes, and what it answers at its end depends on whether one of
 //! them failed. A [`Source`] is a reader with a flag, and a [`Sink`] a writer with one. The flag is set by
-//! the call that fails, by no other, and is never cleared.
+//! the call that fails, by no other, and is never cleared. A source counts its reads too.
 //!
 //! # What counts as a failure
 //!

@@ -1,8 +1,8 @@
-//! A reader that remembers whether a read has failed.
+//! A reader that remembers how many reads were made, and whether one has failed.
 ghost use Rattle.std.specs.Prelude.{◌≡◌, ◌+◌, ◌<◌, false, length, is_err, IfOk, OnErr};
 ghost use Rattle.std.specs.Io.{ReadsAtMost};
 ghost use Rattle.std.specs.Io.KnownBytes.{Keeps, IsAtEnd, ReadConsumes};
-ghost use Rattle.streams.specs.State.{MovesPiece};
+ghost use Rattle.streams.specs.State.{counted, MovesPiece};
 
 use crate::Failed;
 use bytes::BytesMut;
@@ -10,8 +10,10 @@ use std::alloc::Allocator;
 use std::io::Read;
 use std::marker::Model;
 
-/// A reader, and whether a read of it has failed. It is seen as what the reader has left to give,
-/// where that is known, and the flag.
+/// A reader, how many reads of it were made, and whether one has failed. It is seen as what the
+/// reader has left to give, where that is known, the count, and the flag.
+///
+/// The count stays at 2^64 - 1 once it is there.
 ///
 /// ```
 /// let mut source = Source::new(reader);
@@ -25,6 +27,7 @@ use std::marker::Model;
 #[derive(Drop)]
 pub struct Source<R: Read> {
     inner: R,
+    reads: u64,
     failed: bool,
 }
 
@@ -35,20 +38,30 @@ impl<R: Read> Model for Source<R> {
 
     ghost view = { λ source. record {
       left = R.remaining source.inner;
+      reads = source.reads;
       failed = source.failed;
     } };
 }
 
 impl<R: Read> Source<R> {
-    /// A source of what the reader gives from here on. No read has failed.
+    /// A source of what the reader gives from here on. It has made no read, and none has failed.
     pub fn new(inner: R) -> Source<R>
         ensures has_reader { result.left ≡ R.remaining inner }
+        ensures has_made_no_read { result.reads ≡ 0 }
         ensures has_not_failed { result.failed ≡ false }
     {
         Source {
             inner,
+            reads: 0,
             failed: false,
         }
+    }
+
+    /// How many reads were made, those that failed included; 2^64 - 1 of more.
+    pub fn reads(&self) -> u64
+        ensures { result ≡ self.now.reads }
+    {
+        self.reads
     }
 
     /// Whether a read has failed.
@@ -84,8 +97,10 @@ impl<R: Read> Source<R> {
         ensures bound { ReadsAtMost result buf.new }
         ensures consumes { ReadConsumes self.old.left self.new.left result buf.new }
         ensures none_only_at_end { IfOk result (λ n. n ≡ 0 → IsAtEnd self.new.left) }
+        ensures counts { self.new.reads ≡ counted self.old.reads 1 }
         ensures tells_failure { self.new.failed ≡ is_err result }
     {
+        self.reads = self.reads.saturating_add(1);
         let given = self.inner.read(buf).map_err(|_| Failed);
         self.failed = given.is_err();
         given
@@ -107,8 +122,10 @@ impl<R: Read> Source<R> {
         ensures none_only_at_end { IfOk result (λ n. n ≡ 0 → IsAtEnd self.new.left) }
         ensures error_reads_nothing { OnErr result
             ((buffer.new ≡ buffer.old) × Keeps self.old.left self.new.left) }
+        ensures counts { self.new.reads ≡ counted self.old.reads 1 }
         ensures tells_failure { self.new.failed ≡ is_err result }
     {
+        self.reads = self.reads.saturating_add(1);
         let added = buffer.read_from(&mut self.inner).map_err(|_| Failed);
         self.failed = added.is_err();
         added

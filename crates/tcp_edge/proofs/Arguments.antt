@@ -9,14 +9,14 @@ use Rattle.clap.specs.declared.error.kind.ErrorKind.TheVariants.{OutOfMemory}
 use Rattle.tcp_edge.specs.declared.asked.LineFault.{LineFault}
 use Rattle.tcp_edge.specs.declared.asked.LineFault.TheVariants.{Clap, Topic}
 use Rattle.tcp_edge.specs.declared.asked.Asked.{Asked}
-use Rattle.tcp_edge.specs.declared.asked.Asked.TheVariants.{Table, Session, Serve}
-use Rattle.tcp_edge.specs.Asked.{IsAsked, IsConfigFault, IsFaulty, IsOutOfMemory, IsPlanOf, IfSession, AsksForOther}
+use Rattle.tcp_edge.specs.declared.asked.Asked.TheVariants.{Table, Session, Serve, Replay, Merge}
+use Rattle.tcp_edge.specs.Asked.{IsAsked, IsConfigFault, IsFaulty, IsOutOfMemory, IsPlanOf, IfNamed, AsksForOther}
 use Rattle.tcp_edge.specs.declared.asked.Plan.{Plan}
 use Rattle.clap.specs.declared.parser.matches.Found.{Found}
 use Rattle.clap.specs.declared.parser.matches.ArgMatches.{ArgMatches}
 use Rattle.clap.proofs.OnLiterals.{clap_on_literals}
 use Rattle.clap.proofs.WalkLemmas.{first_value-rows, raw_values-rows}
-use Rattle.tcp_edge.specs.CommandLine.{kbroker, AsksForTable, Finds, NamesSession, Roles, IsRoles}
+use Rattle.tcp_edge.specs.CommandLine.{kbroker, AsksForTable, Finds, Names, Roles, IsRoles}
 
 -- ---- the table
 
@@ -65,12 +65,12 @@ rows_by_name : (o : Option (Text × List Row)) (name : Text) → option_map (λ 
 rows_by_name None name is = absurd (none-some name is)
 rows_by_name (Some p) name is = (p.1, ap (λ (t : Text). Some (t, p.1)) (same_Some p.0 name is))
 
--- where a subcommand `session` was found, one is named
-pub session_named : (app : App) (roles : Roles) (arguments : List Text) (m : ArgMatches) → IsRoles roles → app ≡ kbroker roles
+-- where a subcommand was found, it is named
+pub subcommand_named : (app : App) (roles : Roles) (arguments : List Text) (m : ArgMatches) → IsRoles roles → app ≡ kbroker roles
     → HasMatchesOf app arguments m → (is_simple_and_free app ≡ true → fault_of app arguments ≡ [])
-    → subcommand_name_of m ≡ Some (codes "session") → NamesSession arguments
-session_named app roles arguments m are is matches fine name =
-    let by_name : (rows : List Row) × (subcommand_rows_of m ≡ Some (codes "session", rows)) = rows_by_name (subcommand_rows_of m) (codes "session") (firsts _ _ _ ∙ name) in
+    → (name : Text) → subcommand_name_of m ≡ Some name → Names arguments name
+subcommand_named app roles arguments m are is matches fine name named =
+    let by_name : (rows : List Row) × (subcommand_rows_of m ≡ Some (name, rows)) = rows_by_name (subcommand_rows_of m) name (firsts _ _ _ ∙ named) in
     record {
       roles = roles;
       are_roles = are;
@@ -79,10 +79,12 @@ session_named app roles arguments m are is matches fine name =
       found = sym (ap (λ (a : App). subcommand_of a arguments) is) ∙ (sym (matches (is_simple_kbroker app roles is)).1 ∙ by_name.1);
     }
 
-pub if_session_named : (asked : Asked) (P Q : Type 0) → IfSession asked P → (P → Q) → IfSession asked Q
-if_session_named Table P Q is leads = tt
-if_session_named (Session g) P Q is leads = leads is
-if_session_named (Serve plan) P Q is leads = tt
+pub if_subcommand_named : (asked : Asked) (P Q : Text → Type 0) → IfNamed asked P → ((name : Text) → P name → Q name) → IfNamed asked Q
+if_subcommand_named Table P Q is leads = tt
+if_subcommand_named (Session g) P Q is leads = leads (codes "session") is
+if_subcommand_named (Serve plan) P Q is leads = tt
+if_subcommand_named Replay P Q is leads = leads (codes "replay") is
+if_subcommand_named Merge P Q is leads = leads (codes "merge") is
 
 -- the values that were found, or none
 pub words_found : (o : Option (Bor (List (Bor Text)))) (none : Bor (List (Bor Text))) (e : Option (List Text))
@@ -119,13 +121,21 @@ table_asked arguments (Session g) asks is =
     let bad : true ≡ false = ap (bytes_eq (codes "table")) (is (codes "table") [] (finds_table arguments asks)).0 in cc
 table_asked arguments (Serve plan) asks is =
     let bad : true ≡ false = ap (bytes_eq (codes "table")) (is (codes "table") [] (finds_table arguments asks)) in cc
+table_asked arguments Replay asks is =
+    let bad : true ≡ false = ap (bytes_eq (codes "table")) (is (codes "table") [] (finds_table arguments asks)) in cc
+table_asked arguments Merge asks is =
+    let bad : true ≡ false = ap (bytes_eq (codes "table")) (is (codes "table") [] (finds_table arguments asks)) in cc
 
-pub no_session : (arguments : List Text) (asked : Asked) → AsksForTable arguments
-    → ((name : Text) (rows : List Row) → Finds arguments name rows → IsAsked name rows asked) → IfSession asked ⊥
-no_session arguments Table asks is = tt
-no_session arguments (Session g) asks is =
+pub no_other : (arguments : List Text) (asked : Asked) → AsksForTable arguments
+    → ((name : Text) (rows : List Row) → Finds arguments name rows → IsAsked name rows asked) → IfNamed asked (λ name. ⊥)
+no_other arguments Table asks is = tt
+no_other arguments (Session g) asks is =
     let bad : true ≡ false = ap (bytes_eq (codes "table")) (is (codes "table") [] (finds_table arguments asks)).0 in cc
-no_session arguments (Serve plan) asks is = tt
+no_other arguments (Serve plan) asks is = tt
+no_other arguments Replay asks is =
+    let bad : true ≡ false = ap (bytes_eq (codes "table")) (is (codes "table") [] (finds_table arguments asks)) in cc
+no_other arguments Merge asks is =
+    let bad : true ≡ false = ap (bytes_eq (codes "table")) (is (codes "table") [] (finds_table arguments asks)) in cc
 
 pub table_fault : (arguments : List Text) (fault : LineFault) → AsksForTable arguments
     → ((name : Text) (rows : List Row) → Finds arguments name rows → IsFaulty name fault) → IsOutOfMemory fault
@@ -139,3 +149,5 @@ pub no_plan : (arguments : List Text) (asked : Asked) (plan : Option Plan) → A
 no_plan arguments Table plan asks is of = of
 no_plan arguments (Session g) plan asks is of = of
 no_plan arguments (Serve p) plan asks is of = absurd (asks.3 (is asks.0 asks.1 asks.2))
+no_plan arguments Replay plan asks is of = of
+no_plan arguments Merge plan asks is of = of

@@ -2,8 +2,6 @@ mod Arguments
 mod TopicLists
 mod Stopping
 mod Filled
-mod LineFeeds
-mod Printed
-pub mod Sending
+mod ImageFaults
 pub mod Streams
 pub mod Refusals

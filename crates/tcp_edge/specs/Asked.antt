@@ -4,22 +4,26 @@ use Rattle.clap.specs.Words.{Row, Text, kind_of}
 use Rattle.clap.specs.declared.error.kind.ErrorKind.TheVariants as kind
 use Rattle.broker_core.specs.ConfigValues.{config_value}
 use Rattle.tcp_edge.specs.declared.asked.Asked.{Asked}
-use Rattle.tcp_edge.specs.declared.asked.Asked.TheVariants.{Table, Session, Serve}
+use Rattle.tcp_edge.specs.declared.asked.Asked.TheVariants.{Table, Session, Serve, Replay, Merge}
 use Rattle.tcp_edge.specs.declared.asked.Plan.{Plan}
 use Rattle.tcp_edge.specs.declared.asked.LineFault.{LineFault}
 use Rattle.tcp_edge.specs.declared.asked.LineFault.TheVariants.{Clap, Topic}
 use Rattle.tcp_edge.specs.CommandLine.{IsConfigOf, Finds}
 
 abbrev pub IsAsked : Text → List Row → Asked → Type 0
-IsAsked name rows Table = (name ≢ codes "session") × (name ≢ codes "serve")
+IsAsked name rows Table = (name ≢ codes "session") × (name ≢ codes "serve") × (name ≢ codes "replay") × (name ≢ codes "merge")
 IsAsked name rows (Session g) = (name ≡ codes "session") × IsConfigOf rows 9092 (config_value g)
 IsAsked name rows (Serve plan) = name ≡ codes "serve"
+IsAsked name rows Replay = name ≡ codes "replay"
+IsAsked name rows Merge = name ≡ codes "merge"
 
--- it is a session only if this holds
-abbrev pub IfSession : Asked → Type 0 → Type 0
-IfSession Table P = ⊤
-IfSession (Session g) P = P
-IfSession (Serve plan) P = ⊤
+-- a fact of the subcommand's name, where it is not the table's and no listener's
+abbrev pub IfNamed : Asked → (Text → Type 0) → Type 0
+IfNamed Table P = ⊤
+IfNamed (Session g) P = P (codes "session")
+IfNamed (Serve plan) P = ⊤
+IfNamed Replay P = P (codes "replay")
+IfNamed Merge P = P (codes "merge")
 
 -- there was no memory to look at the arguments
 abbrev pub IsOutOfMemory : LineFault → Type 0
@@ -41,6 +45,8 @@ abbrev pub IsPlanOf : Asked → Option Plan → Type 0
 IsPlanOf Table plan = plan ≡ None
 IsPlanOf (Session g) plan = plan ≡ None
 IsPlanOf (Serve asked) plan = plan ≡ Some asked
+IsPlanOf Replay plan = plan ≡ None
+IsPlanOf Merge plan = plan ≡ None
 
 -- the arguments ask for something else than a broker that listens
 abbrev pub AsksForOther : List Text → Type 0

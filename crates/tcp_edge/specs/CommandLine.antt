@@ -54,8 +54,9 @@ top = record (new_app (codes "kbroker")).top { has_version = true; subcommand_re
 
 -- the command `kbroker`, with its subcommands
 abbrev pub kbroker : Roles → App
-kbroker roles = with_subcommand (with_subcommand (with_subcommand (record { top = top; subs = [] })
-    (new_app (codes "table")).top) (session_app roles).top) (serve_app roles).top
+kbroker roles = with_subcommand (with_subcommand (with_subcommand (with_subcommand (with_subcommand (record { top = top; subs = [] })
+    (new_app (codes "table")).top) (session_app roles).top) (serve_app roles).top)
+    (new_app (codes "replay")).top) (new_app (codes "merge")).top
 
 -- the two words that clap takes for a role
 abbrev pub IsRoles : Roles → Type 0
@@ -107,14 +108,20 @@ pub record IsConfigOf (rows : List Row) (port : ℕ) (g : ConfigValue) : Type 0 
   pub port_is : g.port ≡ port
   pub topics : AreTopics (topic_words rows) g.topics
 
--- Clap finds no fault in the arguments, and finds the subcommand `session` in them, where the words of roles lie somewhere in
--- memory.
-pub record NamesSession (arguments : List Text) : Type 0 where
+-- Clap finds no fault in the arguments, and finds the subcommand of this name in them, where the words of roles lie somewhere
+-- in memory.
+pub record Names (arguments : List Text) (name : Text) : Type 0 where
   pub roles : Roles
   pub are_roles : IsRoles roles
   pub no_fault : fault_of (kbroker roles) arguments ≡ []
   pub rows : List Row
-  pub found : subcommand_of (kbroker roles) arguments ≡ Some (codes "session", rows)
+  pub found : subcommand_of (kbroker roles) arguments ≡ Some (name, rows)
+
+abbrev pub NamesSession : List Text → Type 0
+NamesSession arguments = Names arguments (codes "session")
+
+abbrev pub NamesReplay : List Text → Type 0
+NamesReplay arguments = Names arguments (codes "replay")
 
 -- a session, with these values of its arguments
 abbrev pub AsksForSession : List Text → List Row → Type 0

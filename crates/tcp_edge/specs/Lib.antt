@@ -1,8 +1,7 @@
-pub mod Lines
 pub mod Input
-pub mod Output
 pub mod Tables
 pub mod Refused
+pub mod Merges
 pub mod Status
 pub mod CommandLine
 pub mod Answering

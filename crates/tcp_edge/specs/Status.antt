@@ -1,9 +1,13 @@
 -- The statuses of the program.
 use Rattle.std.specs.Prelude.{ℕ}
+use Rattle.copy_tools.specs.declared.error.ReplayError.{ReplayError}
+use Rattle.copy_tools.specs.declared.error.ReplayError.TheVariants as replay
 use Rattle.broker_core.specs.declared.session.SessionError.{SessionError}
 use Rattle.broker_core.specs.declared.session.SessionError.TheVariants as session
 use Rattle.tcp_edge.specs.declared.error.TableError.{TableError}
 use Rattle.tcp_edge.specs.declared.error.TableError.TheVariants.{Batch, Read, Write, OutOfMemory}
+use Rattle.tcp_edge.specs.declared.error.ImagesError.{ImagesError}
+use Rattle.tcp_edge.specs.declared.error.ImagesError.TheVariants as images
 use Rattle.tcp_edge.specs.declared.error.SessionFault.{SessionFault}
 use Rattle.tcp_edge.specs.declared.error.SessionFault.TheVariants.{EndsInside, Stopped}
 
@@ -25,3 +29,17 @@ stop_status session.Write = 4
 abbrev pub session_status : SessionFault → ℕ
 session_status EndsInside = 1
 session_status (Stopped why) = stop_status why
+
+-- 1 the images are refused, 3 out of memory, 4 a read or a write failed
+abbrev pub images_status : ImagesError → ℕ
+images_status (images.Images why) = 1
+images_status images.OutOfMemory = 3
+images_status images.Read = 4
+images_status images.Write = 4
+
+-- 1 a line is bad, 3 out of memory, 4 a read or a write failed
+abbrev pub replay_status : ReplayError → ℕ
+replay_status (replay.BadLine line) = 1
+replay_status replay.OutOfMemory = 3
+replay_status replay.Read = 4
+replay_status replay.Write = 4

@@ -7,7 +7,7 @@ use Rattle.batch_codec.specs.Grammar.{batch_encoding}
 use Rattle.content.specs.Content.{Content, empty, shown_table}
 use Rattle.content.specs.Deliveries.{delivered, AreAccepted}
 use Rattle.content.specs.Table.{rows}
-use Rattle.tcp_edge.specs.Lines.{lines}
+use Rattle.table_lines.specs.Lines.{lines}
 
 -- batches end to end
 abbrev pub stream : List BatchValue → List ℕ

@@ -4,8 +4,8 @@ ghost use Rattle.std.specs.Prelude.{◌≡◌, ◌≢◌, ℕ, pos, List, Some, 
 ghost use Rattle.std.specs.Bool.{MatchBool};
 ghost use Rattle.broker_core.specs.ConfigValues.{config_value};
 ghost use Rattle.clap.specs.Words.{Row, Text, found_of, rows_of, subcommand_name_of, subcommand_rows_of};
-ghost use Rattle.tcp_edge.specs.Asked.{IfSession, IsAsked, IsConfigFault, IsFaulty, IsOutOfMemory, IsPlanOf};
-ghost use Rattle.tcp_edge.specs.CommandLine.{Finds, IsConfigOf, NamesSession, role_of};
+ghost use Rattle.tcp_edge.specs.Asked.{IfNamed, IsAsked, IsConfigFault, IsFaulty, IsOutOfMemory, IsPlanOf};
+ghost use Rattle.tcp_edge.specs.CommandLine.{Finds, IsConfigOf, Names, role_of};
 
 use crate::commands::command;
 use crate::topics::topics_of;
@@ -34,6 +34,10 @@ pub(crate) enum Asked {
     Session(Config<Global>),
     /// A broker that listens.
     Serve(Plan),
+    /// What comes of a script's lines.
+    Replay,
+    /// Two images merged.
+    Merge,
 }
 
 /// A broker that listens, at the port of its configuration.
@@ -62,6 +66,7 @@ impl Asked {
             Asked::Serve(plan) => Some(plan),
             Asked::Table => None,
             Asked::Session(_config) => None,
+            Asked::Replay | Asked::Merge => None,
         }
     }
 }
@@ -130,14 +135,32 @@ fn plan_of(alloc: Global, matches: &ArgMatches<'_>) -> Result<Plan, LineFault>
     })
 }
 
-/// What the matches ask for. A subcommand was named, so it is `table` if it is none of the others.
+/// What the matches of a subcommand without arguments ask for: `table` if they are of none of the others.
+#[tactic(auto, using(crate::proofs::Arguments::name_found))]
+fn asked_plainly(matches: &ArgMatches<'_>) -> Asked
+    ensures asked { (name : Text) (rows : List Row)
+        → subcommand_rows_of matches.now ≡ Some (name, rows)
+        → name ≢ codes "session" → name ≢ codes "serve" → IsAsked name rows result }
+    ensures named { IfNamed result (λ name. subcommand_name_of matches.now ≡ Some name) }
+{
+    match matches.subcommand_matches("replay") {
+        Some(_) => return Asked::Replay,
+        None => {}
+    }
+    match matches.subcommand_matches("merge") {
+        Some(_) => Asked::Merge,
+        None => Asked::Table,
+    }
+}
+
+/// What the matches ask for.
 #[tactic(auto, using(crate::proofs::Arguments::name_found, crate::proofs::Arguments::session_fault, crate::proofs::Arguments::serve_fault))]
 fn asked_by(alloc: Global, matches: &ArgMatches<'_>) -> Result<Asked, LineFault>
     ensures asked { (name : Text) (rows : List Row)
         → subcommand_rows_of matches.now ≡ Some (name, rows)
         → MatchResult result (IsAsked name rows) (IsFaulty name) }
-    ensures session { IfOk result (λ asked.
-        IfSession asked (subcommand_name_of matches.now ≡ Some (codes "session"))) }
+    ensures named { IfOk result (λ asked.
+        IfNamed asked (λ name. subcommand_name_of matches.now ≡ Some name)) }
 {
     match matches.subcommand_matches("session") {
         Some(inner) => return Ok(Asked::Session(config_of(alloc, inner, SESSION_PORT)?)),
@@ -145,7 +168,7 @@ fn asked_by(alloc: Global, matches: &ArgMatches<'_>) -> Result<Asked, LineFault>
     }
     match matches.subcommand_matches("serve") {
         Some(inner) => Ok(Asked::Serve(plan_of(alloc, inner)?)),
-        None => Ok(Asked::Table),
+        None => Ok(asked_plainly(matches)),
     }
 }
 
@@ -153,8 +176,8 @@ fn asked_by(alloc: Global, matches: &ArgMatches<'_>) -> Result<Asked, LineFault>
 pub(crate) fn parse<S: AsStr>(alloc: Global, arguments: &[S]) -> Result<Asked, LineFault>
     ensures asked { (name : Text) (rows : List Row) → Finds (map S.text arguments.now) name rows
         → MatchResult result (IsAsked name rows) (IsFaulty name) }
-    ensures session { IfOk result (λ asked.
-        IfSession asked (NamesSession (map S.text arguments.now))) }
+    ensures named { IfOk result (λ asked.
+        IfNamed asked (λ name. Names (map S.text arguments.now) name)) }
 {
     match command(alloc)?.try_get_matches_from(arguments) {
         Ok(matches) => asked_by(alloc, &matches),

@@ -5,12 +5,15 @@ ghost use Rattle.batch_codec.specs.Values.{BatchValue};
 ghost use Rattle.clap.specs.Words.{kind_of};
 ghost use Rattle.tcp_edge.specs.Asked.{AsksForOther, IsConfigFault, IsOutOfMemory};
 ghost use Rattle.tcp_edge.specs.declared.error.Refusal.{Refusal};
-ghost use Rattle.tcp_edge.specs.CommandLine.{AsksForTable, NamesSession};
+ghost use Rattle.tcp_edge.specs.CommandLine.{AsksForTable, NamesReplay, NamesSession};
+ghost use Rattle.tcp_edge.specs.Merges.{PrintsMerge};
 ghost use Rattle.tcp_edge.specs.Refused.{RefusesStream};
 ghost use Rattle.tcp_edge.specs.Tables.{ReadsLog, PrintsTable};
 
 use crate::asked::{Asked, LineFault, Plan, parse};
 use crate::error::SessionFault;
+use crate::merging::run_merge;
+use crate::replaying::run_replay;
 use crate::serving::listen;
 use crate::session::{refuse, run_session};
 use crate::status::{DONE, FAILED, FAULTY, NO_MEMORY, fail};
@@ -77,12 +80,15 @@ pub fn run_line<S: AsStr, R: Read, W: Write, E: Write>(
     ensures faulty_prints_nothing { result ≡ 2 → out.new ≡ out.old }
     ensures faulty_reads_nothing { result ≡ 2 → reader.new ≡ reader.old }
 
-    // A run that is done has printed help and read nothing, or it has printed the table, or it was
-    // asked for a session.
-    ensures done_prints_help_or_table_or_serves_a_session { result ≡ 0
+    // A run that is done has printed help and read nothing, or it has printed the table or the merge
+    // of two images, or it was asked for a session or a script.
+    ensures done_prints_help_or_table_or_merge_or_serves_or_replays { result ≡ 0
         → (reader.new ≡ reader.old) ⊎ PrintsTable
         (R.remaining reader.old) (R.remaining reader.new)
-        (W.contents out.old) (W.contents out.new) ⊎ NamesSession (map S.text arguments.now) }
+        (W.contents out.old) (W.contents out.new) ⊎ PrintsMerge
+        (R.remaining reader.old) (R.remaining reader.new)
+        (W.contents out.old) (W.contents out.new) ⊎ NamesSession (map S.text arguments.now)
+        ⊎ NamesReplay (map S.text arguments.now) }
     // Asked for the table, it prints the table or says why there is none.
     ensures table_is_no_fault { AsksForTable (map S.text arguments.now) → result ≢ 2 }
     ensures table_is_printed { AsksForTable (map S.text arguments.now) → result ≡ 0 → PrintsTable
@@ -102,6 +108,8 @@ pub fn run_line<S: AsStr, R: Read, W: Write, E: Write>(
     match parse(alloc, arguments) {
         Ok(Asked::Table) => run_subcommand(alloc, reader, out, err),
         Ok(Asked::Session(config)) => run_session(alloc, config, reader, out, err),
+        Ok(Asked::Replay) => run_replay(alloc, reader, out, err),
+        Ok(Asked::Merge) => run_merge(alloc, reader, out, err),
         Ok(Asked::Serve(_)) => FAULTY,
         Err(why) => refuse_line(&why, out, err),
     }

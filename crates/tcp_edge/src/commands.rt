@@ -19,6 +19,28 @@ frames on standard output, as a new broker with these topics";
 const ABOUT_SERVE: &str = "Listens on 127.0.0.1 as a new broker with these topics, answers the \
 requests of one connection after the other, and prints a line for each";
 
+const ABOUT_REPLAY: &str =
+    "Reads a script of events from standard input, makes them happen to the copies \
+of one partition, and prints what comes of each";
+
+const ABOUT_MERGE: &str = "Reads the images of two copies of a partition from standard input, each \
+behind its size (4 bytes, the highest first), and writes the image of their merge to standard output";
+
+const SCRIPT: &str = "\
+The first line of a script is 'copies N', for 1 to 8 copies; copy 0 is the leader's. Each other line
+is one of these. Copies, batches and images are numbered from 0.
+  produce ITEM ..                        sends a batch to the leader: base O, or repeat O
+  produce-as PRODUCER EPOCH SEQ ITEM ..  sends it as a producer's batch
+  deliver COPY BATCH                     delivers a batch to a follower: added, or repeat
+  clean COPY UPTO TOMB                   cleans a copy: cleaned RECORDS TOMBSTONES BATCHES
+  send COPY                              keeps an image of a copy: image I
+  merge COPY IMAGE                       merges an image into a follower: merged
+  table COPY                             prints a line KEY=VALUE for each key, and end
+  cover COPY                             prints the ranges of the offsets that were seen, or none
+An ITEM is KEY=VALUE, or KEY to delete the key; %XX is a byte. What is refused prints refused NAME.
+
+Example: printf 'copies 1\\nproduce a=1 b=2\\ntable 0\\n' | kbroker replay";
+
 const EXAMPLE_SESSION: &str = "Example: kbroker session orders:3 prices:1 < requests > replies";
 
 const EXAMPLE_SERVE: &str = "Example: kbroker serve --port 9092 --connections 10 orders:3 prices:1";
@@ -111,11 +133,17 @@ pub(crate) fn command<'a>(alloc: Global) -> Result<Command<'a>, AllocError>
         .arg(role_arg(alloc, roles))?
         .arg(connections_arg(alloc))?
         .arg(topics_arg(alloc))?;
+    let replay = Command::new(alloc, "replay")
+        .about(ABOUT_REPLAY)
+        .after_help(SCRIPT);
+    let merge = Command::new(alloc, "merge").about(ABOUT_MERGE);
     Command::new(alloc, "kbroker")
         .version("0.1.0")
         .about(ABOUT)
         .subcommand_required(true)
         .subcommand(table)?
         .subcommand(session)?
-        .subcommand(serve)
+        .subcommand(serve)?
+        .subcommand(replay)?
+        .subcommand(merge)
 }

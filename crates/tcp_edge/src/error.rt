@@ -1,5 +1,6 @@
 use batch_codec::BatchError;
 use broker_core::SessionError;
+use copy_tools::MergeFault;
 use partition_log::DeliverError;
 use thiserror::Error;
 
@@ -40,4 +41,21 @@ pub enum SessionFault {
     /// It stopped before the end.
     #[error(transparent)]
     Stopped(SessionError),
+}
+
+/// Why no image was written.
+#[derive(Clone, Copy, Debug, PartialEq, Eq, Error)]
+pub enum ImagesError {
+    /// The images are refused; never for memory.
+    #[error(transparent)]
+    Images(MergeFault),
+    /// The input couldn't be read.
+    #[error("read failed")]
+    Read,
+    /// The image couldn't be written.
+    #[error("write failed")]
+    Write,
+    /// There is no memory for the input, for the copies, or for their image.
+    #[error("out of memory")]
+    OutOfMemory,
 }

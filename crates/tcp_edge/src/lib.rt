@@ -1,4 +1,4 @@
-//! The edge of the broker: bytes that come in, and the lines that a table is printed as.
+//! The edge of the broker: bytes that come in, and bytes that go out.
 #![tactic(auto)]
 
 mod asked;
@@ -6,8 +6,9 @@ mod command_line;
 mod commands;
 mod connection;
 mod error;
-mod lines;
+mod merging;
 mod pending;
+mod replaying;
 mod serving;
 mod session;
 mod status;
@@ -16,9 +17,11 @@ mod table;
 mod topics;
 
 pub use command_line::{run_line, run_serve, serve_port};
-pub use error::{Refusal, SessionFault, TableError};
-pub use lines::line_ends_once;
+pub use error::{ImagesError, Refusal, SessionFault, TableError};
+pub use merging::{merge_stream, run_merge};
+pub use replaying::run_replay;
 pub use session::{answer_frames, run_session};
 pub use status::{DONE, FAILED, FAULTY, NO_MEMORY, REFUSED};
 pub use subcommand::run_subcommand;
 pub use table::run_table;
+pub use table_lines::line_ends_once;

@@ -1,10 +1,11 @@
 //! The statuses of the program.
 
 ghost use Rattle.std.specs.Prelude.{◌≡◌};
-ghost use Rattle.tcp_edge.specs.Status.{status_of, session_status};
+ghost use Rattle.tcp_edge.specs.Status.{status_of, session_status, images_status, replay_status};
 
-use crate::error::{SessionFault, TableError};
+use crate::error::{ImagesError, SessionFault, TableError};
 use broker_core::SessionError;
+use copy_tools::ReplayError;
 use std::io::Write;
 
 /// The status of a run that did what it was asked for.
@@ -26,6 +27,28 @@ pub(crate) fn status_of(why: TableError) -> u8
         TableError::Batch { index: _, why: _ } => REFUSED,
         TableError::OutOfMemory => NO_MEMORY,
         TableError::Read | TableError::Write => FAILED,
+    }
+}
+
+/// The status where no image was written.
+pub(crate) fn images_status(why: ImagesError) -> u8
+    ensures { result ≡ images_status why }
+{
+    match why {
+        ImagesError::Images(_) => REFUSED,
+        ImagesError::OutOfMemory => NO_MEMORY,
+        ImagesError::Read | ImagesError::Write => FAILED,
+    }
+}
+
+/// The status where a script stopped before its end.
+pub(crate) fn replay_status(why: ReplayError) -> u8
+    ensures { result ≡ replay_status why }
+{
+    match why {
+        ReplayError::BadLine { line: _ } => REFUSED,
+        ReplayError::OutOfMemory => NO_MEMORY,
+        ReplayError::Read | ReplayError::Write => FAILED,
     }
 }
 

@@ -12,13 +12,13 @@ ghost use Rattle.tcp_edge.specs.Tables.{content_lines, ReadsLog, PrintsTable};
 ghost use Rattle.tcp_edge.specs.Refused.{RefusesNext, RefusesStream, IfBatch};
 
 use crate::error::{Refusal, TableError};
-use crate::lines::{BUFFER_SIZE, write_lines};
 use crate::pending::{FillFailed, Pending};
 use batch_codec::{BatchError, view};
 use partition_log::{DeliverError, PartitionLog};
 use segment::VecStore;
 use std::alloc::Allocator;
 use std::io::{Read, Write};
+use table_lines::{BUFFER_SIZE, write_lines};
 
 /// How many reads an input may take.
 const MOST_READS: u64 = 1 << 32;

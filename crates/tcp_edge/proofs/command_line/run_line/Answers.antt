@@ -1,8 +1,8 @@
 use Rattle.std.proofs.Common.{◌≡◌, map, rules, subst, sym, ◌∙◌, arith}
 use Rattle.tcp_edge.specs.declared.asked.Asked.{Asked}
-use Rattle.tcp_edge.specs.declared.asked.Asked.TheVariants.{Session}
-use Rattle.tcp_edge.specs.Asked.{IfSession}
-use Rattle.tcp_edge.proofs.Arguments.{table_fault, no_session}
+use Rattle.tcp_edge.specs.declared.asked.Asked.TheVariants.{Session, Replay, Merge}
+use Rattle.tcp_edge.specs.Asked.{IfNamed}
+use Rattle.tcp_edge.proofs.Arguments.{table_fault, no_other}
 use Rattle.tcp_edge.proofs.command_line.run_line.Goals as goal
 
 pub returns-clause-table_is_no_fault : goal.returns-clause-table_is_no_fault
@@ -23,29 +23,69 @@ returns-clause-failed_table_prints_nothing_before_whole_input g c = λ asks stat
 pub returns-in-Ok-Session-clause-table_is_no_fault : goal.returns-in-Ok-Session-clause-table_is_no_fault
 returns-in-Ok-Session-clause-table_is_no_fault g c = λ asks.
     let is : c.in-Ok-Session.field-0 ≡ Session c.in-Ok-Session.config = search rules in
-    absurd (subst (λ (asked : Asked). IfSession asked ⊥) is (no_session (map g.S.AsStr.text c.args.arguments.now) _ asks c.in-Ok-Session.ensures.asked))
+    absurd (subst (λ (asked : Asked). IfNamed asked (λ name. ⊥)) is (no_other (map g.S.AsStr.text c.args.arguments.now) _ asks c.in-Ok-Session.ensures.asked))
 
 pub returns-in-Ok-Session-clause-table_is_printed : goal.returns-in-Ok-Session-clause-table_is_printed
 returns-in-Ok-Session-clause-table_is_printed g c = λ asks.
     let is : c.in-Ok-Session.field-0 ≡ Session c.in-Ok-Session.config = search rules in
-    absurd (subst (λ (asked : Asked). IfSession asked ⊥) is (no_session (map g.S.AsStr.text c.args.arguments.now) _ asks c.in-Ok-Session.ensures.asked))
+    absurd (subst (λ (asked : Asked). IfNamed asked (λ name. ⊥)) is (no_other (map g.S.AsStr.text c.args.arguments.now) _ asks c.in-Ok-Session.ensures.asked))
 
 pub returns-in-Ok-Session-clause-refused_table_has_first_refused : goal.returns-in-Ok-Session-clause-refused_table_has_first_refused
 returns-in-Ok-Session-clause-refused_table_has_first_refused g c = λ asks.
     let is : c.in-Ok-Session.field-0 ≡ Session c.in-Ok-Session.config = search rules in
-    absurd (subst (λ (asked : Asked). IfSession asked ⊥) is (no_session (map g.S.AsStr.text c.args.arguments.now) _ asks c.in-Ok-Session.ensures.asked))
+    absurd (subst (λ (asked : Asked). IfNamed asked (λ name. ⊥)) is (no_other (map g.S.AsStr.text c.args.arguments.now) _ asks c.in-Ok-Session.ensures.asked))
 
 pub returns-in-Ok-Session-clause-refused_table_prints_nothing : goal.returns-in-Ok-Session-clause-refused_table_prints_nothing
 returns-in-Ok-Session-clause-refused_table_prints_nothing g c = λ asks.
     let is : c.in-Ok-Session.field-0 ≡ Session c.in-Ok-Session.config = search rules in
-    absurd (subst (λ (asked : Asked). IfSession asked ⊥) is (no_session (map g.S.AsStr.text c.args.arguments.now) _ asks c.in-Ok-Session.ensures.asked))
+    absurd (subst (λ (asked : Asked). IfNamed asked (λ name. ⊥)) is (no_other (map g.S.AsStr.text c.args.arguments.now) _ asks c.in-Ok-Session.ensures.asked))
 
 pub returns-in-Ok-Session-clause-table_out_of_memory_prints_nothing : goal.returns-in-Ok-Session-clause-table_out_of_memory_prints_nothing
 returns-in-Ok-Session-clause-table_out_of_memory_prints_nothing g c = λ asks.
     let is : c.in-Ok-Session.field-0 ≡ Session c.in-Ok-Session.config = search rules in
-    absurd (subst (λ (asked : Asked). IfSession asked ⊥) is (no_session (map g.S.AsStr.text c.args.arguments.now) _ asks c.in-Ok-Session.ensures.asked))
+    absurd (subst (λ (asked : Asked). IfNamed asked (λ name. ⊥)) is (no_other (map g.S.AsStr.text c.args.arguments.now) _ asks c.in-Ok-Session.ensures.asked))
 
 pub returns-in-Ok-Session-clause-failed_table_prints_nothing_before_whole_input : goal.returns-in-Ok-Session-clause-failed_table_prints_nothing_before_whole_input
 returns-in-Ok-Session-clause-failed_table_prints_nothing_before_whole_input g c = λ asks.
     let is : c.in-Ok-Session.field-0 ≡ Session c.in-Ok-Session.config = search rules in
-    absurd (subst (λ (asked : Asked). IfSession asked ⊥) is (no_session (map g.S.AsStr.text c.args.arguments.now) _ asks c.in-Ok-Session.ensures.asked))
+    absurd (subst (λ (asked : Asked). IfNamed asked (λ name. ⊥)) is (no_other (map g.S.AsStr.text c.args.arguments.now) _ asks c.in-Ok-Session.ensures.asked))
+
+pub returns-in-Ok-Replay-clause-table_is_printed : goal.returns-in-Ok-Replay-clause-table_is_printed
+returns-in-Ok-Replay-clause-table_is_printed g c = λ asks.
+    let is : c.in-Ok-Replay.field-0 ≡ Replay = search rules in
+    absurd (subst (λ (asked : Asked). IfNamed asked (λ name. ⊥)) is (no_other (map g.S.AsStr.text c.args.arguments.now) _ asks c.in-Ok-Replay.ensures.asked))
+
+pub returns-in-Ok-Replay-clause-refused_table_has_first_refused : goal.returns-in-Ok-Replay-clause-refused_table_has_first_refused
+returns-in-Ok-Replay-clause-refused_table_has_first_refused g c = λ asks.
+    let is : c.in-Ok-Replay.field-0 ≡ Replay = search rules in
+    absurd (subst (λ (asked : Asked). IfNamed asked (λ name. ⊥)) is (no_other (map g.S.AsStr.text c.args.arguments.now) _ asks c.in-Ok-Replay.ensures.asked))
+
+pub returns-in-Ok-Replay-clause-refused_table_prints_nothing : goal.returns-in-Ok-Replay-clause-refused_table_prints_nothing
+returns-in-Ok-Replay-clause-refused_table_prints_nothing g c = λ asks.
+    let is : c.in-Ok-Replay.field-0 ≡ Replay = search rules in
+    absurd (subst (λ (asked : Asked). IfNamed asked (λ name. ⊥)) is (no_other (map g.S.AsStr.text c.args.arguments.now) _ asks c.in-Ok-Replay.ensures.asked))
+
+pub returns-in-Ok-Replay-clause-table_out_of_memory_prints_nothing : goal.returns-in-Ok-Replay-clause-table_out_of_memory_prints_nothing
+returns-in-Ok-Replay-clause-table_out_of_memory_prints_nothing g c = λ asks.
+    let is : c.in-Ok-Replay.field-0 ≡ Replay = search rules in
+    absurd (subst (λ (asked : Asked). IfNamed asked (λ name. ⊥)) is (no_other (map g.S.AsStr.text c.args.arguments.now) _ asks c.in-Ok-Replay.ensures.asked))
+
+pub returns-in-Ok-Replay-clause-failed_table_prints_nothing_before_whole_input : goal.returns-in-Ok-Replay-clause-failed_table_prints_nothing_before_whole_input
+returns-in-Ok-Replay-clause-failed_table_prints_nothing_before_whole_input g c = λ asks.
+    let is : c.in-Ok-Replay.field-0 ≡ Replay = search rules in
+    absurd (subst (λ (asked : Asked). IfNamed asked (λ name. ⊥)) is (no_other (map g.S.AsStr.text c.args.arguments.now) _ asks c.in-Ok-Replay.ensures.asked))
+
+pub returns-in-Ok-Merge-clause-table_is_printed : goal.returns-in-Ok-Merge-clause-table_is_printed
+returns-in-Ok-Merge-clause-table_is_printed g c = λ asks.
+    let is : c.in-Ok-Merge.field-0 ≡ Merge = search rules in
+    absurd (subst (λ (asked : Asked). IfNamed asked (λ name. ⊥)) is (no_other (map g.S.AsStr.text c.args.arguments.now) _ asks c.in-Ok-Merge.ensures.asked))
+
+pub returns-in-Ok-Merge-clause-refused_table_has_first_refused : goal.returns-in-Ok-Merge-clause-refused_table_has_first_refused
+returns-in-Ok-Merge-clause-refused_table_has_first_refused g c = λ asks.
+    let is : c.in-Ok-Merge.field-0 ≡ Merge = search rules in
+    absurd (subst (λ (asked : Asked). IfNamed asked (λ name. ⊥)) is (no_other (map g.S.AsStr.text c.args.arguments.now) _ asks c.in-Ok-Merge.ensures.asked))
+
+pub returns-in-Ok-Merge-clause-failed_table_prints_nothing_before_whole_input : goal.returns-in-Ok-Merge-clause-failed_table_prints_nothing_before_whole_input
+returns-in-Ok-Merge-clause-failed_table_prints_nothing_before_whole_input g c = λ asks.
+    let is : c.in-Ok-Merge.field-0 ≡ Merge = search rules in
+    absurd (subst (λ (asked : Asked). IfNamed asked (λ name. ⊥)) is (no_other (map g.S.AsStr.text c.args.arguments.now) _ asks c.in-Ok-Merge.ensures.asked))

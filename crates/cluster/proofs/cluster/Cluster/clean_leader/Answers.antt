@@ -1,4 +1,3 @@
-use Rattle.std.proofs.Common.{FitsSigned}
 use Rattle.std.specs.Int.{w64}
 use Rattle.std.proofs.lemmas.Int.{to_z-of_z}
 use Rattle.cluster.proofs.CleanSteps.{after_leader_clean}

@@ -1,4 +1,4 @@
-use Rattle.std.proofs.Common.{◌≡◌, refl, map, ap, sym, ◌∙◌}
+use Rattle.std.proofs.Common.{refl, map, ap}
 use Rattle.cluster.proofs.ImageSteps.{after_merge, agrees_with_image, no_image}
 use Rattle.cluster.proofs.cluster.Cluster.merge.Goals as goal
 

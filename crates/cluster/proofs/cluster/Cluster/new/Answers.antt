@@ -1,4 +1,4 @@
-use Rattle.std.proofs.Common.{◌≡◌, ◌-◌, map, ap}
+use Rattle.std.proofs.Common.{◌-◌, map, ap}
 use Rattle.cluster.proofs.ImageSteps.{new_consistent}
 use Rattle.cluster.proofs.cluster.Cluster.new.Goals as goal
 

@@ -1,4 +1,4 @@
-use Rattle.std.proofs.Common.{◌≡◌, ◌≤◌, ◌+◌, take, length}
+use Rattle.std.proofs.Common.{◌≡◌, ◌≤◌, take, length}
 use Rattle.std.specs.Vec.{vec_len, vec_capacity}
 use Rattle.cluster.specs.Events.{Runs}
 use Rattle.cluster.proofs.cluster.Cluster.run.Given as goal

@@ -1,0 +1,4 @@
+mod Numerals
+mod Pairs
+mod Sized
+mod Texts

@@ -1,0 +1,125 @@
+//! The lines of a script.
+
+use crate::items::Items;
+use crate::words::{Words, has_empty_word, split_word};
+
+/// A line that is none of a script's.
+#[derive(Clone, Copy, Debug, PartialEq, Eq)]
+pub struct BadLine;
+
+/// Who sends a batch, and as which of its batches.
+#[derive(Clone, Copy, Debug, PartialEq, Eq)]
+pub struct Producer {
+    /// The producer's id, or -1 for none.
+    pub id: i64,
+    /// The producer's epoch.
+    pub epoch: i16,
+    /// The sequence number of the first record.
+    pub sequence: i32,
+}
+
+impl Producer {
+    /// No producer: each number is -1.
+    pub const NONE: Producer = Producer {
+        id: -1,
+        epoch: -1,
+        sequence: -1,
+    };
+}
+
+/// What a line of a script says. Copies, batches and images are numbered from 0.
+#[derive(Clone, Copy)]
+pub enum Line<'a> {
+    /// There are so many copies.
+    Copies {
+        count: usize,
+    },
+    /// A batch is sent to the leader.
+    Produce {
+        producer: Producer,
+        items: Items<'a>,
+    },
+    /// A batch that was appended is delivered to a follower.
+    Deliver {
+        copy: usize,
+        batch: usize,
+    },
+    /// A copy is cleaned.
+    Clean {
+        copy: usize,
+        upto: i64,
+        tomb_before: i64,
+    },
+    /// An image of a copy is kept.
+    Send {
+        copy: usize,
+    },
+    /// An image is merged into a follower.
+    Merge {
+        copy: usize,
+        image: usize,
+    },
+    /// A copy's table is printed.
+    Table {
+        copy: usize,
+    },
+    /// The offsets that a copy has seen are printed.
+    Cover {
+        copy: usize,
+    },
+}
+
+/// A batch of the items that are left.
+fn produce<'a>(producer: Producer, words: &Words<'a>) -> Result<Line<'a>, BadLine> {
+    let items = Items::new(words.rest())?;
+    Ok(Line::Produce { producer, items })
+}
+
+/// A line of numbers, by its first word.
+fn numbers<'a>(name: &[u8], words: &mut Words<'a>) -> Result<Line<'a>, BadLine> {
+    let first = words.index()?;
+    match name {
+        b"copies" => Ok(Line::Copies { count: first }),
+        b"deliver" => Ok(Line::Deliver {
+            copy: first,
+            batch: words.index()?,
+        }),
+        b"clean" => Ok(Line::Clean {
+            copy: first,
+            upto: words.signed()?,
+            tomb_before: words.signed()?,
+        }),
+        b"send" => Ok(Line::Send { copy: first }),
+        b"merge" => Ok(Line::Merge {
+            copy: first,
+            image: words.index()?,
+        }),
+        b"table" => Ok(Line::Table { copy: first }),
+        b"cover" => Ok(Line::Cover { copy: first }),
+        _ => Err(BadLine),
+    }
+}
+
+/// Reads a line, given without its line feed. Takes no memory.
+///
+/// # Errors
+///
+/// The line is none of a script's.
+pub fn parse_line(line: &[u8]) -> Result<Line<'_>, BadLine> {
+    if has_empty_word(line) {
+        return Err(BadLine);
+    }
+    let (name, rest) = split_word(line);
+    let mut words = Words::new(rest);
+    match name {
+        b"produce" => return produce(Producer::NONE, &words),
+        b"produce-as" => {
+            let producer = words.producer()?;
+            return produce(producer, &words);
+        }
+        _ => {}
+    }
+    let parsed = numbers(name, &mut words)?;
+    words.end()?;
+    Ok(parsed)
+}

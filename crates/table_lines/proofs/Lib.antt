@@ -1,0 +1,3 @@
+mod LineFeeds
+mod Printed
+pub mod Sending
