@@ -1,0 +1,165 @@
+//! `read_image` on bytes with a right crc: the first fault of each, and what is accepted at the limits.
+
+use checksum::crc32c;
+use copy_images::{ImageError, read_image};
+use outside_batches::{NO_KEY, nine_at, one, three_at};
+use segment::VecStore;
+use std::alloc::{AllocError, Allocator};
+use std::test::Fail;
+
+/// The greatest offset.
+const GREATEST: i64 = 0x3fff_ffff_ffff_ffff;
+
+/// Bytes in the form of an image, with the crc that they should have.
+pub(crate) fn image_with<A: Allocator>(
+    alloc: A,
+    range_count: i32,
+    ranges: &[(i64, i64)],
+    batch_count: i32,
+    batches: &[u8],
+) -> Result<Vec<u8, A>, AllocError> {
+    let mut bytes = Vec::from_slice(alloc, b"KCPY\0\0")?;
+    bytes.extend_from_slice(&range_count.to_be_bytes())?;
+    for (first, last) in ranges {
+        bytes.extend_from_slice(&first.to_be_bytes())?;
+        bytes.extend_from_slice(&last.to_be_bytes())?;
+    }
+    bytes.extend_from_slice(&batch_count.to_be_bytes())?;
+    bytes.extend_from_slice(batches)?;
+    let crc = crc32c(&bytes);
+    bytes.extend_from_slice(&crc.to_be_bytes())?;
+    Ok(bytes)
+}
+
+/// Bytes one after the other.
+fn joined<A: Allocator>(alloc: A, left: &[u8], right: &[u8]) -> Result<Vec<u8, A>, AllocError> {
+    let mut bytes = Vec::from_slice(alloc, left)?;
+    bytes.extend_from_slice(right)?;
+    Ok(bytes)
+}
+
+#[test]
+fn counts_and_ranges(rt: HostRuntime) -> Result<(), Fail> {
+    let bad = Some(ImageError::BadCover);
+    let short = Some(ImageError::Short);
+    let none: &[(i64, i64)] = &[];
+    // The count of ranges, the ranges, the count of batches, and the refusal.
+    let rows = [
+        ("nothing", 0, none, 0, None),
+        ("the most ranges", i32::MAX, none, 0, short),
+        ("one range, which is missing", 1, none, 0, short),
+        ("-1 ranges", -1, none, 0, bad),
+        ("the least count of ranges", i32::MIN, none, 0, bad),
+        ("-1 batches", 0, none, -1, Some(ImageError::BadBatch(0))),
+        (
+            "the most batches",
+            0,
+            none,
+            i32::MAX,
+            Some(ImageError::BadBatch(0)),
+        ),
+        ("all offsets", 1, &[(0, GREATEST)], 0, None),
+        ("one offset too many", 1, &[(0, GREATEST + 1)], 0, bad),
+        ("an offset below 0", 1, &[(-1, 1)], 0, bad),
+        ("an empty range", 1, &[(1, 0)], 0, bad),
+        ("ranges that touch", 2, &[(0, 1), (2, 3)], 0, bad),
+        ("ranges that fall", 2, &[(3, 4), (0, 1)], 0, bad),
+        ("ranges with a gap", 2, &[(0, 1), (3, 3)], 0, None),
+        ("a bad cover and a bad batch", 1, &[(1, 0)], -1, bad),
+        (
+            "a range too many",
+            1,
+            &[(0, 1), (3, 3)],
+            0,
+            Some(ImageError::Extra),
+        ),
+    ];
+    for (name, range_count, ranges, batch_count, wanted) in rows {
+        let bytes = image_with(rt.alloc(), range_count, ranges, batch_count, b"")?;
+        let refusal = read_image::<VecStore<_>>(rt.alloc(), &bytes).err();
+        assert_eq!(rt; refusal, wanted, "{name}");
+    }
+    Ok(())
+}
+
+#[test]
+fn batches_in_ranges(rt: HostRuntime) -> Result<(), Fail> {
+    let alloc = rt.alloc();
+    let first = one(0, 0, b'a', b'1');
+    let second = one(1, 0, b'b', b'2');
+    let both = joined(alloc, &first, &second)?;
+    let fall = joined(alloc, &second, &first)?;
+    let twice = joined(alloc, &first, &first)?;
+    let more = joined(alloc, &second, &[0])?;
+    let part = three_at(2);
+    let late = nine_at(5);
+    let below = nine_at(-1);
+    let past = nine_at(GREATEST + 1);
+    let last = nine_at(GREATEST);
+    let touch: &[(i64, i64)] = &[(0, 1)];
+    let apart: &[(i64, i64)] = &[(0, 0), (2, 3)];
+    let all: &[(i64, i64)] = &[(0, GREATEST)];
+    let first_bad = Some(ImageError::BadBatch(0));
+    let second_bad = Some(ImageError::BadBatch(1));
+    let outside = Some(ImageError::Outside);
+    let extra = Some(ImageError::Extra);
+    // The ranges, the count of batches, their bytes, and the refusal.
+    let rows = [
+        ("two batches", touch, 2, both.as_slice(), None),
+        ("one of two", touch, 1, &both, extra),
+        (
+            "two of three",
+            touch,
+            3,
+            &both,
+            Some(ImageError::BadBatch(2)),
+        ),
+        ("one byte too many", touch, 1, &more, extra),
+        (
+            "a byte in the place of a batch",
+            touch,
+            2,
+            &more,
+            second_bad,
+        ),
+        ("bases that fall", touch, 2, &fall, second_bad),
+        ("one batch twice", touch, 2, &twice, second_bad),
+        ("a base behind the ranges", touch, 1, &late, outside),
+        ("a base between ranges", apart, 2, &both, outside),
+        ("a span that ends behind them", apart, 1, &part, outside),
+        ("no ranges", &[], 1, &first, outside),
+        ("the greatest offset", all, 1, &last, None),
+        ("a greater one", all, 1, &past, first_bad),
+        ("a base below 0", all, 1, &below, first_bad),
+        ("a null key", all, 1, &NO_KEY, first_bad),
+        ("a batch that is cut", all, 1, &first[..69], first_bad),
+        ("no batch to read", all, 0, &first, extra),
+    ];
+    for (name, ranges, count, batches, wanted) in rows {
+        let range_count = ranges.len() as i32;
+        let bytes = image_with(alloc, range_count, ranges, count, batches)?;
+        let refusal = read_image::<VecStore<_>>(alloc, &bytes).err();
+        assert_eq!(rt; refusal, wanted, "{name}");
+    }
+    Ok(())
+}
+
+#[test]
+fn refusals_print_their_names(rt: HostRuntime) -> Result<(), Fail> {
+    let rows = [
+        (ImageError::Short, "Short"),
+        (ImageError::BadMark, "BadMark"),
+        (ImageError::BadVersion, "BadVersion"),
+        (ImageError::BadCrc, "BadCrc"),
+        (ImageError::BadCover, "BadCover"),
+        (ImageError::BadBatch(7), "BadBatch 7"),
+        (ImageError::Outside, "Outside"),
+        (ImageError::Extra, "Extra"),
+        (ImageError::OutOfMemory, "OutOfMemory"),
+    ];
+    for (error, name) in rows {
+        let printed = format!(in rt.alloc(); "{error}")?;
+        assert_eq!(rt; printed.as_str(), name);
+    }
+    Ok(())
+}
