@@ -4,6 +4,8 @@
 #[cfg(test)]
 mod command_lines;
 #[cfg(test)]
+mod copies;
+#[cfg(test)]
 mod failing_streams;
 #[cfg(test)]
 mod memory;

@@ -10,13 +10,13 @@ use Rattle.tcp_edge.specs.declared.asked.LineFault.{LineFault}
 use Rattle.tcp_edge.specs.declared.asked.LineFault.TheVariants.{Clap, Topic}
 use Rattle.tcp_edge.specs.declared.asked.Asked.{Asked}
 use Rattle.tcp_edge.specs.declared.asked.Asked.TheVariants.{Table, Session, Serve, Replay, Merge}
-use Rattle.tcp_edge.specs.Asked.{IsAsked, IsConfigFault, IsFaulty, IsOutOfMemory, IsPlanOf, IfNamed, AsksForOther}
+use Rattle.tcp_edge.specs.Asked.{IsAsked, IsConfigFault, IsFaulty, IsOutOfMemory, IsPlanOf, IfNamed, IfNoMerge, AsksForOther}
 use Rattle.tcp_edge.specs.declared.asked.Plan.{Plan}
 use Rattle.clap.specs.declared.parser.matches.Found.{Found}
 use Rattle.clap.specs.declared.parser.matches.ArgMatches.{ArgMatches}
 use Rattle.clap.proofs.OnLiterals.{clap_on_literals}
 use Rattle.clap.proofs.WalkLemmas.{first_value-rows, raw_values-rows}
-use Rattle.tcp_edge.specs.CommandLine.{kbroker, AsksForTable, Finds, Names, Roles, IsRoles}
+use Rattle.tcp_edge.specs.CommandLine.{kbroker, AsksForTable, AsksForMerge, Finds, Names, Roles, IsRoles}
 
 -- ---- the table
 
@@ -33,6 +33,23 @@ pub finds_table : (arguments : List Text) → AsksForTable arguments → Finds a
 finds_table arguments asks = record {
   no_fault = λ roles _. subst (λ (t : List Text). fault_of (kbroker roles) t ≡ []) (sym asks.1) (no_fault_of_table roles asks.0);
   found = λ roles _. subst (λ (t : List Text). subcommand_of (kbroker roles) t ≡ Some (codes "table", [])) (sym asks.1) (table_found roles asks.0);
+}
+
+-- ---- a merge
+
+no_fault_of_merge : (roles : Roles) (name : Text) → fault_of (kbroker roles) (name ∷ codes "merge" ∷ []) ≡ []
+unfolding clap_on_literals
+no_fault_of_merge roles name = refl
+
+merge_found : (roles : Roles) (name : Text) → subcommand_of (kbroker roles) (name ∷ codes "merge" ∷ []) ≡ Some (codes "merge", [])
+unfolding clap_on_literals
+merge_found roles name = refl
+
+-- arguments that ask for a merge are found to do so
+pub finds_merge : (arguments : List Text) → AsksForMerge arguments → Finds arguments (codes "merge") []
+finds_merge arguments asks = record {
+  no_fault = λ roles _. subst (λ (t : List Text). fault_of (kbroker roles) t ≡ []) (sym asks.1) (no_fault_of_merge roles asks.0);
+  found = λ roles _. subst (λ (t : List Text). subcommand_of (kbroker roles) t ≡ Some (codes "merge", [])) (sym asks.1) (merge_found roles asks.0);
 }
 
 -- ---- the command is one of which clap's words give the matches
@@ -106,11 +123,17 @@ only_memory app roles arguments error name rows are is finds kinds =
 
 pub session_fault : (name : Text) (fault : LineFault) → name ≡ codes "session" → IsConfigFault fault → IsFaulty name fault
 session_fault name (Clap error) is h = h
-session_fault name (Topic why) is h = λ table. let bad : true ≡ false = ap (bytes_eq (codes "session")) (sym is ∙ table) in cc
+session_fault name (Topic why) is h = (
+  λ table. let bad : true ≡ false = ap (bytes_eq (codes "session")) (sym is ∙ table) in cc,
+  λ merge. let bad : true ≡ false = ap (bytes_eq (codes "session")) (sym is ∙ merge) in cc,
+)
 
 pub serve_fault : (name : Text) (fault : LineFault) → name ≡ codes "serve" → IsConfigFault fault → IsFaulty name fault
 serve_fault name (Clap error) is h = h
-serve_fault name (Topic why) is h = λ table. let bad : true ≡ false = ap (bytes_eq (codes "serve")) (sym is ∙ table) in cc
+serve_fault name (Topic why) is h = (
+  λ table. let bad : true ≡ false = ap (bytes_eq (codes "serve")) (sym is ∙ table) in cc,
+  λ merge. let bad : true ≡ false = ap (bytes_eq (codes "serve")) (sym is ∙ merge) in cc,
+)
 
 -- ---- what a parse gives, where the table is asked for
 
@@ -140,7 +163,25 @@ no_other arguments Merge asks is =
 pub table_fault : (arguments : List Text) (fault : LineFault) → AsksForTable arguments
     → ((name : Text) (rows : List Row) → Finds arguments name rows → IsFaulty name fault) → IsOutOfMemory fault
 table_fault arguments (Clap error) asks is = is (codes "table") [] (finds_table arguments asks)
-table_fault arguments (Topic why) asks is = absurd (is (codes "table") [] (finds_table arguments asks) refl)
+table_fault arguments (Topic why) asks is = absurd ((is (codes "table") [] (finds_table arguments asks)).0 refl)
+
+-- ---- and where a merge is
+
+pub no_other_than_merge : (arguments : List Text) (asked : Asked) → AsksForMerge arguments
+    → ((name : Text) (rows : List Row) → Finds arguments name rows → IsAsked name rows asked) → IfNoMerge asked ⊥
+no_other_than_merge arguments Merge asks is = tt
+no_other_than_merge arguments Table asks is = absurd ((is (codes "merge") [] (finds_merge arguments asks)).3 refl)
+no_other_than_merge arguments (Session g) asks is =
+    let bad : true ≡ false = ap (bytes_eq (codes "merge")) (is (codes "merge") [] (finds_merge arguments asks)).0 in cc
+no_other_than_merge arguments (Serve plan) asks is =
+    let bad : true ≡ false = ap (bytes_eq (codes "merge")) (is (codes "merge") [] (finds_merge arguments asks)) in cc
+no_other_than_merge arguments Replay asks is =
+    let bad : true ≡ false = ap (bytes_eq (codes "merge")) (is (codes "merge") [] (finds_merge arguments asks)) in cc
+
+pub merge_fault : (arguments : List Text) (fault : LineFault) → AsksForMerge arguments
+    → ((name : Text) (rows : List Row) → Finds arguments name rows → IsFaulty name fault) → IsOutOfMemory fault
+merge_fault arguments (Clap error) asks is = is (codes "merge") [] (finds_merge arguments asks)
+merge_fault arguments (Topic why) asks is = absurd ((is (codes "merge") [] (finds_merge arguments asks)).1 refl)
 
 -- ---- and where something else than a broker that listens is
 

@@ -25,6 +25,11 @@ IfNamed (Serve plan) P = ⊤
 IfNamed Replay P = P (codes "replay")
 IfNamed Merge P = P (codes "merge")
 
+-- a fact, where it is no merge
+abbrev pub IfNoMerge : Asked → Type 0 → Type 0
+IfNoMerge Merge P = ⊤
+IfNoMerge asked P = P
+
 -- there was no memory to look at the arguments
 abbrev pub IsOutOfMemory : LineFault → Type 0
 IsOutOfMemory (Clap error) = kind_of error ≡ kind.OutOfMemory
@@ -38,7 +43,7 @@ IsConfigFault (Topic why) = ⊤
 -- no fault of clap's: memory ran out, or an argument in the place of a topic is none
 abbrev pub IsFaulty : Text → LineFault → Type 0
 IsFaulty name (Clap error) = kind_of error ≡ kind.OutOfMemory
-IsFaulty name (Topic why) = name ≢ codes "table"
+IsFaulty name (Topic why) = (name ≢ codes "table") × (name ≢ codes "merge")
 
 -- the broker that listens, where one is asked for
 abbrev pub IsPlanOf : Asked → Option Plan → Type 0

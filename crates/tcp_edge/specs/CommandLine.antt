@@ -73,6 +73,10 @@ pub record Finds (arguments : List Text) (name : Text) (rows : List Row) : Type 
 abbrev pub AsksForTable : List Text → Type 0
 AsksForTable arguments = (name : Text) × (arguments ≡ name ∷ codes "table" ∷ [])
 
+-- the program's name, whatever it is, and `merge`
+abbrev pub AsksForMerge : List Text → Type 0
+AsksForMerge arguments = (name : Text) × (arguments ≡ name ∷ codes "merge" ∷ [])
+
 -- a follower where it is asked for, and else a leader
 abbrev pub role_of : List Row → Role
 role_of rows = if option_map_or (λ word. bytes_eq word (codes "follower")) (first_of (codes "role") rows) false then Follower else Leader

@@ -3,10 +3,11 @@
 ghost use Rattle.std.specs.Prelude.{◌≡◌, ◌≢◌, ◌≤◌, ◌⊎◌, ℕ, List, None, IfOk, map};
 ghost use Rattle.batch_codec.specs.Values.{BatchValue};
 ghost use Rattle.clap.specs.Words.{kind_of};
+ghost use Rattle.copy_tools.specs.declared.error.MergeFault.{MergeFault};
 ghost use Rattle.tcp_edge.specs.Asked.{AsksForOther, IsConfigFault, IsOutOfMemory};
 ghost use Rattle.tcp_edge.specs.declared.error.Refusal.{Refusal};
-ghost use Rattle.tcp_edge.specs.CommandLine.{AsksForTable, NamesReplay, NamesSession};
-ghost use Rattle.tcp_edge.specs.Merges.{PrintsMerge};
+ghost use Rattle.tcp_edge.specs.CommandLine.{AsksForMerge, AsksForTable, NamesReplay, NamesSession};
+ghost use Rattle.tcp_edge.specs.Merges.{PrintsMerge, RefusesImages};
 ghost use Rattle.tcp_edge.specs.Refused.{RefusesStream};
 ghost use Rattle.tcp_edge.specs.Tables.{ReadsLog, PrintsTable};
 
@@ -104,6 +105,18 @@ pub fn run_line<S: AsStr, R: Read, W: Write, E: Write>(
     ensures failed_table_prints_nothing_before_whole_input { AsksForTable (map S.text arguments.now)
         → result ≡ 4 → (out.new ≡ out.old) ⊎ ((bs : List BatchValue)
         × ReadsLog (R.remaining reader.old) (R.remaining reader.new) bs) }
+    // Asked for a merge, it prints the merge or says why there is none.
+    ensures merge_is_no_fault { AsksForMerge (map S.text arguments.now) → result ≢ 2 }
+    ensures merge_is_printed { AsksForMerge (map S.text arguments.now) → result ≡ 0 → PrintsMerge
+        (R.remaining reader.old) (R.remaining reader.new)
+        (W.contents out.old) (W.contents out.new) }
+    ensures refused_merge_has_a_first_fault { AsksForMerge (map S.text arguments.now)
+        → result ≡ 1 → (why : MergeFault)
+        × RefusesImages (R.remaining reader.old) (R.remaining reader.new) why }
+    ensures refused_merge_prints_nothing { AsksForMerge (map S.text arguments.now)
+        → result ≡ 1 → out.new ≡ out.old }
+    ensures merge_out_of_memory_prints_nothing { AsksForMerge (map S.text arguments.now)
+        → result ≡ 3 → out.new ≡ out.old }
 {
     match parse(alloc, arguments) {
         Ok(Asked::Table) => run_subcommand(alloc, reader, out, err),
