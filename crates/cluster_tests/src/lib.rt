@@ -10,6 +10,8 @@ mod images;
 #[cfg(test)]
 mod leading;
 #[cfg(test)]
+mod memory;
+#[cfg(test)]
 mod merging;
 #[cfg(test)]
 mod outside;
