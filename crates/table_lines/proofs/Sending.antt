@@ -76,9 +76,9 @@ sends_run a b c u v w bytes k some p q = record {
 -- ---- lines
 
 -- what waited went to the writer too
-pub sends_end : (a b c d : Option (List ℕ)) (waiting all : List ℕ) → Sends a b [] waiting all → Appends b c waiting → Keeps c d → Appends a d all
-sends_end a b c d waiting all s written kept =
-    Appends-kept a c d all (subst (Appends a c) s.waits (Appends-trans a b c s.sent waiting s.appends written)) kept
+pub sends_end : (a b c d : Option (List ℕ)) (waited waiting all : List ℕ) → Sends a b waited waiting all → Appends b c waiting → Keeps c d → Appends a d (waited ++ all)
+sends_end a b c d waited waiting all s written kept =
+    Appends-kept a c d (waited ++ all) (subst (Appends a c) s.waits (Appends-trans a b c s.sent waiting s.appends written)) kept
 
 module _ {T : Type 0} (row : T → List ℕ × List ℕ) where
   lines_next : (k : ℕ) (rows : List T) (d : T) → k < length rows → lines (map row (take (k + 1) rows)) ≡ lines (map row (take k rows)) ++ line (row (get_or rows k d))
@@ -89,6 +89,6 @@ module _ {T : Type 0} (row : T → List ℕ × List ℕ) where
       ∙ ap (λ (t : List ℕ). lines (map row (take k rows)) ++ t) (append-nil (line (row (get_or rows k d))))
 
   -- one row more
-  pub sends_next : (a b c : Option (List ℕ)) (v w : List ℕ) (k : ℕ) (rows : List T) (d : T) → k < length rows → Sends a b [] v (lines (map row (take k rows))) → Sends b c v w (line (row (get_or rows k d))) → Sends a c [] w (lines (map row (take (k + 1) rows)))
-  sends_next a b c v w k rows d within p q =
-      subst (Sends a c [] w) (sym (lines_next k rows d within)) (sends_then a b c [] v w _ _ p q)
+  pub sends_next : (a b c : Option (List ℕ)) (u v w : List ℕ) (k : ℕ) (rows : List T) (d : T) → k < length rows → Sends a b u v (lines (map row (take k rows))) → Sends b c v w (line (row (get_or rows k d))) → Sends a c u w (lines (map row (take (k + 1) rows)))
+  sends_next a b c u v w k rows d within p q =
+      subst (Sends a c u w) (sym (lines_next k rows d within)) (sends_then a b c u v w _ _ p q)

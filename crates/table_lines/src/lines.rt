@@ -186,8 +186,8 @@ pub fn line_ends_once(key: &[u8], value: &[u8])
     ensures ends_once { EndsOnce (line (key.now, value.now)) }
 {}
 
-/// Writes the line of each row, and flushes the writer. The lines go through the buffer, which is
-/// empty before and never grows.
+/// Writes what waits in the buffer and the line of each row behind it, and flushes the writer. The
+/// lines go through the buffer, which never grows and is empty afterwards.
 ///
 /// # Errors
 ///
@@ -197,9 +197,9 @@ pub fn write_lines<A: Allocator, W: Write>(
     writer: &mut W,
     rows: &[(&[u8], &[u8])],
 ) -> Result<()>
-    requires { buffer.old.items ≡ [] }
-    ensures { OnOk result (Appends (W.contents writer.old) (W.contents writer.new)
-        (lines (map (λ row. (row.0.now, row.1.now)) rows.now))) }
+    ensures writes_all { OnOk result (Appends (W.contents writer.old) (W.contents writer.new)
+        (buffer.old.items ++ lines (map (λ row. (row.0.now, row.1.now)) rows.now))) }
+    ensures empties_buffer { OnOk result (buffer.new.items ≡ []) }
 {
     for (key, value) in rows {
         put_line(buffer, writer, key, value)?;

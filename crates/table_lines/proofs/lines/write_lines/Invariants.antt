@@ -1,4 +1,4 @@
-use Rattle.std.proofs.Common.{take, map, []}
+use Rattle.std.proofs.Common.{take, map}
 use Rattle.table_lines.specs.Lines.{lines}
 use Rattle.table_lines.specs.Output.{Sends}
 use Rattle.table_lines.proofs.lines.write_lines.Given as goal
@@ -9,6 +9,6 @@ invariant-loop-key g l =
     Sends
     (g.W.Write.contents l.initial.writer)
     (g.W.Write.contents l.writer)
-    []
+    l.initial.buffer.items
     l.buffer.items
     (lines (map (λ row. (row.0.now, row.1.now)) (take l.key-index l.rows)))
