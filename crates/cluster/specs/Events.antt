@@ -43,12 +43,15 @@ log_verdict w b = verdict_on (heads_from w.leader.start (heads w.log)) b.head
 abbrev pub FitsLog : World → BatchValue → Type 0
 FitsLog w b = (next_offset w.log +ℤ b.head.last_delta) <ℤ pos (2 ^ 62)
 
+-- a batch that goes to the log's end, if there is memory to keep it
+abbrev pub IsNew : World → BatchValue → Type 0
+IsNew w b = IsSendable b × (log_verdict w b ≡ verdict.New) × FitsLog w b
+
 -- what comes of a batch that is not refused: a repeat has the base offset that it was given, and changes nothing
 abbrev pub Appends : World → BatchValue → World → (base : ℤ) (repeat : Bool) → Type 0
 Appends w b after base true = IsSendable b × (log_verdict w b ≡ verdict.Repeat base) × (after ≡ w)
 Appends w b after base false =
-    IsSendable b × (log_verdict w b ≡ verdict.New) × FitsLog w b
-    × (base ≡ next_offset w.log) × (after ≡ with_appended (at_log_end w b) w)
+    IsNew w b × (base ≡ next_offset w.log) × (after ≡ with_appended (at_log_end w b) w)
 
 -- why the leader refuses a batch: the first fault in the order of the checks
 abbrev pub RefusesBatch : World → BatchValue → AppendError → Type 0
@@ -66,7 +69,7 @@ RefusesBytes w bytes (BadBatch fault) = FirstFault fault bytes
 RefusesBytes w bytes Extra =
     (b : BatchValue) × StartsWith b bytes × (length (batch_encoding b) < length bytes)
 RefusesBytes w bytes (Append why) = (b : BatchValue) × IsBatch bytes b × RefusesBatch w b why
-RefusesBytes w bytes OutOfMemory = (b : BatchValue) × IsBatch bytes b
+RefusesBytes w bytes OutOfMemory = (b : BatchValue) × IsBatch bytes b × IsNew w b
 RefusesBytes w bytes _ = ⊥
 
 -- ---- the events, each with its outcome or the first fault in the order of the checks; any may lack memory

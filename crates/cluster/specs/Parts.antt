@@ -8,7 +8,7 @@ use Rattle.content.specs.declared.delivery.Delivered.TheVariants.{Repeat}
 use Rattle.content.specs.Content.{Content, end, add, has_seen_all}
 use Rattle.content.specs.Joins.{join}
 use Rattle.copy_images.specs.Images.{IsImage}
-use Rattle.partition_log.specs.Appends.{IsSendable, kept_verdict, at_end, HasOffsets, RefusesAppend}
+use Rattle.partition_log.specs.Appends.{IsSendable, kept_verdict, at_end, IsNew, RefusesAppend}
 use Rattle.partition_log.specs.declared.leader.AppendError.{AppendError}
 use Rattle.partition_log.specs.declared.leader.AppendError.TheVariants as append
 use Rattle.cluster.specs.declared.event.Outcome.{Outcome}
@@ -26,12 +26,11 @@ abbrev pub AppendsTo : Content → List BatchValue → BatchValue → Content �
 AppendsTo c log b after longer (Ok (Based base true)) =
     IsSendable b × (kept_verdict c b ≡ verdict.Repeat base) × (after ≡ c) × (longer ≡ log)
 AppendsTo c log b after longer (Ok (Based base false)) =
-    IsSendable b × (kept_verdict c b ≡ verdict.New) × HasOffsets c b × (base ≡ end c)
-    × (after ≡ add c (at_end c b)) × (longer ≡ log ++ at_end c b ∷ [])
+    IsNew c b × (base ≡ end c) × (after ≡ add c (at_end c b)) × (longer ≡ log ++ at_end c b ∷ [])
 AppendsTo c log b after longer (Ok _) = ⊥
 AppendsTo c log b after longer (Err (Append why)) =
     RefusesAppend c b why × (why ≢ append.OutOfMemory) × (after ≡ c) × (longer ≡ log)
-AppendsTo c log b after longer (Err OutOfMemory) = (after ≡ c) × (longer ≡ log)
+AppendsTo c log b after longer (Err OutOfMemory) = IsNew c b × (after ≡ c) × (longer ≡ log)
 AppendsTo c log b after longer (Err _) = ⊥
 
 -- the outcome of a cleaning

@@ -7,7 +7,7 @@ ghost use Rattle.std.specs.Prelude.{slice_get};
 ghost use Rattle.batch_codec.specs.Grammar.{batch_encoding};
 ghost use Rattle.cluster.specs.Worlds.{new_world, copy_at};
 ghost use Rattle.cluster.specs.Events.{RefusesCopies};
-ghost use Rattle.cluster.specs.Headline.{IsConsistent};
+ghost use Rattle.cluster.specs.Headline.{IsConsistent, Headline};
 
 use crate::MAX_COPIES;
 use crate::archived::Archived;
@@ -83,6 +83,7 @@ impl<S: BatchStore> Cluster<S> {
     /// The first that applies, in the order of the variants of [`ClusterError`].
     pub fn new(alloc: S::Alloc, copies: usize) -> Result<Cluster<S>, ClusterError>
         ensures is_new { IfOk result (λ cluster. cluster ≡ new_world (copies - 1)) }
+        ensures headline { IfOk result Headline }
         ensures accepts { OnOk result ((0 < copies) × (copies ≤ MAX_COPIES)) }
         ensures refuses { IfErr result (RefusesCopies copies) }
     {
@@ -94,13 +95,15 @@ impl<S: BatchStore> Cluster<S> {
             Err(_) => return Err(ClusterError::OutOfMemory),
         };
         an_empty_copy_is_a_copy();
-        Ok(Cluster {
+        let cluster = Cluster {
             alloc,
             leader: empty_leader(alloc),
             followers,
             archive: Vec::new(alloc),
             images: Vec::new(alloc),
-        })
+        };
+        cluster.know_consistent();
+        Ok(cluster)
     }
 
     /// The copies are consistent: this is known behind the call, which does nothing.

@@ -31,8 +31,7 @@ impl<S: BatchStore> Cluster<S> {
     ///
     /// # Errors
     ///
-    /// The first that applies, in the order of the variants of [`EventError`], though memory may be
-    /// missing before another fault is found. The cluster is as it was.
+    /// The first that applies, in the order of the variants of [`EventError`]. The cluster is as it was.
     #[tactic(auto, using(crate::proofs::Headlines::headline_of))]
     pub fn step<A: Allocator + Copy>(&mut self, event: &Event<A>) -> Result<Outcome, EventError>
         ensures steps { Steps self.old event.now self.new result }

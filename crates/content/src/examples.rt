@@ -11,7 +11,7 @@ ghost use Rattle.content.specs.Windows.{heads, producer_window};
 ghost use Rattle.content.specs.Verdicts.{verdict};
 ghost use Rattle.content.specs.Joins.{join, AgreeAt};
 ghost use Rattle.content.specs.Cleaning.{clean, clean_report};
-ghost use Rattle.content.specs.Examples.{key_a, key_b, two, three, entry, batch_0, batch_1, batch_2, batch_3, other_0, three_then_one, copy_of_three, cleaned_three, cut_at_2, twice_a, thin_a, cleaned_twice_a, a_b_a_b, latest_a_b, five_and_one, sixth, copy_of_four, last_possible};
+ghost use Rattle.content.specs.Examples.{key_a, key_b, two, three, entry, batch_0, batch_1, batch_2, batch_3, other_0, only_0_seen, three_then_one, copy_of_three, cleaned_three, cut_at_2, twice_a, thin_a, cleaned_twice_a, a_b_a_b, latest_a_b, five_and_one, sixth, copy_of_four, last_possible};
 
 /// Deliveries in any order, and one that comes again.
 pub fn deliveries()
@@ -109,10 +109,13 @@ pub fn sequences()
         (entry (pos 2) (pos 1) (pos 0) ∷ []) (pos 0) (pos 0) (pos 0) ≡ OldEpoch }
 {}
 
-/// Copies of different logs may disagree: in a record, or in a batch's span.
+/// Copies of different logs may disagree: in a record, or in a batch's span, also where one of them
+/// keeps no batch at all.
 pub fn disagreement()
     ensures records { ¬ AgreeAt (add empty batch_0) (add empty other_0) (pos 0) }
     ensures span { ¬ AgreeAt (add empty twice_a) (add empty batch_0) (pos 0) }
+    ensures span_alone { ¬ AgreeAt (add empty twice_a) only_0_seen (pos 0) }
+    ensures span_alone_in_other_order { ¬ AgreeAt only_0_seen (add empty twice_a) (pos 0) }
 {}
 
 /// Where a copy's start may move to: not into a batch, and to the end, also past the last offset.

@@ -26,3 +26,17 @@ returns-clause-span c = λ agree.
     let fits = (agree.0 twice_a refl).1 (omega (arith, ints)) (pos 1) (omega (arith, ints)) (omega (arith, ints)) in
     let seen : false ≡ true = fits in
     absurd cc
+
+pub returns-clause-span_alone : goal.returns-clause-span_alone
+unfolding put with_range
+returns-clause-span_alone c = λ agree.
+    let fits = (agree.0 twice_a refl).1 (omega (arith, ints)) (pos 1) (omega (arith, ints)) (omega (arith, ints)) in
+    let seen : false ≡ true = fits in
+    absurd cc
+
+pub returns-clause-span_alone_in_other_order : goal.returns-clause-span_alone_in_other_order
+unfolding put with_range
+returns-clause-span_alone_in_other_order c = λ agree.
+    let fits = (agree.1 twice_a refl).1 (omega (arith, ints)) (pos 1) (omega (arith, ints)) (omega (arith, ints)) in
+    let seen : false ≡ true = fits in
+    absurd cc
