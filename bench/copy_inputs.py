@@ -115,6 +115,11 @@ def merged_twice():
     return merged(["merge 1 0"], ["merged"])
 
 
+def produced_and_sent():
+    """Batches of many records, and an image of them."""
+    return produced(["send 0"], ["image 0"])
+
+
 # ---- images
 
 
@@ -131,7 +136,11 @@ def runs(numbers):
 
 def image(batches):
     """The image of a copy that keeps these batches of one record, by their offsets, and has seen nothing else."""
-    ranges = runs(sorted(batches))
+    return image_of(runs(sorted(batches)), batches)
+
+
+def image_of(ranges, batches):
+    """The image of a copy that has seen these ranges and keeps these batches, by their base offsets."""
     body = b"KCPY" + struct.pack(">hi", 0, len(ranges)) + b"".join(struct.pack(">qq", *it) for it in ranges)
     body += struct.pack(">i", len(batches)) + b"".join(batches[base] for base in sorted(batches))
     return body + struct.pack(">I", crc32c(body))
@@ -171,6 +180,23 @@ def alternating_images():
     return two_images(at(range(0, 2 * BATCHES, 2)), at(range(1, 2 * BATCHES, 2)))
 
 
+@functools.lru_cache(maxsize=1)
+def large_image():
+    """The image of the batches of many records."""
+    records = list(pairs(CLEANED_BATCHES * CLEANED_RECORDS, CLEANED_KEYS))
+    batches = {}
+    for base in range(0, len(records), CLEANED_RECORDS):
+        chosen = enumerate(records[base : base + CLEANED_RECORDS])
+        batches[base] = batch([record(at, key.encode(), value.encode(), [], {}) for at, (key, value) in chosen], {"base": base})
+    return image_of([(0, len(records) - 1)], batches)
+
+
+def image_and_empty():
+    """The image of the batches of many records, and that of a copy that has seen nothing."""
+    large, empty = large_image(), image_of([], {})
+    return b"".join(struct.pack(">i", len(it)) + it for it in (large, empty)), large
+
+
 INPUTS = [
     delivered,
     produced,
@@ -180,6 +206,8 @@ INPUTS = [
     sent,
     merged,
     merged_twice,
+    produced_and_sent,
+    image_and_empty,
     overlapping_images,
     equal_images,
     alternating_images,

@@ -104,11 +104,11 @@ module _ (w : World) (is : IsConsistent w) (copy i batch : ℕ) (c : Content) (n
   abbrev WasDelivered : BatchValue → Content → Result Outcome EventError → Type 0
   WasDelivered b after r =
       ((d : Delivered) × (r ≡ Ok (outcome.Delivered d)) × (after ≡ add c b) × ((d ≡ Repeat) ↔ (has_seen_all c b ≡ true)))
-      ⊎ ((r ≡ Err OutOfMemory) × (after ≡ c))
+      ⊎ ((r ≡ Err OutOfMemory) × HasSeenNone c b × (after ≡ c))
 
   was_delivered : (b : BatchValue) (after : Content) (r : Result Outcome EventError) → DeliversTo c b after r → WasDelivered b after r
   was_delivered b after (Ok (outcome.Delivered d)) does = inl (d, refl, does.0, does.1)
-  was_delivered b after (Err OutOfMemory) does = inr (refl, does)
+  was_delivered b after (Err OutOfMemory) does = inr (refl, does.0, does.1)
   was_delivered b after (Ok (outcome.Based x y)) does = absurd does
   was_delivered b after (Ok (outcome.Cleaned x)) does = absurd does
   was_delivered b after (Ok (outcome.Sent x)) does = absurd does
@@ -126,14 +126,14 @@ module _ (w : World) (is : IsConsistent w) (copy i batch : ℕ) (c : Content) (n
     where
       by : WasDelivered b after r → IsConsistent (changed after)
       by (inl is_ok) = subst IsConsistent (sym (changed_is after)) (after_change w is copy after is_follower.0 (subst (IsCopyOf w.log) (sym is_ok.2) (added_copy c b w.log is.plain follower_copy (on_log w.log batch b is.plain at))))
-      by (inr is_err) = subst IsConsistent (sym (unchanged_is after is_err.1)) is
+      by (inr is_err) = subst IsConsistent (sym (unchanged_is after is_err.2)) is
 
   pub delivered_steps : (b : BatchValue) (after : Content) (r : Result Outcome EventError) → slice_get w.log batch ≡ Some b → DeliversTo c b after r → Delivers w copy batch (changed after) r
   delivered_steps b after r at does = by (was_delivered b after r does)
     where
       by : WasDelivered b after r → Delivers w copy batch (changed after) r
       by (inl is_ok) = subst (Delivers w copy batch (changed after)) (sym is_ok.1) (c, b, is_follower, at, changed_is after ∙ ap (λ x. with_copy copy x w) is_ok.2, is_ok.3)
-      by (inr is_err) = subst (Delivers w copy batch (changed after)) (sym is_err.0) ((c, b, is_follower, at), unchanged_is after is_err.1)
+      by (inr is_err) = subst (Delivers w copy batch (changed after)) (sym is_err.0) ((c, b, is_follower, at, is_err.1), unchanged_is after is_err.2)
 
 -- the same, as code finds the copy and the batch
 pub after_delivery : (W w : World) (copy i batch : ℕ) (c after : Content) (b : BatchValue) (archive : List BatchValue) (r : Result Outcome EventError) → W ≡ w → IsConsistent W

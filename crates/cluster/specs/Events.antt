@@ -10,7 +10,7 @@ use Rattle.content.specs.Verdicts.{verdict_on}
 use Rattle.content.specs.declared.verdict.Verdict.{Verdict}
 use Rattle.content.specs.declared.verdict.Verdict.TheVariants as verdict
 use Rattle.content.specs.declared.delivery.Delivered.TheVariants.{Repeat}
-use Rattle.content.specs.Content.{Content, add, has_seen_all}
+use Rattle.content.specs.Content.{Content, add, has_seen_all, HasSeenNone}
 use Rattle.content.specs.Cleaning.{clean, clean_report}
 use Rattle.content.specs.Joins.{join}
 use Rattle.content.specs.Logs.{next_offset}
@@ -92,7 +92,7 @@ RefusesFollower w copy _ = ⊥
 abbrev pub RefusesDelivery : World → (copy batch : ℕ) → EventError → Type 0
 RefusesDelivery w copy batch NoBatch = (c : Content) × IsFollower w copy c × (slice_get w.log batch ≡ None)
 RefusesDelivery w copy batch OutOfMemory =
-    (c : Content) × (b : BatchValue) × IsFollower w copy c × (slice_get w.log batch ≡ Some b)
+    (c : Content) × (b : BatchValue) × IsFollower w copy c × (slice_get w.log batch ≡ Some b) × HasSeenNone c b
 RefusesDelivery w copy batch error = RefusesFollower w copy error
 
 abbrev pub Delivers : World → (copy batch : ℕ) → World → Result Outcome EventError → Type 0

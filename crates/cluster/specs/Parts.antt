@@ -5,7 +5,7 @@ use Rattle.batch_codec.specs.Values.{BatchValue}
 use Rattle.content.specs.declared.report.CleanReport.{CleanReport}
 use Rattle.content.specs.declared.verdict.Verdict.TheVariants as verdict
 use Rattle.content.specs.declared.delivery.Delivered.TheVariants.{Repeat}
-use Rattle.content.specs.Content.{Content, end, add, has_seen_all}
+use Rattle.content.specs.Content.{Content, end, add, has_seen_all, HasSeenNone}
 use Rattle.content.specs.Joins.{join}
 use Rattle.copy_images.specs.Images.{IsImage}
 use Rattle.partition_log.specs.Appends.{IsSendable, kept_verdict, at_end, IsNew, RefusesAppend}
@@ -47,5 +47,5 @@ MergesImage c bytes after _ = ⊥
 -- what a delivery makes of one copy
 abbrev pub DeliversTo : Content → BatchValue → Content → Result Outcome EventError → Type 0
 DeliversTo c b after (Ok (Delivered delivered)) = (after ≡ add c b) × ((delivered ≡ Repeat) ↔ (has_seen_all c b ≡ true))
-DeliversTo c b after (Err OutOfMemory) = after ≡ c
+DeliversTo c b after (Err OutOfMemory) = HasSeenNone c b × (after ≡ c)
 DeliversTo c b after _ = ⊥
