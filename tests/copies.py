@@ -64,7 +64,10 @@ def input_of(words, root):
 
 def reply_of(words, root):
     """The bytes that must come."""
-    kind = words.partition(" ")[0]
-    if kind in ("line", "each", "image"):
+    kind, _, rest = words.partition(" ")
+    if kind == "each":
+        count, _, form = rest.partition(" ")
+        return b"".join(reply_of(form.replace("#", str(n)), root) for n in range(int(count)))
+    if kind in ("line", "image"):
         return input_of(words, root)
     return frames.reply_of(words, root)

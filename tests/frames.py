@@ -53,11 +53,16 @@ def request(key, version, body):
     return data(struct.pack(">hhih", key, version, 7, -1) + body)
 
 
+def nullable(words, root):
+    """BYTES of inputs, or -1 for `null`."""
+    return struct.pack(">i", -1) if words == "null" else data(sent_of(words, root))
+
+
 def produce(words, root):
     given, words = options(words, ("acks", "id"))
     name = text(given["id"].encode()) if "id" in given else struct.pack(">h", -1)
     head = name + struct.pack(">hi", int(given.get("acks", 1)), 1000)
-    return request(0, 3, head + entries_of(words, lambda it: data(sent_of(it, root))))
+    return request(0, 3, head + entries_of(words, lambda it: nullable(it, root)))
 
 
 def fetch(words, root):
@@ -131,9 +136,10 @@ def listed(words, root):
 
 
 def described(words, root):
-    """The role of broker 1 at 127.0.0.1:9092, and of each topic its name, its code, whether it is internal and its number
-    of partitions."""
+    """The role of broker 1 at 127.0.0.1, with a port that isn't 9092 behind it, and of each topic its name, its code, whether
+    it is internal and its number of partitions."""
     role, _, words = words.partition(" ")
+    role, _, port = role.partition(":")
     leads = role == "leader"
     nodes = [struct.pack(">i", 1)] if leads else []
     made = []
@@ -146,7 +152,7 @@ def described(words, root):
             for index in range(int(count))
         ]
         made.append(struct.pack(">h", int(code)) + text(batches.unescaped(name)) + bytes([int(internal)]) + array(partitions))
-    broker = struct.pack(">i", 1) + text(b"127.0.0.1") + struct.pack(">ih", 9092, -1)
+    broker = struct.pack(">i", 1) + text(b"127.0.0.1") + struct.pack(">ih", int(port or 9092), -1)
     return response(array([broker]) + struct.pack(">i", 1 if leads else -1) + array(made))
 
 
