@@ -1,5 +1,5 @@
 -- A session, read by read: what it has answered so far, and how it ends or stops.
-use Rattle.std.proofs.Common.{◌≡◌, inl, inr, ℕ, ◌+◌, ◌^◌, ◌<◌, false, arith, List, [], ◌∷◌, ◌++◌, length, sym, ap, subst, ◌∙◌, append_assoc, append-nil, Result, Ok, Err, IfErr}
+use Rattle.std.proofs.Common.{◌≡◌, inl, inr, ℕ, ◌+◌, ◌^◌, ◌<◌, ◌≤◌, false, arith, List, [], ◌∷◌, ◌++◌, length, sym, ap, subst, ◌∙◌, append_assoc, append-nil, Result, Ok, Err, IfErr}
 use Rattle.std.specs.Io.KnownBytes.{Consumes}
 use Rattle.std.proofs.KnownBytes.{Consumes-nil, Consumes-trans, Consumes-kept, Appends-trans}
 use Rattle.std.proofs.lemmas.Int.{clamps}
@@ -47,6 +47,16 @@ more_held s after source mid source' sink sink' held held' count reads p more =
       leaves = Consumes-trans source.left mid.left source'.left p.input piece p.leaves more.0.1.consumes;
       front = subst (λ x. AnswersFront s after sink sink' (p.input ++ piece) x 0 count) (sym more.0.1.appends) (front_longer s after sink sink' p.input held piece 0 count p.front);
     }
+
+-- ---- how many reads are made
+
+-- after the reads that were counted, and one more
+pub few_reads : (first now next reads : ℕ) → now ≡ counted first reads → reads < 2 ^ 32 → next ≤ now + 1 → next ≤ first + 2 ^ 32
+few_reads first now next reads before few one = omega (arith, clamps, before, few, one)
+
+-- after all of them
+pub all_reads : (first now reads : ℕ) → now ≡ counted first reads → reads ≡ 2 ^ 32 → now ≤ first + 2 ^ 32
+all_reads first now reads before all = omega (arith, clamps, before, all)
 
 -- ---- how a session goes on
 

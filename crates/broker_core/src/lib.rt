@@ -5,7 +5,8 @@
 //! a function of the state and the request: the bytes of one response or none, and the state after.
 //! Where memory runs out within one partition, that partition is answered with a storage error and is
 //! as it was. `examples` works replies out, byte for byte. [`Cluster`], one partition with all its copies,
-//! stands in a crate of its own and is handed on.
+//! stands in a crate of its own and is handed on, as [`Source`] and [`Sink`], which [`serve`] reads and
+//! writes.
 //!
 //! Terms: *entry*, what a request says of one partition; *work*, the checks of an entry in their order,
 //! what is done where all pass, and what is answered where one fails.
@@ -44,3 +45,4 @@ pub use laws::{answered_snoc, answers_function, append_faults, one_content_chang
 pub use limits::{GROUP_TOPIC, MAX_FETCH_BYTES, MAX_HOST_BYTES, MAX_PARTITIONS, MAX_TOPICS};
 pub use node::Node;
 pub use session::{Ended, SessionError, serve};
+pub use streams::{Failed, Sink, Source};

@@ -1,6 +1,6 @@
 //! Bytes that a session reads and holds until their frame is complete.
 
-ghost use Rattle.std.specs.Prelude.{◌≡◌, ◌^◌, ◌<◌, length, MatchBool, IfOk, IfErr, OnOk, OnErr};
+ghost use Rattle.std.specs.Prelude.{◌≡◌, ◌+◌, ◌^◌, ◌<◌, ◌≤◌, length, MatchBool, IfOk, IfErr, OnOk, OnErr};
 ghost use Rattle.std.specs.Io.KnownBytes.{Keeps};
 ghost use Rattle.broker_core.specs.SessionSteps.{ReadsOnce, ReadsMore, ReadsEnd, StopsReading};
 
@@ -60,6 +60,7 @@ pub(crate) fn read_more<R: Read, A: Allocator + Copy>(
     ensures reads_once { OnOk result (ReadsOnce source.old source.new) }
     ensures bound { OnOk result (length buffer.new.items < 2 ^ 63) }
     ensures stops { IfErr result (StopsReading source.old source.new) }
+    ensures reads_at_most_once { source.new.reads ≤ source.old.reads + 1 }
 {
     if source.failed() {
         return Err(SessionError::Read);

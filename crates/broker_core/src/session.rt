@@ -1,6 +1,6 @@
 //! A session: request frames come in, and their replies go out.
 
-ghost use Rattle.std.specs.Prelude.{IfOk, IfErr};
+ghost use Rattle.std.specs.Prelude.{◌+◌, ◌^◌, ◌≤◌, IfOk, IfErr};
 ghost use Rattle.broker_core.specs.Sessions.{EndsAs, StopsAs};
 
 use crate::answering::answer_frames;
@@ -51,6 +51,7 @@ const MOST_FRAMES: u64 = 9_223_372_036_854_775_808;
 /// Answers the frames that come from the source, in order, each as soon as it is complete. Each
 /// reply goes to the sink before the next frame is handled, and all complete frames are answered
 /// before more is read. In which pieces the bytes come makes no difference. The sink isn't flushed.
+/// However it ends, it makes at most 2^32 reads.
 ///
 /// The bytes of an incomplete frame are held. The memory for them grows as they come, whatever size
 /// the frame announces.
@@ -77,7 +78,7 @@ const MOST_FRAMES: u64 = 9_223_372_036_854_775_808;
 ///
 /// A source of which a read failed before isn't read: the answer is `Read`. A sink of which a write
 /// failed before isn't written: the answer is `Write` at the first reply that isn't empty.
-#[tactic(auto, using(crate::proofs::ServedSessions::nothing_served))]
+#[tactic(auto, using(crate::proofs::ServedSessions::nothing_served, crate::proofs::ServedSessions::few_reads, crate::proofs::ServedSessions::all_reads))]
 pub fn serve<S: BatchStore, R: Read, W: Write, A: Allocator + Copy>(
     alloc: A,
     node: &mut Node<S>,
@@ -86,6 +87,7 @@ pub fn serve<S: BatchStore, R: Read, W: Write, A: Allocator + Copy>(
 ) -> Result<Ended, SessionError>
     ensures ends { IfOk result (EndsAs node.old source.old source.new sink.old sink.new node.new) }
     ensures stops { IfErr result (StopsAs node.old source.old source.new sink.old sink.new node.new) }
+    ensures few_reads { source.new.reads ≤ source.old.reads + 2 ^ 32 }
 {
     let mut buffer = BytesMut::new(alloc);
     let mut out = Vec::new(alloc);

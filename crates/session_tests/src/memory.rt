@@ -21,6 +21,7 @@ fn a_session_without_memory(rt: HostRuntime) -> Result<(), Fail> {
             taken: Vec::new(rt.alloc()),
             piece: 100,
             room: usize::MAX,
+            error: None,
         };
         let (answer, taken, _) = session(rt.alloc(), &heap, reader, writer)?;
         passed = heap.calls() < refused;
@@ -55,6 +56,7 @@ fn many_requests_in_few_allocations(rt: HostRuntime) -> Result<(), Fail> {
         taken: Vec::new(rt.alloc()),
         piece: 100,
         room: usize::MAX,
+        error: None,
     };
     let (answer, taken, _) = session(rt.alloc(), &heap, reader, writer)?;
     assert_eq!(rt; answer.as_str(), "3000 and 0");

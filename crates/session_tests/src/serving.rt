@@ -1,6 +1,6 @@
 //! Sessions from the bytes that come to the bytes that go out, in pieces of any size.
 
-use crate::setting::{Halting, Pieces, REQUEST, RESPONSE, session};
+use crate::setting::{Halting, Pieces, REQUEST, RESPONSE, WAYS, session};
 use std::alloc::{AllocError, Allocator};
 use std::test::Fail;
 
@@ -22,7 +22,7 @@ fn requests<A: Allocator + Copy>(
 #[test]
 fn streams_in_pieces(rt: HostRuntime) -> Result<(), Fail> {
     // how many requests come, what follows them, the answer, and how many responses go out
-    let rows: [(&str, usize, &[u8], &str, usize); 9] = [
+    let rows: [(&str, usize, &[u8], &str, usize); 15] = [
         ("nothing", 0, b"", "0 and 0", 0),
         ("two requests", 2, b"", "2 and 0", 2),
         ("a part of a size", 1, b"\xff\xff", "1 and 2", 1),
@@ -50,6 +50,48 @@ fn streams_in_pieces(rt: HostRuntime) -> Result<(), Fail> {
             "frame 1: ShortBody",
             1,
         ),
+        (
+            "the second is large",
+            1,
+            b"\0\x80\0\x01",
+            "frame 1: TooLarge",
+            1,
+        ),
+        (
+            "7 bytes",
+            1,
+            b"\0\0\0\x07\0\x02\0\x01\0\0\0",
+            "frame 1: ShortHeader",
+            1,
+        ),
+        (
+            "Fetch of version 3",
+            1,
+            b"\0\0\0\x0a\0\x01\0\x03\0\0\0\x08\xff\xff",
+            "frame 1: BadVersion",
+            1,
+        ),
+        (
+            "api key 999",
+            1,
+            b"\0\0\0\x0a\x03\xe7\0\x01\0\0\0\x08\xff\xff",
+            "frame 1: UnknownApi",
+            1,
+        ),
+        (
+            "a client id of -2 bytes",
+            1,
+            b"\0\0\0\x0a\0\x02\0\x01\0\0\0\x08\xff\xfe",
+            "frame 1: Malformed",
+            1,
+        ),
+        (
+            "a byte behind Metadata",
+            1,
+            b"\0\0\0\x0f\0\x03\0\x01\0\0\0\x08\xff\xff\xff\xff\xff\xff\0",
+            "frame 1: TrailingBytes",
+            1,
+        ),
     ];
     for (name, count, more, answer, responses) in rows {
         for piece in [1, 3, 41, 1000] {
@@ -63,6 +105,7 @@ fn streams_in_pieces(rt: HostRuntime) -> Result<(), Fail> {
                 taken: Vec::new(rt.alloc()),
                 piece,
                 room: usize::MAX,
+                error: None,
             };
             let (got, taken, _) = session(rt.alloc(), rt.alloc(), reader, writer)?;
             assert_eq!(rt; got.as_str(), answer, "{name}, {piece}");
@@ -76,7 +119,8 @@ fn streams_in_pieces(rt: HostRuntime) -> Result<(), Fail> {
 #[test]
 fn streams_that_fail(rt: HostRuntime) -> Result<(), Fail> {
     let input = requests(rt.alloc(), 2, REQUEST, b"")?;
-    // where the read fails, how many bytes the writer takes, the answer, and how many bytes went out
+    // Where the read fails, how many bytes the writer takes, the answer, and how many bytes went out.
+    // Where the writer's flushes fail, it makes no difference: none is made.
     let rows = [
         ("at once", Some(82), usize::MAX, "read failed", 0),
         ("within the first", Some(50), usize::MAX, "read failed", 0),
@@ -88,20 +132,26 @@ fn streams_that_fail(rt: HostRuntime) -> Result<(), Fail> {
         ("both are taken", None, 82, "2 and 0", 82),
     ];
     for (name, fails_at, room, answer, count) in rows {
-        let reader = Pieces {
-            left: &input,
-            piece: 1,
-            fails_at,
-        };
-        let writer = Halting {
-            taken: Vec::new(rt.alloc()),
-            piece: 7,
-            room,
-        };
-        let (got, taken, _) = session(rt.alloc(), rt.alloc(), reader, writer)?;
-        assert_eq!(rt; got.as_str(), answer, "{name}");
-        let wanted = requests(rt.alloc(), 2, RESPONSE, b"")?;
-        assert!(rt; Some(taken.as_slice()) == wanted.get(..count), "{name}");
+        for (way, error) in WAYS {
+            let reader = Pieces {
+                left: &input,
+                piece: 1,
+                fails_at,
+            };
+            let writer = Halting {
+                taken: Vec::new(rt.alloc()),
+                piece: 7,
+                room,
+                error,
+            };
+            let (got, taken, _) = session(rt.alloc(), rt.alloc(), reader, writer)?;
+            assert_eq!(rt; got.as_str(), answer, "{name}, {way}");
+            let wanted = requests(rt.alloc(), 2, RESPONSE, b"")?;
+            assert!(rt;
+                Some(taken.as_slice()) == wanted.get(..count),
+                "{name}, {way}"
+            );
+        }
     }
     Ok(())
 }

@@ -33,16 +33,33 @@ impl Read for Pieces<'_> {
     }
 }
 
-/// Takes at most `piece` bytes a write, and fails once it took `room` bytes.
+/// Takes at most `piece` bytes a write. A write fails once, behind `room` bytes: with the error, or by
+/// taking no byte where there is none; a write after that takes bytes again. Where there is an error,
+/// each flush fails with it.
 #[derive(Drop)]
 pub(crate) struct Halting<A: Allocator> {
     pub(crate) taken: Vec<u8, A>,
     pub(crate) piece: usize,
     pub(crate) room: usize,
+    pub(crate) error: Option<ErrorKind>,
 }
+
+/// The ways in which a writer fails.
+pub(crate) const WAYS: [(&str, Option<ErrorKind>); 3] = [
+    ("takes 0 bytes", None),
+    ("broken", Some(ErrorKind::BrokenPipe)),
+    ("interrupted", Some(ErrorKind::Interrupted)),
+];
 
 impl<A: Allocator> Write for Halting<A> {
     fn write(&mut self, buf: &[u8]) -> Result<usize> {
+        if self.room == 0 {
+            self.room = usize::MAX;
+            return match self.error {
+                Some(kind) => Err(Error::from(kind)),
+                None => Ok(0),
+            };
+        }
         let count = buf.len().min(self.piece).min(self.room);
         self.taken.extend_from_slice(&buf[..count])?;
         self.room -= count;
@@ -50,7 +67,10 @@ impl<A: Allocator> Write for Halting<A> {
     }
 
     fn flush(&mut self) -> Result<()> {
-        Ok(())
+        match self.error {
+            Some(kind) => Err(Error::from(kind)),
+            None => Ok(()),
+        }
     }
 }
 
