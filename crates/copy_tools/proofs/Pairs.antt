@@ -25,7 +25,7 @@ is_unread_image bytes why is refuses = subst (Refuses bytes) is refuses
 
 pub copies_refused : (a b : Content) (why : MergeError) → RefusesMerge a b why → RefusesCopies a b (fault_of why)
 copies_refused a b (merge.Disagree base) is = is
-copies_refused a b merge.OutOfMemory is = tt
+copies_refused a b merge.OutOfMemory is = is
 
 fault_refused : (input rest : List ℕ) (a b : Content) (why : MergeFault) → StartsImage input a rest → StartsImage rest b [] → RefusesCopies a b why → RefusesPair input why
 fault_refused input rest a b (First e) starts follows is = absurd is

@@ -1,5 +1,5 @@
 -- Two images merged into one, from bytes to bytes.
-use Rattle.std.specs.Prelude.{◌≡◌, ◌≢◌, ◌⊎◌, ℕ, ◌+◌, ◌^◌, ◌<◌, ◌≤◌, List, [], ◌∷◌, ◌++◌, length, ⊤}
+use Rattle.std.specs.Prelude.{◌≡◌, ◌≢◌, ◌⊎◌, ℕ, ◌+◌, ◌^◌, ◌<◌, ◌≤◌, List, [], ◌∷◌, ◌++◌, length}
 use Rattle.std.specs.Int.{w32}
 use Rattle.batch_codec.specs.Grammar.{fields}
 use Rattle.batch_codec.specs.Fields.{unsigned_at}
@@ -63,8 +63,8 @@ abbrev pub fault_of : MergeError → MergeFault
 fault_of (merge.Disagree base) = Disagree base
 fault_of merge.OutOfMemory = OutOfMemory
 
--- what is said of two copies' merge
+-- what is said of two copies' merge: memory runs out only where they agree
 abbrev pub RefusesCopies : Content → Content → MergeFault → Type 0
 RefusesCopies a b (Disagree base) = IsFirstDisagreement a b base
-RefusesCopies a b OutOfMemory = ⊤
+RefusesCopies a b OutOfMemory = Agree a b
 RefusesCopies a b _ = ⊥

@@ -15,7 +15,7 @@ pub enum ReplayError {
     /// There is no memory for a line, for an event, or for what is printed.
     #[error("out of memory")]
     OutOfMemory,
-    /// The script couldn't be read.
+    /// The script couldn't be read, or it didn't end within 2^32 reads.
     #[error("read failed")]
     Read,
     /// What came of an event couldn't be printed.

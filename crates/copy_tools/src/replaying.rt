@@ -209,7 +209,9 @@ fn do_lines<S: BatchStore, R: Read, W: Write>(
 ///
 /// # Errors
 ///
-/// The first thing that stops it. The lines before were done, and what came of them is printed.
+/// The first thing that stops it. The lines before were done, and what came of them is printed. Where
+/// that can't be printed, the write that failed is the first thing, also before a line that is bad and
+/// before memory that is missing: what waits in the buffer stands in front of them.
 pub fn replay<S: BatchStore, R: Read, W: Write>(
     alloc: S::Alloc,
     reader: &mut R,
@@ -226,6 +228,6 @@ pub fn replay<S: BatchStore, R: Read, W: Write>(
     }
     match printer.finish() {
         Ok(()) => done,
-        Err(_) => done.and(Err(ReplayError::Write)),
+        Err(_) => Err(ReplayError::Write),
     }
 }

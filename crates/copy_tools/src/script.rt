@@ -19,7 +19,7 @@ const MOST_READS: u64 = 1 << 32;
 /// Why no line is held.
 #[derive(Clone, Copy, Debug, PartialEq, Eq)]
 pub(crate) enum ReadFault {
-    /// A read failed, or 2^32 reads were made for one line.
+    /// A read failed, or the script didn't end within 2^32 reads.
     Read,
     OutOfMemory,
 }
@@ -68,7 +68,7 @@ impl<R: Read, A: Allocator + Copy> Script<R, A> {
 
     /// Makes one read behind what is held, and tells whether bytes came, or the end of input.
     fn read_more(&mut self) -> Result<bool, ReadFault> {
-        if self.source.failed() {
+        if self.source.failed() || MOST_READS <= self.source.reads() {
             return Err(ReadFault::Read);
         }
         if make_room(&mut self.held).is_err() {

@@ -1,22 +1,23 @@
 -- Lemmas on the program's arguments.
 use Rattle.std.proofs.Common.{◌≡◌, true, List, [], ◌∷◌, map, ap, refl, sym, subst, inl, inr, false, bytes_eq, ◌∙◌, codes, Option, Some, None}
-use Rattle.std.specs.Prelude.{option_map, unwrap_or}
+use Rattle.std.specs.Prelude.{ℕ, option_map, unwrap_or, IfSome, Result, Ok, Err}
+use Rattle.std.specs.Str.Parse.{ParsesUnsigned}
 use Rattle.std.specs.Borrow.{Bor}
 use Rattle.std.proofs.lemmas.Option.{none-some, same_Some}
-use Rattle.clap.specs.Words.{App, Row, Text, first_value, first_of, all_of, raw_values, matched_of, rows_of, fault_of, subcommand_of, subcommand_rows_of, subcommand_name_of, is_simple, is_simple_and_free, kind_of, HasKind, HasMatchesOf}
+use Rattle.clap.specs.Words.{App, Row, Text, first_value, first_of, all_of, raw_values, matched_of, rows_of, fault_of, subcommand_of, subcommand_rows_of, subcommand_name_of, is_simple, is_simple_and_free, kind_of, HasKind, HasMatchesOf, ReadsOne}
 use Rattle.clap.specs.declared.error.Error.{Error}
 use Rattle.clap.specs.declared.error.kind.ErrorKind.TheVariants.{OutOfMemory}
 use Rattle.tcp_edge.specs.declared.asked.LineFault.{LineFault}
 use Rattle.tcp_edge.specs.declared.asked.LineFault.TheVariants.{Clap, Topic}
 use Rattle.tcp_edge.specs.declared.asked.Asked.{Asked}
 use Rattle.tcp_edge.specs.declared.asked.Asked.TheVariants.{Table, Session, Serve, Replay, Merge}
-use Rattle.tcp_edge.specs.Asked.{IsAsked, IsConfigFault, IsFaulty, IsOutOfMemory, IsPlanOf, IfNamed, IfNoMerge, AsksForOther}
+use Rattle.tcp_edge.specs.Asked.{IsAsked, IsConfigFault, IsFaulty, IsOutOfMemory, IsListener, IsPlanOf, IfNamed, IfNoMerge, AsksForOther}
 use Rattle.tcp_edge.specs.declared.asked.Plan.{Plan}
 use Rattle.clap.specs.declared.parser.matches.Found.{Found}
 use Rattle.clap.specs.declared.parser.matches.ArgMatches.{ArgMatches}
 use Rattle.clap.proofs.OnLiterals.{clap_on_literals}
 use Rattle.clap.proofs.WalkLemmas.{first_value-rows, raw_values-rows}
-use Rattle.tcp_edge.specs.CommandLine.{kbroker, AsksForTable, AsksForMerge, Finds, Names, Roles, IsRoles}
+use Rattle.tcp_edge.specs.CommandLine.{kbroker, AsksForTable, AsksForMerge, Finds, Names, Roles, IsRoles, IsNumberOf, IsPort}
 
 -- ---- the table
 
@@ -110,6 +111,14 @@ pub words_found : (o : Option (Bor (List (Bor Text)))) (none : Bor (List (Bor Te
 words_found None none e is empty = rw (← is, empty) refl
 words_found (Some s) none e is empty = rw (← is) refl
 
+-- a number is read as clap hands its text to the type
+pub number_read : (E : Type 0) (G : List ℕ → Result ℕ E → Type 0) (bits : ℕ) (o : Option Text) (r : Option ℕ)
+    → ((word : Text) (x : Result ℕ E) → G word x → ParsesUnsigned bits 10 word x)
+    → (o ≡ None → r ≡ None) → ((word : Text) → o ≡ Some word → ReadsOne G word r) → IsNumberOf bits o (unwrap_or r 0)
+number_read E G bits None r parses none value = ap (λ (n : Option ℕ). unwrap_or n 0) (none refl)
+number_read E G bits (Some word) None parses none value = let read = value word refl in inr (parses word (Err read.0) read.1, refl)
+number_read E G bits (Some word) (Some n) parses none value = inl (parses word (Ok n) (value word refl))
+
 -- ---- faults
 
 -- where clap finds no fault, only memory can be short
@@ -143,7 +152,7 @@ table_asked arguments Table asks is = refl
 table_asked arguments (Session g) asks is =
     let bad : true ≡ false = ap (bytes_eq (codes "table")) (is (codes "table") [] (finds_table arguments asks)).0 in cc
 table_asked arguments (Serve plan) asks is =
-    let bad : true ≡ false = ap (bytes_eq (codes "table")) (is (codes "table") [] (finds_table arguments asks)) in cc
+    let bad : true ≡ false = ap (bytes_eq (codes "table")) (is (codes "table") [] (finds_table arguments asks)).0 in cc
 table_asked arguments Replay asks is =
     let bad : true ≡ false = ap (bytes_eq (codes "table")) (is (codes "table") [] (finds_table arguments asks)) in cc
 table_asked arguments Merge asks is =
@@ -174,7 +183,7 @@ no_other_than_merge arguments Table asks is = absurd ((is (codes "merge") [] (fi
 no_other_than_merge arguments (Session g) asks is =
     let bad : true ≡ false = ap (bytes_eq (codes "merge")) (is (codes "merge") [] (finds_merge arguments asks)).0 in cc
 no_other_than_merge arguments (Serve plan) asks is =
-    let bad : true ≡ false = ap (bytes_eq (codes "merge")) (is (codes "merge") [] (finds_merge arguments asks)) in cc
+    let bad : true ≡ false = ap (bytes_eq (codes "merge")) (is (codes "merge") [] (finds_merge arguments asks)).0 in cc
 no_other_than_merge arguments Replay asks is =
     let bad : true ≡ false = ap (bytes_eq (codes "merge")) (is (codes "merge") [] (finds_merge arguments asks)) in cc
 
@@ -189,6 +198,20 @@ pub no_plan : (arguments : List Text) (asked : Asked) (plan : Option Plan) → A
     → ((name : Text) (rows : List Row) → Finds arguments name rows → IsAsked name rows asked) → IsPlanOf asked plan → plan ≡ None
 no_plan arguments Table plan asks is of = of
 no_plan arguments (Session g) plan asks is of = of
-no_plan arguments (Serve p) plan asks is of = absurd (asks.3 (is asks.0 asks.1 asks.2))
+no_plan arguments (Serve p) plan asks is of = absurd (asks.3 (is asks.0 asks.1 asks.2).0)
 no_plan arguments Replay plan asks is of = of
 no_plan arguments Merge plan asks is of = of
+
+-- ---- and where one is
+
+pub plan_found : (arguments : List Text) (rows : List Row) (asked : Asked) (plan : Option Plan) → Finds arguments (codes "serve") rows
+    → ((name : Text) (rows : List Row) → Finds arguments name rows → IsAsked name rows asked) → IsPlanOf asked plan → IfSome plan (IsListener rows)
+plan_found arguments rows Table plan finds is of = subst (λ (p : Option Plan). IfSome p (IsListener rows)) (sym of) tt
+plan_found arguments rows (Session g) plan finds is of = subst (λ (p : Option Plan). IfSome p (IsListener rows)) (sym of) tt
+plan_found arguments rows (Serve asked) plan finds is of =
+    subst (λ (p : Option Plan). IfSome p (IsListener rows)) (sym of) (is (codes "serve") rows finds).1
+plan_found arguments rows Replay plan finds is of = subst (λ (p : Option Plan). IfSome p (IsListener rows)) (sym of) tt
+plan_found arguments rows Merge plan finds is of = subst (λ (p : Option Plan). IfSome p (IsListener rows)) (sym of) tt
+
+pub port_found : (rows : List Row) (plan : Plan) → IsListener rows plan → IsPort rows plan.config.port
+port_found rows plan is = subst (IsPort rows) (sym is.config.port_is) is.is_port

@@ -113,3 +113,13 @@ all_taken a b b' waiting waiting' c count none read e =
       reads = (read.are_accepted, consumes_all a b b' (stream read.batches) (subst (Consumes a b) parts read.consumes) e.at_end e.stays);
       delivers = read.delivers;
     }
+
+-- ---- the bytes of an input, read one piece after the other
+
+pub piece_read : (a b b' : Option (List ℕ)) (waiting waiting' : List ℕ) → Consumes a b waiting → TakesPiece b b' waiting waiting' → Consumes a b' waiting'
+piece_read a b b' waiting waiting' read t =
+    subst (Consumes a b') (sym t.appended) (Consumes-trans a b b' waiting t.piece read t.consumed)
+
+pub all_read : (a b b' : Option (List ℕ)) (waiting waiting' : List ℕ) → Consumes a b waiting → FindsEnd b b' waiting waiting' → ReadsAll a b' waiting'
+all_read a b b' waiting waiting' read e =
+    subst (ReadsAll a b') (sym e.unchanged) (consumes_all a b b' waiting read e.at_end e.stays)

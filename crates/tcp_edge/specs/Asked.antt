@@ -1,5 +1,5 @@
 -- What a parse of the command line gives, by the subcommand that clap found and its values.
-use Rattle.std.specs.Prelude.{◌≡◌, ◌≢◌, List, codes, ⊤, Option, Some, None}
+use Rattle.std.specs.Prelude.{◌≡◌, ◌≢◌, ℕ, List, codes, ⊤, Option, Some, None}
 use Rattle.clap.specs.Words.{Row, Text, kind_of}
 use Rattle.clap.specs.declared.error.kind.ErrorKind.TheVariants as kind
 use Rattle.broker_core.specs.ConfigValues.{config_value}
@@ -8,12 +8,19 @@ use Rattle.tcp_edge.specs.declared.asked.Asked.TheVariants.{Table, Session, Serv
 use Rattle.tcp_edge.specs.declared.asked.Plan.{Plan}
 use Rattle.tcp_edge.specs.declared.asked.LineFault.{LineFault}
 use Rattle.tcp_edge.specs.declared.asked.LineFault.TheVariants.{Clap, Topic}
-use Rattle.tcp_edge.specs.CommandLine.{IsConfigOf, Finds}
+use Rattle.tcp_edge.specs.CommandLine.{IsConfigOf, IsPort, IsConnections, Finds}
+
+-- a broker that listens: at first its configuration has the port that was asked for
+pub record IsListener (rows : List Row) (plan : Plan) : Type 0 where
+  pub port : ℕ
+  pub is_port : IsPort rows port
+  pub config : IsConfigOf rows port (config_value plan.config)
+  pub connections : IsConnections rows plan.connections
 
 abbrev pub IsAsked : Text → List Row → Asked → Type 0
 IsAsked name rows Table = (name ≢ codes "session") × (name ≢ codes "serve") × (name ≢ codes "replay") × (name ≢ codes "merge")
 IsAsked name rows (Session g) = (name ≡ codes "session") × IsConfigOf rows 9092 (config_value g)
-IsAsked name rows (Serve plan) = name ≡ codes "serve"
+IsAsked name rows (Serve plan) = (name ≡ codes "serve") × IsListener rows plan
 IsAsked name rows Replay = name ≡ codes "replay"
 IsAsked name rows Merge = name ≡ codes "merge"
 

@@ -1,13 +1,13 @@
 -- What the program can be asked for on its command line, in the words of clap.
-use Rattle.std.specs.Prelude.{◌≡◌, ℕ, ◌<◌, ◌^◌, pos, true, false, if◌then◌else◌, List, [], ◌∷◌, ◌++◌, Some, codes, map, bytes_eq, unwrap_or, ⊤}
+use Rattle.std.specs.Prelude.{◌≡◌, ◌⊎◌, ℕ, ◌<◌, ◌^◌, pos, true, false, if◌then◌else◌, List, [], ◌∷◌, ◌++◌, Option, Some, None, codes, map, bytes_eq, unwrap_or, ⊤}
 use Rattle.std.specs.Borrow.{Bor}
 use Rattle.std.specs.Option.{option_map_or}
-use Rattle.std.specs.Str.Parse.{IsNumeral, digits_value}
+use Rattle.std.specs.Str.Parse.{IsNumeral, digits_value, without_leading_plus}
 use Rattle.broker_core.specs.State.{ConfigValue, TopicConfig}
 use Rattle.broker_core.specs.declared.config.Role.{Role}
 use Rattle.broker_core.specs.declared.config.Role.TheVariants.{Leader, Follower}
 use Rattle.clap.specs.Lexer.{usize_max}
-use Rattle.clap.specs.Words.{App, Row, Rule, Shape, Text, new_app, new_rule, with_rule, with_subcommand, first_of, all_of, fault_of, subcommand_of}
+use Rattle.clap.specs.Words.{App, Row, Rule, Shape, Text, new_app, new_rule, with_rule, with_subcommand, first_of, one_of, all_of, fault_of, subcommand_of}
 use Rattle.clap.specs.declared.builder.value_parser.ValueParser.{ValueParser}
 use Rattle.clap.specs.declared.builder.value_parser.ValueParser.TheVariants as parsers
 
@@ -104,6 +104,23 @@ AreTopics [] (t ∷ ts) = ⊥
 AreTopics (word ∷ words) [] = ⊥
 AreTopics (word ∷ words) (t ∷ ts) = IsTopic word t × AreTopics words ts
 
+-- decimal digits, behind a `+` or not, of a number of so many bits
+abbrev pub SaysNumber : ℕ → Text → Type 0
+SaysNumber bits word = IsNumeral 10 (without_leading_plus word) × (digits_value 10 (without_leading_plus word) < 2 ^ bits)
+
+-- the number that the value of an argument says, if there is one and it says one, and else 0
+abbrev pub IsNumberOf : ℕ → Option Text → ℕ → Type 0
+IsNumberOf bits None n = n ≡ 0
+IsNumberOf bits (Some word) n =
+    (SaysNumber bits word × (n ≡ digits_value 10 (without_leading_plus word))) ⊎ (¬ SaysNumber bits word × (n ≡ 0))
+
+-- the port to listen at, and how many connections to serve
+abbrev pub IsPort : List Row → ℕ → Type 0
+IsPort rows port = IsNumberOf 16 (one_of (codes "port") rows) port
+
+abbrev pub IsConnections : List Row → ℕ → Type 0
+IsConnections rows count = IsNumberOf 32 (one_of (codes "connections") rows) count
+
 -- the program's broker, at a port
 pub record IsConfigOf (rows : List Row) (port : ℕ) (g : ConfigValue) : Type 0 where
   pub role : g.role ≡ role_of rows
@@ -111,6 +128,10 @@ pub record IsConfigOf (rows : List Row) (port : ℕ) (g : ConfigValue) : Type 0 
   pub host : g.host ≡ codes "127.0.0.1"
   pub port_is : g.port ≡ port
   pub topics : AreTopics (topic_words rows) g.topics
+
+-- the same broker at another port
+abbrev pub at_port : ConfigValue → ℕ → ConfigValue
+at_port g port = record g { port = port }
 
 -- Clap finds no fault in the arguments, and finds the subcommand of this name in them, where the words of roles lie somewhere
 -- in memory.

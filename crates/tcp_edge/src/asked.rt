@@ -4,8 +4,8 @@ ghost use Rattle.std.specs.Prelude.{◌≡◌, ◌≢◌, ℕ, pos, List, Some, 
 ghost use Rattle.std.specs.Bool.{MatchBool};
 ghost use Rattle.broker_core.specs.ConfigValues.{config_value};
 ghost use Rattle.clap.specs.Words.{Row, Text, found_of, rows_of, subcommand_name_of, subcommand_rows_of};
-ghost use Rattle.tcp_edge.specs.Asked.{IfNamed, IsAsked, IsConfigFault, IsFaulty, IsOutOfMemory, IsPlanOf};
-ghost use Rattle.tcp_edge.specs.CommandLine.{Finds, IsConfigOf, Names, role_of};
+ghost use Rattle.tcp_edge.specs.Asked.{IfNamed, IsAsked, IsConfigFault, IsFaulty, IsListener, IsOutOfMemory, IsPlanOf};
+ghost use Rattle.tcp_edge.specs.CommandLine.{Finds, IsConfigOf, IsConnections, IsPort, Names, role_of};
 
 use crate::commands::command;
 use crate::topics::topics_of;
@@ -122,12 +122,27 @@ fn config_of(
     })
 }
 
+/// The port to listen at; 0 where there is none in the matches.
+fn port_of(matches: &ArgMatches<'_>) -> u16
+    ensures { IsPort (rows_of (found_of matches.now)) result }
+{
+    matches.get_one::<u16>("port").unwrap_or(0)
+}
+
+/// How many connections to serve; 0 where the matches don't say.
+fn connections_of(matches: &ArgMatches<'_>) -> u32
+    ensures { IsConnections (rows_of (found_of matches.now)) result }
+{
+    matches.get_one::<u32>("connections").unwrap_or(0)
+}
+
 /// A broker that listens.
 fn plan_of(alloc: Global, matches: &ArgMatches<'_>) -> Result<Plan, LineFault>
+    ensures plan { IfOk result (IsListener (rows_of (found_of matches.now))) }
     ensures fault { IfErr result IsConfigFault }
 {
-    let port = matches.get_one::<u16>("port").unwrap_or(0);
-    let connections = matches.get_one::<u32>("connections").unwrap_or(0);
+    let port = port_of(matches);
+    let connections = connections_of(matches);
     let config = config_of(alloc, matches, port)?;
     Ok(Plan {
         config,

@@ -1,12 +1,12 @@
 //! The program's command line.
 
-ghost use Rattle.std.specs.Prelude.{◌≡◌, ◌≢◌, ◌≤◌, ◌⊎◌, ℕ, List, None, IfOk, map};
+ghost use Rattle.std.specs.Prelude.{◌≡◌, ◌≢◌, ◌≤◌, ◌⊎◌, ℕ, List, None, IfOk, IfSome, codes, map};
 ghost use Rattle.batch_codec.specs.Values.{BatchValue};
-ghost use Rattle.clap.specs.Words.{kind_of};
+ghost use Rattle.clap.specs.Words.{Row, kind_of};
 ghost use Rattle.copy_tools.specs.declared.error.MergeFault.{MergeFault};
-ghost use Rattle.tcp_edge.specs.Asked.{AsksForOther, IsConfigFault, IsOutOfMemory};
+ghost use Rattle.tcp_edge.specs.Asked.{AsksForOther, IsConfigFault, IsListener, IsOutOfMemory};
 ghost use Rattle.tcp_edge.specs.declared.error.Refusal.{Refusal};
-ghost use Rattle.tcp_edge.specs.CommandLine.{AsksForMerge, AsksForTable, NamesReplay, NamesSession};
+ghost use Rattle.tcp_edge.specs.CommandLine.{AsksForMerge, AsksForTable, Finds, IsPort, NamesReplay, NamesSession};
 ghost use Rattle.tcp_edge.specs.Merges.{PrintsMerge, RefusesImages};
 ghost use Rattle.tcp_edge.specs.Refused.{RefusesStream};
 ghost use Rattle.tcp_edge.specs.Tables.{ReadsLog, PrintsTable};
@@ -129,9 +129,11 @@ pub fn run_line<S: AsStr, R: Read, W: Write, E: Write>(
 }
 
 /// What the arguments ask of a broker that listens, if they ask for one.
-#[tactic(auto, using(crate::proofs::Arguments::no_plan))]
+#[tactic(auto, using(crate::proofs::Arguments::no_plan, crate::proofs::Arguments::plan_found))]
 fn plan_asked<S: AsStr>(alloc: Global, arguments: &[S]) -> Result<Option<Plan>, AllocError>
-    ensures { AsksForOther (map S.text arguments.now) → IfOk result (λ plan. plan ≡ None) }
+    ensures other { AsksForOther (map S.text arguments.now) → IfOk result (λ plan. plan ≡ None) }
+    ensures serve { (rows : List Row) → Finds (map S.text arguments.now) (codes "serve") rows
+        → IfOk result (λ plan. IfSome plan (IsListener rows)) }
 {
     match parse(alloc, arguments) {
         Ok(asked) => Ok(asked.plan()),
@@ -150,8 +152,11 @@ fn plan_asked<S: AsStr>(alloc: Global, arguments: &[S]) -> Result<Option<Plan>, 
 /// # Errors
 ///
 /// `AllocError` where there is no memory to look them up.
+#[tactic(auto, using(crate::proofs::Arguments::port_found))]
 pub fn serve_port<S: AsStr>(alloc: Global, arguments: &[S]) -> Result<Option<u16>, AllocError>
     ensures other_has_none { AsksForOther (map S.text arguments.now) → IfOk result (λ port. port ≡ None) }
+    ensures is_asked_for { (rows : List Row) → Finds (map S.text arguments.now) (codes "serve") rows
+        → IfOk result (λ port. IfSome port (IsPort rows)) }
 {
     match plan_asked(alloc, arguments)? {
         Some(plan) => Ok(Some(plan.config.port)),

@@ -2,8 +2,9 @@
 
 use std::alloc::Global;
 use std::cell::Cell;
-use std::io::{Read, Result, Write};
+use std::io::{Error, ErrorKind, Read, Result, Write};
 use std::net::TcpStream;
+use streams::Sink;
 
 /// How many bytes of replies wait at most. What is longer is written at once, behind those that wait.
 const MOST_WAITING: usize = 65_536;
@@ -33,16 +34,19 @@ impl<'a> Connection<'a> {
     ///
     /// # Errors
     ///
-    /// A write failed. What waited is lost, and `write_failed` says so from then on.
+    /// A write failed, of whatever kind: one that was interrupted is not made again. What waited is
+    /// lost, and `write_failed` says so from then on.
     pub(crate) fn send(&self) -> Result<()> {
         let mut waiting = self.waiting.replace(Vec::new(self.alloc));
-        let mut stream = self.stream;
-        let sent = stream.write_all(&waiting);
-        self.write_failed
-            .set(self.write_failed.get() || sent.is_err());
+        let mut sink = Sink::new(self.stream);
+        let is_sent = sink.write_all(&waiting).is_ok();
+        self.write_failed.set(self.write_failed.get() || !is_sent);
         waiting.clear();
         self.waiting.set(waiting);
-        sent
+        if is_sent {
+            return Ok(());
+        }
+        Err(Error::from(ErrorKind::Other))
     }
 
     /// Whether a write of what waited has failed.

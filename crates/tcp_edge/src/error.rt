@@ -49,7 +49,7 @@ pub enum ImagesError {
     /// The images are refused; never for memory.
     #[error(transparent)]
     Images(MergeFault),
-    /// The input couldn't be read.
+    /// The input couldn't be read, or it didn't end within 2^32 reads.
     #[error("read failed")]
     Read,
     /// The image couldn't be written.

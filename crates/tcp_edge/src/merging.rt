@@ -9,31 +9,35 @@ ghost use Rattle.tcp_edge.specs.Merges.{PrintsMerge, RefusesImages, IfImages};
 ghost use Rattle.tcp_edge.specs.Status.{images_status};
 
 use crate::error::ImagesError;
+use crate::pending::{FillFailed, Pending};
 use crate::status::{DONE, images_status};
 use copy_tools::{MergeFault, merge_images};
 use std::alloc::Allocator;
-use std::io::{ErrorKind, Read, Write};
+use std::io::{Read, Write};
 
-/// Reads to the end of the input.
+/// How many reads an input may take.
+const MOST_READS: u64 = 1 << 32;
+
+/// Reads to the end of the input. A read that was interrupted has failed, as any other.
 fn read_all<A: Allocator + Copy, R: Read>(
     alloc: A,
     reader: &mut R,
-) -> Result<Vec<u8, A>, ImagesError>
+) -> Result<Pending<A>, ImagesError>
     ensures reads { IfOk result (λ input.
-        ReadsAll (R.remaining reader.old) (R.remaining reader.new) input.items) }
+        ReadsAll (R.remaining reader.old) (R.remaining reader.new) input) }
     ensures no_images { IfErr result (λ why. IfImages why (λ fault. ⊥)) }
     ensures no_write { ¬ IsErrOf result ImagesError.Write }
 {
-    let mut input = Vec::new(alloc);
-    match reader.read_to_end(&mut input) {
-        Ok(_) => Ok(input),
-        Err(why) => {
-            if matches!(why.kind(), ErrorKind::OutOfMemory) {
-                return Err(ImagesError::OutOfMemory);
-            }
-            Err(ImagesError::Read)
+    let mut input = Pending::new(alloc);
+    for _ in 0..MOST_READS {
+        match input.fill(reader) {
+            Ok(true) => {}
+            Ok(false) => return Ok(input),
+            Err(FillFailed::Read) => return Err(ImagesError::Read),
+            Err(FillFailed::OutOfMemory) => return Err(ImagesError::OutOfMemory),
         }
     }
+    Err(ImagesError::Read)
 }
 
 /// Writes an image, and flushes the writer.
@@ -71,7 +75,7 @@ pub fn merge_stream<A: Allocator + Copy, R: Read, W: Write>(
         why ≢ ImagesError.Write → writer.new ≡ writer.old) }
 {
     let input = read_all(alloc, reader)?;
-    match merge_images(alloc, &input) {
+    match merge_images(alloc, input.bytes()) {
         Ok(image) => write_image(&image, writer),
         Err(MergeFault::OutOfMemory) => Err(ImagesError::OutOfMemory),
         Err(why) => Err(ImagesError::Images(why)),

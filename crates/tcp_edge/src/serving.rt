@@ -1,13 +1,17 @@
 //! A broker that listens: connections are served one after the other.
 
-ghost use Rattle.std.specs.Prelude.{◌≤◌};
+ghost use Rattle.std.specs.Prelude.{◌≡◌, ◌≤◌, IfOk, IfErr};
+ghost use Rattle.broker_core.specs.Configs.{ConfigFault};
+ghost use Rattle.broker_core.specs.ConfigValues.{config_value};
+ghost use Rattle.broker_core.specs.State.{new_state};
+ghost use Rattle.tcp_edge.specs.CommandLine.{at_port};
 
 use crate::asked::Plan;
 use crate::connection::{Connection, Replies, Requests};
 use crate::error::SessionFault;
 use crate::session::refuse;
 use crate::status::{DONE, fail};
-use broker_core::{Ended, Node, SessionError, serve};
+use broker_core::{Config, ConfigError, Ended, Node, SessionError, serve};
 use segment::VecStore;
 use std::alloc::Global;
 use std::io::{Result as IoResult, Write};
@@ -74,6 +78,20 @@ fn serve_connections<W: Write>(
     Ok(())
 }
 
+/// A new broker of a configuration, but for the port: that is the one that it listens on.
+fn node_at(
+    alloc: Global,
+    config: Config<Global>,
+    port: u16,
+) -> Result<Node<VecStore<Global>>, ConfigError>
+    ensures is_new { IfOk result (λ node. node ≡ new_state (at_port (config_value config) port)) }
+    ensures refuses { IfErr result (ConfigFault (at_port (config_value config) port)) }
+{
+    let mut listening = config;
+    listening.port = port;
+    Node::new(alloc, listening)
+}
+
 /// Prints the line `listening PORT`.
 fn announce<W: Write>(port: u16, out: &mut W) -> IoResult<()> {
     writeln!(out, "listening {port}")?;
@@ -84,7 +102,7 @@ fn announce<W: Write>(port: u16, out: &mut W) -> IoResult<()> {
 pub(crate) fn listen<W: Write, E: Write>(
     alloc: Global,
     listener: &TcpListener,
-    mut plan: Plan,
+    plan: Plan,
     out: &mut W,
     err: &mut E,
 ) -> u8
@@ -94,8 +112,7 @@ pub(crate) fn listen<W: Write, E: Write>(
         Ok(address) => address.port(),
         Err(_) => return fail(&SessionFault::Stopped(SessionError::Read), err),
     };
-    plan.config.port = port;
-    let mut node: Node<VecStore<Global>> = match Node::new(alloc, plan.config) {
+    let mut node = match node_at(alloc, plan.config, port) {
         Ok(node) => node,
         Err(why) => return refuse(why, err),
     };
