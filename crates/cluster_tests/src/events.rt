@@ -11,7 +11,7 @@ use std::alloc::{AllocError, Allocator};
 use std::test::Fail;
 
 /// What comes of an event.
-type Answer = Result<Outcome, EventError>;
+pub(crate) type Answer = Result<Outcome, EventError>;
 
 /// A batch that is sent.
 pub(crate) fn produce<A: Allocator + Copy>(alloc: A, bytes: &[u8]) -> Result<Event<A>, AllocError> {
@@ -89,13 +89,12 @@ fn clean<A: Allocator + Copy>(upto: i64) -> Event<A> {
     }
 }
 
-#[test]
-fn a_list_of_events(rt: HostRuntime) -> Result<(), Fail> {
-    let alloc = rt.alloc();
+/// A list of events.
+fn events<A: Allocator + Copy>(alloc: A) -> Result<[Event<A>; 10], AllocError> {
     let first = produce(alloc, &A_IS_1)?;
     let second = produce(alloc, &one(0, 0, b'b', b'2'))?;
     let third = produce(alloc, &A_IS_NULL)?;
-    let events = [
+    Ok([
         Event::Send { copy: 1 },
         first,
         second,
@@ -106,12 +105,29 @@ fn a_list_of_events(rt: HostRuntime) -> Result<(), Fail> {
         Event::Merge { copy: 1, image: 1 },
         Event::Merge { copy: 1, image: 1 },
         Event::Deliver { copy: 1, batch: 2 },
-    ];
-    let mut cluster = Cluster::<VecStore<_>>::new(alloc, 2)?;
-    assert_eq!(rt; cluster.run(&events)?.as_slice(), ANSWERS.as_slice());
+    ])
+}
+
+/// A cluster of two copies after the list of events, each with its answer.
+fn ran<A: Allocator + Copy>(alloc: A, events: &[Event<A>]) -> Result<Cluster<VecStore<A>>, Fail> {
+    let mut cluster = Cluster::new(alloc, 2)?;
+    if cluster.run(events)?.as_slice() == ANSWERS.as_slice() {
+        return Ok(cluster);
+    }
+    Err(Fail::new("other answers"))
+}
+
+#[test]
+fn a_list_of_events(rt: HostRuntime) -> Result<(), Fail> {
+    let events = events(rt.alloc())?;
+    let cluster = ran(rt.alloc(), &events)?;
     for number in 0..2 {
-        let copy = cluster.copy(number).ok_or(AllocError)?;
-        assert!(rt; shows(copy, &[(b"b", b"2")], &[(0, 2)])?, "copy {number}");
+        let rows: &[(&[u8], &[u8])] = &[(b"b", b"2")];
+        let copy = cluster.copy(number);
+        assert!(rt;
+            copy.is_some_and(|copy| shows(copy, rows, &[(0, 2)])),
+            "copy {number}"
+        );
     }
     assert_eq!(rt; cluster.archived(1), Some(one(1, 0, b'b', b'2').as_slice()));
     assert_eq!(rt; cluster.image(0), Some(EMPTY.as_slice()));

@@ -1,5 +1,6 @@
 //! Copies that were read from an image, and then lead.
 
+use crate::copies::{VecLog, has_image};
 use crate::refusals::image_with;
 use batch_codec::view;
 use copy_images::{read_image, write_image};
@@ -23,9 +24,17 @@ fn append<A: Allocator + Copy>(
     }
 }
 
+/// A log of which this copy is the leader's.
+fn led<A: Allocator + Copy>(copy: VecLog<A>) -> Result<LeaderLog<VecStore<A>>, Fail> {
+    match LeaderLog::from_copy(copy) {
+        Ok(log) => Ok(log),
+        Err(_) => Err(Fail::new("it has a gap")),
+    }
+}
+
 /// A leader's log of six batches, five of them of a producer.
 fn six<A: Allocator + Copy>(alloc: A) -> Result<LeaderLog<VecStore<A>>, Fail> {
-    let mut log = LeaderLog::from_copy(PartitionLog::new(alloc)).map_err(|_| AllocError)?;
+    let mut log = led(PartitionLog::new(alloc))?;
     for sequence in 0..5 {
         append(&mut log, &sent(7, 0, sequence))?.map_err(|_| AllocError)?;
     }
@@ -33,18 +42,24 @@ fn six<A: Allocator + Copy>(alloc: A) -> Result<LeaderLog<VecStore<A>>, Fail> {
     Ok(log)
 }
 
-#[test]
-fn a_producer_is_known_from_an_image(rt: HostRuntime) -> Result<(), Fail> {
-    let mut log = six(rt.alloc())?;
+/// The same log once it was cleaned, sent as an image and read again.
+fn received<A: Allocator + Copy>(alloc: A) -> Result<LeaderLog<VecStore<A>>, Fail> {
+    let mut log = six(alloc)?;
     let report = CleanReport {
         records: 5,
         tombstones: 0,
         batches: 0,
     };
-    assert_eq!(rt; log.clean(6, 0)?, report);
-    let image = write_image(rt.alloc(), log.copy())?;
-    let copy = read_image::<VecStore<_>>(rt.alloc(), &image)?;
-    let mut log = LeaderLog::from_copy(copy).map_err(|_| AllocError)?;
+    if log.clean(6, 0)? != report {
+        return Err(Fail::new("another report"));
+    }
+    let image = write_image(alloc, log.copy())?;
+    led(read_image(alloc, &image)?)
+}
+
+#[test]
+fn a_producer_is_known_from_an_image(rt: HostRuntime) -> Result<(), Fail> {
+    let mut log = received(rt.alloc())?;
     assert!(rt; log.copy().len() == 6 && log.copy().end() == 6);
     assert_eq!(rt; append(&mut log, &sent(7, 0, 0))?, Ok((0, true)));
     assert_eq!(rt; append(&mut log, &sent(7, 0, 5))?, Ok((6, false)));
@@ -53,18 +68,20 @@ fn a_producer_is_known_from_an_image(rt: HostRuntime) -> Result<(), Fail> {
     Ok(())
 }
 
+/// Whether a copy with a gap is handed back with its image.
+fn is_handed_back<A: Allocator + Copy>(alloc: A, image: &[u8]) -> Result<bool, Fail> {
+    match LeaderLog::from_copy(read_image::<VecStore<A>>(alloc, image)?) {
+        Ok(_) => Ok(false),
+        Err(gapped) => Ok(has_image(alloc, &gapped.copy, image)),
+    }
+}
+
 #[test]
 fn images_without_batches(rt: HostRuntime) -> Result<(), Fail> {
     let all = image_with(rt.alloc(), 1, &[(0, 0x3fff_ffff_ffff_ffff)], 0, b"")?;
-    let copy = read_image::<VecStore<_>>(rt.alloc(), &all)?;
-    let mut log = LeaderLog::from_copy(copy).map_err(|_| AllocError)?;
+    let mut log = led(read_image(rt.alloc(), &all)?)?;
     assert_eq!(rt; append(&mut log, &A_IS_1)?, Err(AppendError::OffsetsFull));
     let gap = image_with(rt.alloc(), 1, &[(1, 1)], 0, b"")?;
-    let copy = read_image::<VecStore<_>>(rt.alloc(), &gap)?;
-    let Err(gapped) = LeaderLog::from_copy(copy) else {
-        return Err(Fail::new("it has a gap"));
-    };
-    let image = write_image(rt.alloc(), &gapped.copy)?;
-    assert_eq!(rt; image.as_slice(), gap.as_slice());
+    assert!(rt; is_handed_back(rt.alloc(), &gap)?);
     Ok(())
 }

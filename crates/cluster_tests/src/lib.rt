@@ -4,6 +4,8 @@
 #[cfg(test)]
 mod copies;
 #[cfg(test)]
+mod event_memory;
+#[cfg(test)]
 mod events;
 #[cfg(test)]
 mod images;
