@@ -34,7 +34,7 @@ const NOT_STORED: &[u8] =
 const MOST: u64 = 60;
 
 /// The Produce request with these acks and the batch `a` = 1.
-fn produce<A: Allocator + Copy>(alloc: A, acks: u8) -> Result<Vec<u8, A>, AllocError> {
+pub(crate) fn produce<A: Allocator + Copy>(alloc: A, acks: u8) -> Result<Vec<u8, A>, AllocError> {
     let mut frame = Vec::new(alloc);
     for (index, byte) in PRODUCE.iter().enumerate() {
         frame.push(if index == 13 { acks } else { *byte })?;
@@ -44,7 +44,7 @@ fn produce<A: Allocator + Copy>(alloc: A, acks: u8) -> Result<Vec<u8, A>, AllocE
 }
 
 /// The answer to a frame; `None` where there was no memory for it, or it is no request.
-fn answer<S: BatchStore, A: Allocator + Copy>(
+pub(crate) fn answer<S: BatchStore, A: Allocator + Copy>(
     node: &mut Node<S>,
     frame: &[u8],
     out: &mut Vec<u8, A>,

@@ -11,4 +11,6 @@ mod logs;
 #[cfg(test)]
 mod memory;
 #[cfg(test)]
+mod reading;
+#[cfg(test)]
 mod refusals;
