@@ -43,6 +43,30 @@ def delivered():
     return script(given + ["cover 1"]), script(wanted + [f"0-{BATCHES - 1}"])
 
 
+def produced_by(producers):
+    """Batches of one record, of so many producers in turn."""
+    given, wanted = ["copies 1"], []
+    for number, (key, value) in enumerate(pairs(BATCHES, 50_000)):
+        given.append(f"produce-as {number % producers} 0 {number // producers} {key}={value}")
+        wanted.append(f"base {number}")
+    return script(given), script(wanted)
+
+
+def produced_by_one():
+    """Those of one producer."""
+    return produced_by(1)
+
+
+def produced_by_a_thousand():
+    """Those of 1,000 producers."""
+    return produced_by(1_000)
+
+
+def produced_by_each():
+    """Those of as many producers as there are batches."""
+    return produced_by(BATCHES)
+
+
 CLEANED_BATCHES = 20_000
 CLEANED_RECORDS = 50
 CLEANED_KEYS = 10_000
@@ -199,6 +223,9 @@ def image_and_empty():
 
 INPUTS = [
     delivered,
+    produced_by_one,
+    produced_by_a_thousand,
+    produced_by_each,
     produced,
     cleaned,
     cleaned_twice,

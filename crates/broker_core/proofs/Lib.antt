@@ -22,3 +22,4 @@ pub mod EachOnce
 pub mod HandledReplies
 pub mod ServedFrames
 pub mod ServedSessions
+pub mod NumberedPartitions

@@ -54,6 +54,16 @@ fn is_front(out: &[u8], least: usize) -> bool {
     !is_cut && least <= out.len() && PRINTED.as_bytes().starts_with(out)
 }
 
+/// Whether a run says what came of it: that memory was wanting, behind whole lines and at least so many bytes
+/// of them, or nothing where all was printed.
+fn is_told(status: u8, out: &[u8], err: &[u8], least: usize) -> bool {
+    match status {
+        0 => err.is_empty() && out == PRINTED.as_bytes(),
+        3 => err == "kbroker: out of memory\n".as_bytes() && is_front(out, least),
+        _ => false,
+    }
+}
+
 #[test]
 fn a_script_stops_where_an_allocation_fails(rt: HostRuntime) -> Result<(), Fail> {
     let mut passed = false;
@@ -65,28 +75,26 @@ fn a_script_stops_where_an_allocation_fails(rt: HostRuntime) -> Result<(), Fail>
         let mut err = Vec::new(rt.alloc());
         let status = run_replay(&heap, &mut input, &mut out, &mut err);
 
-        passed = heap.calls() < refused;
-        let (wanted, line) = if passed {
-            (0, "")
-        } else {
-            (3, "kbroker: out of memory\n")
-        };
-        assert_eq!(rt; status, wanted, "allocation {refused} fails");
-        assert_eq!(rt;
-            err.as_slice(),
-            line.as_bytes(),
+        // What was printed before stays, and is no less where a later allocation fails. A log does without its
+        // index of producers where memory lacks for that alone, and then the script goes on to its end.
+        assert!(rt;
+            is_told(status, &out, &err, printed),
             "allocation {refused} fails"
         );
-        // What was printed before stays, and is no less where a later allocation fails.
-        assert!(rt; is_front(&out, printed), "allocation {refused} fails");
+        passed = heap.calls() < refused;
         if passed {
-            assert_eq!(rt; out.as_slice(), PRINTED.as_bytes());
-            assert!(rt; printed > 0, "no line before the last allocation");
+            assert_eq!(rt; status, 0);
             break;
         }
-        printed = out.len();
+        if status == 3 {
+            printed = out.len();
+        }
     }
     assert!(rt; passed);
+    assert!(rt;
+        printed > 0,
+        "no line before the last allocation that is needed"
+    );
     Ok(())
 }
 

@@ -7,3 +7,5 @@ mod cleaning;
 mod memory;
 #[cfg(test)]
 mod names;
+#[cfg(test)]
+mod producers;
