@@ -28,7 +28,7 @@ const CHECKSUMS: [(&str, &[u8], u32); 6] = [
 
 #[test]
 fn published_checksums(rt: HostRuntime) {
-    for (name, bytes, wanted) in CHECKSUMS {
-        assert_eq!(rt; crc32c(bytes), wanted, "{name}");
+    for (name, bytes, wanted) in &CHECKSUMS {
+        assert_eq!(rt; crc32c(bytes), *wanted, "{name}");
     }
 }

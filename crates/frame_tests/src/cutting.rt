@@ -4,80 +4,123 @@ ghost use Rattle.std.specs.Prelude.{◌<◌};
 
 use bytes::{Bytes, BytesMut};
 use request_frames::take_frame;
-use std::alloc::Allocator;
-use std::test::Fail;
+use std::alloc::{AllocError, Allocator};
+use std::string::String;
 
 /// Three frames behind their sizes, of 2, 0 and 3 bytes, and two bytes of a fourth's size.
 const STREAM: [u8; 19] = [
     0, 0, 0, 2, 0xaa, 0xbb, 0, 0, 0, 0, 0, 0, 0, 3, 1, 2, 3, 0, 0,
 ];
 
-/// Hands the stream over in pieces of so many bytes, and takes each frame as soon as it is complete.
-/// Gives the frames, and the buffer with the bytes behind them.
-fn cut_in_pieces<A: Allocator + Copy>(
-    alloc: A,
+/// Takes the frame in front of the buffer, where it is complete; tells whether nothing failed.
+fn take_next<A: Allocator + Copy>(buffer: &mut BytesMut<A>, frames: &mut Vec<Bytes<A>, A>) -> bool {
+    match take_frame(buffer) {
+        Ok(Some(frame)) => frames.push(frame).is_ok(),
+        Ok(None) => true,
+        Err(_) => false,
+    }
+}
+
+/// Hands over a piece of the stream, and takes each frame that is complete then, of which there are
+/// no more than three; tells whether nothing failed.
+fn take_piece<A: Allocator + Copy>(
+    buffer: &mut BytesMut<A>,
+    frames: &mut Vec<Bytes<A>, A>,
+    piece: &[u8],
+) -> bool {
+    buffer.extend_from_slice(piece).is_ok()
+        && take_next(buffer, frames)
+        && take_next(buffer, frames)
+        && take_next(buffer, frames)
+}
+
+/// Hands the stream over in pieces of so many bytes, and takes each frame as soon as it is complete;
+/// tells whether nothing failed.
+fn take_pieces<A: Allocator + Copy>(
+    buffer: &mut BytesMut<A>,
+    frames: &mut Vec<Bytes<A>, A>,
     piece_size: usize,
-) -> Result<(Vec<Bytes<A>, A>, BytesMut<A>), Fail>
+) -> bool
+    requires { 0 < piece_size }
+{
+    let mut is_cut = true;
+    for piece in STREAM.chunks(piece_size) {
+        is_cut = is_cut && take_piece(buffer, frames, piece);
+    }
+    is_cut
+}
+
+/// Whether these are the three frames of the stream.
+fn are_the_frames<A: Allocator + Copy>(frames: &[Bytes<A>]) -> bool {
+    match frames {
+        [first, second, third] => {
+            let is_first = first.as_slice() == [0xaa, 0xbb].as_slice();
+            let is_third = third.as_slice() == [1, 2, 3].as_slice();
+            is_first && second.as_slice().is_empty() && is_third
+        }
+        _ => false,
+    }
+}
+
+/// Whether pieces of so many bytes give the three frames, and leave the bytes behind them.
+fn are_cut<A: Allocator + Copy>(alloc: A, piece_size: usize) -> bool
     requires { 0 < piece_size }
 {
     let mut buffer = BytesMut::new(alloc);
     let mut frames = Vec::new(alloc);
-    for piece in STREAM.chunks(piece_size) {
-        buffer.extend_from_slice(piece)?;
-        // No piece completes more than three frames.
-        for _ in 0..3 {
-            if let Some(frame) = take_frame(&mut buffer)? {
-                frames.push(frame)?;
-            }
-        }
-    }
-    Ok((frames, buffer))
+    let is_cut = take_pieces(&mut buffer, &mut frames, piece_size);
+    is_cut && are_the_frames(&frames) && buffer.as_slice() == b"\0\0".as_slice()
 }
 
 #[test]
-fn pieces_give_the_same_frames(rt: HostRuntime) -> Result<(), Fail> {
-    let wanted: [&[u8]; 3] = [&[0xaa, 0xbb], &[], &[1, 2, 3]];
+fn pieces_give_the_same_frames(rt: HostRuntime) {
     for piece_size in [1, 2, 3, 7, 19] {
-        let (frames, buffer) = cut_in_pieces(rt.alloc(), piece_size)?;
-        assert_eq!(rt; frames.len(), wanted.len(), "pieces of {piece_size} bytes");
-        for (frame, bytes) in frames.iter().zip(wanted) {
-            assert_eq!(rt; frame.as_slice(), bytes, "pieces of {piece_size} bytes");
-        }
-        assert_eq!(rt;
-            buffer.as_slice(),
-            b"\0\0".as_slice(),
-            "pieces of {piece_size} bytes"
-        );
+        let is_cut = are_cut(rt.alloc(), piece_size);
+        assert!(rt; is_cut, "pieces of {piece_size} bytes");
     }
-    Ok(())
+}
+
+/// Bytes, and what is taken of them, in words.
+const FRONTS: [(&str, &[u8], &str); 8] = [
+    ("nothing", b"", "None"),
+    ("3 bytes of a size", b"\xff\xff\xff", "None"),
+    ("size -1", b"\xff\xff\xff\xff", "NegativeSize"),
+    ("size -1 and more", b"\xff\xff\xff\xff\0\0", "NegativeSize"),
+    ("the least size", b"\x80\0\0\0", "NegativeSize"),
+    ("size 8,388,609", b"\0\x80\0\x01", "TooLarge"),
+    ("size 8,388,608 alone", b"\0\x80\0\0", "None"),
+    ("a byte is missing", b"\0\0\0\x02a", "None"),
+];
+
+/// What is taken of the buffer, in words.
+fn words<A: Allocator + Copy>(alloc: A, buffer: &mut BytesMut<A>) -> Result<String<A>, AllocError> {
+    Ok(match take_frame(buffer) {
+        Ok(None) => format!(in alloc; "None")?,
+        Ok(Some(frame)) => format!(in alloc; "a frame of {} bytes", frame.len())?,
+        Err(why) => format!(in alloc; "{why}")?,
+    })
+}
+
+/// Whether these words say what is taken of the buffer.
+fn is_said<A: Allocator + Copy>(alloc: A, buffer: &mut BytesMut<A>, wanted: &str) -> bool {
+    match words(alloc, buffer) {
+        Ok(words) => words.as_str() == wanted,
+        Err(_) => false,
+    }
+}
+
+/// Whether these words say what is taken of these bytes, and the bytes stay.
+fn is_front<A: Allocator + Copy>(alloc: A, bytes: &[u8], wanted: &str) -> bool {
+    match BytesMut::copy_from_slice(alloc, bytes) {
+        Ok(mut buffer) => is_said(alloc, &mut buffer, wanted) && buffer.as_slice() == bytes,
+        Err(_) => false,
+    }
 }
 
 #[test]
-fn fronts_of_a_buffer(rt: HostRuntime) -> Result<(), Fail> {
-    let rows = [
-        ("nothing", b"".as_slice(), "None"),
-        ("3 bytes of a size", b"\xff\xff\xff".as_slice(), "None"),
-        ("size -1", b"\xff\xff\xff\xff".as_slice(), "NegativeSize"),
-        (
-            "size -1 and more",
-            b"\xff\xff\xff\xff\0\0".as_slice(),
-            "NegativeSize",
-        ),
-        ("the least size", b"\x80\0\0\0".as_slice(), "NegativeSize"),
-        ("size 8,388,609", b"\0\x80\0\x01".as_slice(), "TooLarge"),
-        ("size 8,388,608 alone", b"\0\x80\0\0".as_slice(), "None"),
-        ("a byte is missing", b"\0\0\0\x02a".as_slice(), "None"),
-    ];
-    for (row, bytes, wanted) in rows {
-        let mut buffer = BytesMut::new(rt.alloc());
-        buffer.extend_from_slice(bytes)?;
-        let answer = match take_frame(&mut buffer) {
-            Ok(None) => format!(in rt.alloc(); "None")?,
-            Ok(Some(frame)) => format!(in rt.alloc(); "a frame of {} bytes", frame.len())?,
-            Err(why) => format!(in rt.alloc(); "{why}")?,
-        };
-        assert_eq!(rt; answer.as_str(), wanted, "{row}");
-        assert_eq!(rt; buffer.as_slice(), bytes, "{row}");
+fn fronts_of_a_buffer(rt: HostRuntime) {
+    let alloc = rt.alloc();
+    for (name, bytes, wanted) in &FRONTS {
+        assert!(rt; is_front(alloc, bytes, wanted), "{name}");
     }
-    Ok(())
 }

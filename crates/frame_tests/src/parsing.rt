@@ -1,9 +1,11 @@
 //! Frames read as requests, and each refusal.
 
-use request_frames::{Request, RequestBody, parse};
-use std::alloc::Allocator;
+use request_frames::{
+    Array, FetchPartition, FetchRequest, ListOffsetsPartition, ListOffsetsRequest, Name,
+    ProducePartition, ProduceRequest, Request, RequestBody, parse,
+};
+use std::alloc::{AllocError, Allocator};
 use std::string::String;
-use std::test::Fail;
 
 /// ListOffsets of partition 0 of topic `t`, with correlation id 7, a null client id and time -1.
 const LIST_OFFSETS: &[u8] =
@@ -22,68 +24,130 @@ const FETCH: &[u8] =
 /// Metadata of topics `t` and `u v`.
 const METADATA: &[u8] = b"\0\x03\0\x01\0\0\0\x09\xff\xff\0\0\0\x02\0\x01t\0\x03u v";
 
-/// What a request says, in words.
-fn words<A: Allocator + Copy>(alloc: A, request: Request<'_>) -> Result<String<A>, Fail> {
-    let mut text = format!(in alloc; "{}", request.correlation)?;
-    match request.body {
-        RequestBody::Produce(produce) => {
-            write!(
-                text,
-                " Produce {:?} {}",
-                produce.transactional_id, produce.acks
-            )?;
-            for topic in produce.topics {
-                write!(text, " {:?}", topic.name)?;
-                for entry in topic.partitions {
-                    write!(text, " {} {:?}", entry.index, entry.records)?;
-                }
-            }
-        }
-        RequestBody::Fetch(fetch) => {
-            write!(text, " Fetch {}", fetch.max_bytes)?;
-            for topic in fetch.topics {
-                write!(text, " {:?}", topic.name)?;
-                for entry in topic.partitions {
-                    write!(
-                        text,
-                        " {} {} {}",
-                        entry.partition, entry.offset, entry.max_bytes
-                    )?;
-                }
-            }
-        }
-        RequestBody::ListOffsets(list) => {
-            write!(text, " ListOffsets")?;
-            for topic in list.topics {
-                write!(text, " {:?}", topic.name)?;
-                for entry in topic.partitions {
-                    write!(text, " {} {}", entry.partition, entry.time)?;
-                }
-            }
-        }
+/// Says the partitions of a Produce request's topic.
+fn say_produced<'a, A: Allocator + Copy>(
+    text: &mut String<A>,
+    partitions: Array<'a, ProducePartition<'a>>,
+) -> Result<(), AllocError> {
+    for entry in partitions {
+        write!(text, " {} {:?}", entry.index, entry.records)?;
+    }
+    Ok(())
+}
+
+/// Says the topics of a Produce request.
+fn say_produce<A: Allocator + Copy>(
+    text: &mut String<A>,
+    produce: ProduceRequest<'_>,
+) -> Result<(), AllocError> {
+    let (id, acks) = (produce.transactional_id, produce.acks);
+    write!(text, " Produce {id:?} {acks}")?;
+    for topic in produce.topics {
+        write!(text, " {:?}", topic.name)?;
+        say_produced(text, topic.partitions)?;
+    }
+    Ok(())
+}
+
+/// Says the partitions of a Fetch request's topic.
+fn say_fetched<A: Allocator + Copy>(
+    text: &mut String<A>,
+    partitions: Array<'_, FetchPartition>,
+) -> Result<(), AllocError> {
+    for entry in partitions {
+        let (partition, offset, max_bytes) = (entry.partition, entry.offset, entry.max_bytes);
+        write!(text, " {partition} {offset} {max_bytes}")?;
+    }
+    Ok(())
+}
+
+/// Says the topics of a Fetch request.
+fn say_fetch<A: Allocator + Copy>(
+    text: &mut String<A>,
+    fetch: FetchRequest<'_>,
+) -> Result<(), AllocError> {
+    write!(text, " Fetch {}", fetch.max_bytes)?;
+    for topic in fetch.topics {
+        write!(text, " {:?}", topic.name)?;
+        say_fetched(text, topic.partitions)?;
+    }
+    Ok(())
+}
+
+/// Says the partitions of a ListOffsets request's topic.
+fn say_listed<A: Allocator + Copy>(
+    text: &mut String<A>,
+    partitions: Array<'_, ListOffsetsPartition>,
+) -> Result<(), AllocError> {
+    for entry in partitions {
+        write!(text, " {} {}", entry.partition, entry.time)?;
+    }
+    Ok(())
+}
+
+/// Says the topics of a ListOffsets request.
+fn say_list_offsets<A: Allocator + Copy>(
+    text: &mut String<A>,
+    list: ListOffsetsRequest<'_>,
+) -> Result<(), AllocError> {
+    write!(text, " ListOffsets")?;
+    for topic in list.topics {
+        write!(text, " {:?}", topic.name)?;
+        say_listed(text, topic.partitions)?;
+    }
+    Ok(())
+}
+
+/// Says the names of a Metadata request.
+fn say_names<'a, A: Allocator + Copy>(
+    text: &mut String<A>,
+    names: Array<'a, Name<'a>>,
+) -> Result<(), AllocError> {
+    write!(text, " Metadata")?;
+    for name in names {
+        write!(text, " {:?}", name.0)?;
+    }
+    Ok(())
+}
+
+/// Says what stands behind a request's header.
+fn say<A: Allocator + Copy>(text: &mut String<A>, body: RequestBody<'_>) -> Result<(), AllocError> {
+    match body {
+        RequestBody::Produce(produce) => say_produce(text, produce),
+        RequestBody::Fetch(fetch) => say_fetch(text, fetch),
+        RequestBody::ListOffsets(list) => say_list_offsets(text, list),
         RequestBody::Metadata(metadata) => match metadata.names {
-            None => write!(text, " Metadata of all")?,
-            Some(names) => {
-                write!(text, " Metadata")?;
-                for name in names {
-                    write!(text, " {:?}", name.0)?;
-                }
-            }
+            None => write!(text, " Metadata of all"),
+            Some(names) => say_names(text, names),
         },
     }
+}
+
+/// What a request says, in words.
+fn words<A: Allocator + Copy>(alloc: A, request: Request<'_>) -> Result<String<A>, AllocError> {
+    let mut text = format!(in alloc; "{}", request.correlation)?;
+    say(&mut text, request.body)?;
     Ok(text)
 }
 
 /// What is read of a frame, in words, or why it is refused.
-fn answer<A: Allocator + Copy>(alloc: A, frame: &[u8]) -> Result<String<A>, Fail> {
+fn answer<A: Allocator + Copy>(alloc: A, frame: &[u8]) -> Result<String<A>, AllocError> {
     match parse(frame) {
         Ok(request) => words(alloc, request),
-        Err(why) => Ok(format!(in alloc; "{why}")?),
+        Err(why) => format!(in alloc; "{why}"),
+    }
+}
+
+/// Whether this is read of a frame, in words.
+fn is_answered<A: Allocator + Copy>(alloc: A, frame: &[u8], wanted: &str) -> bool {
+    match answer(alloc, frame) {
+        Ok(answer) => answer.as_str() == wanted,
+        Err(_) => false,
     }
 }
 
 #[test]
-fn frames_are_requests(rt: HostRuntime) -> Result<(), Fail> {
+fn frames_are_requests(rt: HostRuntime) {
     let rows = [
         (LIST_OFFSETS, "7 ListOffsets [116] 0 -1"),
         (PRODUCE, "5 Produce None -1 [116] 5 Some([97, 98]) 6 None"),
@@ -98,93 +162,117 @@ fn frames_are_requests(rt: HostRuntime) -> Result<(), Fail> {
             "-1 Metadata",
         ),
     ];
-    for (frame, wanted) in rows {
-        assert_eq!(rt; answer(rt.alloc(), frame)?.as_str(), wanted, "{frame:?}");
+    for (frame, wanted) in &rows {
+        assert!(rt; is_answered(rt.alloc(), frame, wanted), "{frame:?}");
     }
-    Ok(())
+}
+
+/// The number of bytes to which the frame is cut and then isn't refused as too short.
+fn not_short<A: Allocator + Copy>(alloc: A, frame: &[u8]) -> Option<usize> {
+    let mut wrong = None;
+    for len in 0..frame.len() {
+        let wanted = if len < 8 { "ShortHeader" } else { "ShortBody" };
+        if !is_answered(alloc, &frame[..len], wanted) {
+            wrong = wrong.or(Some(len));
+        }
+    }
+    wrong
+}
+
+/// Whether the frame with a byte behind it is refused as too long.
+fn is_too_long<A: Allocator + Copy>(alloc: A, frame: &[u8]) -> bool {
+    match frame.to_vec(alloc) {
+        Ok(mut longer) => { longer.push(0).is_ok() && is_answered(alloc, &longer, "TrailingBytes") }
+        Err(_) => false,
+    }
 }
 
 #[test]
-fn cut_frames_are_short(rt: HostRuntime) -> Result<(), Fail> {
+fn cut_frames_are_short(rt: HostRuntime) {
     for frame in [LIST_OFFSETS, PRODUCE, FETCH, METADATA] {
-        for len in 0..frame.len() {
-            let wanted = if len < 8 { "ShortHeader" } else { "ShortBody" };
-            let given = answer(rt.alloc(), &frame[..len])?;
-            assert_eq!(rt; given.as_str(), wanted, "{len} bytes of {frame:?}");
-        }
-        let mut longer = Vec::from_slice(rt.alloc(), frame)?;
-        longer.push(0)?;
+        let wrong = (not_short(rt.alloc(), frame), is_too_long(rt.alloc(), frame));
         assert_eq!(rt;
-            answer(rt.alloc(), &longer)?.as_str(),
-            "TrailingBytes",
-            "{frame:?}"
+            wrong,
+            (None, true),
+            "cut to a length, and longer: {frame:?}"
         );
     }
-    Ok(())
 }
 
-#[test]
-fn lying_fields_are_named(rt: HostRuntime) -> Result<(), Fail> {
-    // four bytes of the ListOffsets request, where they stand, and what comes of it
-    let rows = [
-        ("key 999", 0, [0x03, 0xe7, 0, 1], "UnknownApi"),
-        ("key -1", 0, [0xff, 0xff, 0, 1], "UnknownApi"),
-        ("version 0", 0, [0, 2, 0, 0], "BadVersion"),
-        ("version 2", 0, [0, 2, 0, 2], "BadVersion"),
-        ("key 1, version 3", 0, [0, 1, 0, 3], "BadVersion"),
-        (
-            "client id length -2",
-            8,
-            [0xff, 0xfe, 0xff, 0xff],
-            "Malformed",
-        ),
-        (
-            "client id length 32767",
-            8,
-            [0x7f, 0xff, 0xff, 0xff],
-            "ShortBody",
-        ),
-        (
-            "any replica id",
-            10,
-            [1, 2, 3, 4],
-            "7 ListOffsets [116] 0 -1",
-        ),
-        ("topic count 2", 14, [0, 0, 0, 2], "ShortBody"),
-        (
-            "topic count 2147483647",
-            14,
-            [0x7f, 0xff, 0xff, 0xff],
-            "ShortBody",
-        ),
-        ("topic count 0", 14, [0, 0, 0, 0], "TrailingBytes"),
-        ("topic count -1", 14, [0xff, 0xff, 0xff, 0xff], "Malformed"),
-        ("name length -1", 18, [0xff, 0xff, b't', 0], "Malformed"),
-        (
-            "partition count -1",
-            21,
-            [0xff, 0xff, 0xff, 0xff],
-            "Malformed",
-        ),
-        ("partition 7", 25, [0, 0, 0, 7], "7 ListOffsets [116] 7 -1"),
-    ];
-    for (row, at, field, wanted) in rows {
-        let mut frame = Vec::new(rt.alloc());
-        for (i, byte) in LIST_OFFSETS.iter().enumerate() {
-            let changed = if i >= at && i < at + 4 {
-                field[i - at]
-            } else {
-                *byte
-            };
-            frame.push(changed)?;
-        }
-        assert_eq!(rt; answer(rt.alloc(), &frame)?.as_str(), wanted, "{row}");
+/// The ListOffsets request with these four bytes from that byte offset on.
+fn changed<A: Allocator + Copy>(
+    alloc: A,
+    at: usize,
+    field: [u8; 4],
+) -> Result<Vec<u8, A>, AllocError> {
+    let mut frame = LIST_OFFSETS.to_vec(alloc)?;
+    for (byte, new) in frame.iter_mut().skip(at).zip(&field) {
+        *byte = *new;
     }
-    Ok(())
+    Ok(frame)
+}
+
+/// Whether this is read of the changed request, in words.
+fn is_named<A: Allocator + Copy>(alloc: A, at: usize, field: [u8; 4], wanted: &str) -> bool {
+    match changed(alloc, at, field) {
+        Ok(frame) => is_answered(alloc, &frame, wanted),
+        Err(_) => false,
+    }
+}
+
+/// Four bytes of the ListOffsets request, where they stand, and what comes of it.
+const LYING: [(&str, usize, [u8; 4], &str); 15] = [
+    ("key 999", 0, [0x03, 0xe7, 0, 1], "UnknownApi"),
+    ("key -1", 0, [0xff, 0xff, 0, 1], "UnknownApi"),
+    ("version 0", 0, [0, 2, 0, 0], "BadVersion"),
+    ("version 2", 0, [0, 2, 0, 2], "BadVersion"),
+    ("key 1, version 3", 0, [0, 1, 0, 3], "BadVersion"),
+    (
+        "client id length -2",
+        8,
+        [0xff, 0xfe, 0xff, 0xff],
+        "Malformed",
+    ),
+    (
+        "client id length 32767",
+        8,
+        [0x7f, 0xff, 0xff, 0xff],
+        "ShortBody",
+    ),
+    (
+        "any replica id",
+        10,
+        [1, 2, 3, 4],
+        "7 ListOffsets [116] 0 -1",
+    ),
+    ("topic count 2", 14, [0, 0, 0, 2], "ShortBody"),
+    (
+        "topic count 2147483647",
+        14,
+        [0x7f, 0xff, 0xff, 0xff],
+        "ShortBody",
+    ),
+    ("topic count 0", 14, [0, 0, 0, 0], "TrailingBytes"),
+    ("topic count -1", 14, [0xff, 0xff, 0xff, 0xff], "Malformed"),
+    ("name length -1", 18, [0xff, 0xff, b't', 0], "Malformed"),
+    (
+        "partition count -1",
+        21,
+        [0xff, 0xff, 0xff, 0xff],
+        "Malformed",
+    ),
+    ("partition 7", 25, [0, 0, 0, 7], "7 ListOffsets [116] 7 -1"),
+];
+
+#[test]
+fn lying_fields_are_named(rt: HostRuntime) {
+    for (row, at, field, wanted) in &LYING {
+        assert!(rt; is_named(rt.alloc(), *at, *field, wanted), "{row}");
+    }
 }
 
 #[test]
-fn the_leftmost_fault_decides(rt: HostRuntime) -> Result<(), Fail> {
+fn the_leftmost_fault_decides(rt: HostRuntime) {
     // 2147483647 names are announced; the second has length -1, or its length is cut
     let rows = [
         (
@@ -212,8 +300,7 @@ fn the_leftmost_fault_decides(rt: HostRuntime) -> Result<(), Fail> {
             "ShortBody",
         ),
     ];
-    for (frame, wanted) in rows {
-        assert_eq!(rt; answer(rt.alloc(), frame)?.as_str(), wanted, "{frame:?}");
+    for (frame, wanted) in &rows {
+        assert!(rt; is_answered(rt.alloc(), frame, wanted), "{frame:?}");
     }
-    Ok(())
 }
