@@ -31,15 +31,30 @@ pub(crate) fn image_with<A: Allocator>(
     Ok(bytes)
 }
 
-/// Bytes one after the other.
-fn joined<A: Allocator>(alloc: A, left: &[u8], right: &[u8]) -> Result<Vec<u8, A>, AllocError> {
-    let mut bytes = Vec::from_slice(alloc, left)?;
-    bytes.extend_from_slice(right)?;
-    Ok(bytes)
+/// The refusal of such bytes as an image, in memory that suffices.
+fn refusal<A: Allocator + Copy>(
+    alloc: A,
+    range_count: i32,
+    ranges: &[(i64, i64)],
+    batch_count: i32,
+    batches: &[u8],
+) -> Option<ImageError> {
+    match image_with(alloc, range_count, ranges, batch_count, batches) {
+        Ok(bytes) => read_image::<VecStore<A>>(alloc, &bytes).err(),
+        Err(_) => Some(ImageError::OutOfMemory),
+    }
+}
+
+/// Two batches one after the other.
+fn joined(left: &[u8; 70], right: &[u8; 70]) -> [u8; 140] {
+    let mut bytes = [0; 140];
+    bytes[..70].copy_from_slice(left);
+    bytes[70..].copy_from_slice(right);
+    bytes
 }
 
 #[test]
-fn counts_and_ranges(rt: HostRuntime) -> Result<(), Fail> {
+fn counts_and_ranges(rt: HostRuntime) {
     let bad = Some(ImageError::BadCover);
     let short = Some(ImageError::Short);
     let none: &[(i64, i64)] = &[];
@@ -74,23 +89,21 @@ fn counts_and_ranges(rt: HostRuntime) -> Result<(), Fail> {
             Some(ImageError::Extra),
         ),
     ];
-    for (name, range_count, ranges, batch_count, wanted) in rows {
-        let bytes = image_with(rt.alloc(), range_count, ranges, batch_count, b"")?;
-        let refusal = read_image::<VecStore<_>>(rt.alloc(), &bytes).err();
-        assert_eq!(rt; refusal, wanted, "{name}");
+    for (name, range_count, ranges, batch_count, wanted) in &rows {
+        let found = refusal(rt.alloc(), *range_count, ranges, *batch_count, b"");
+        assert_eq!(rt; found, *wanted, "{name}");
     }
-    Ok(())
 }
 
 #[test]
-fn batches_in_ranges(rt: HostRuntime) -> Result<(), Fail> {
-    let alloc = rt.alloc();
+fn batches_in_ranges(rt: HostRuntime) {
     let first = one(0, 0, b'a', b'1');
     let second = one(1, 0, b'b', b'2');
-    let both = joined(alloc, &first, &second)?;
-    let fall = joined(alloc, &second, &first)?;
-    let twice = joined(alloc, &first, &first)?;
-    let more = joined(alloc, &second, &[0])?;
+    let both = joined(&first, &second);
+    let fall = joined(&second, &first);
+    let twice = joined(&first, &first);
+    let mut more = [0; 71];
+    more[..70].copy_from_slice(&second);
     let part = three_at(2);
     let late = nine_at(5);
     let below = nine_at(-1);
@@ -135,13 +148,11 @@ fn batches_in_ranges(rt: HostRuntime) -> Result<(), Fail> {
         ("a batch that is cut", all, 1, &first[..69], first_bad),
         ("no batch to read", all, 0, &first, extra),
     ];
-    for (name, ranges, count, batches, wanted) in rows {
+    for (name, ranges, count, batches, wanted) in &rows {
         let range_count = ranges.len() as i32;
-        let bytes = image_with(alloc, range_count, ranges, count, batches)?;
-        let refusal = read_image::<VecStore<_>>(alloc, &bytes).err();
-        assert_eq!(rt; refusal, wanted, "{name}");
+        let found = refusal(rt.alloc(), range_count, ranges, *count, batches);
+        assert_eq!(rt; found, *wanted, "{name}");
     }
-    Ok(())
 }
 
 #[test]
