@@ -96,7 +96,7 @@ fn counts_and_ranges(rt: HostRuntime) {
 }
 
 #[test]
-fn batches_in_ranges(rt: HostRuntime) {
+fn two_batches_in_ranges(rt: HostRuntime) {
     let first = one(0, 0, b'a', b'1');
     let second = one(1, 0, b'b', b'2');
     let both = joined(&first, &second);
@@ -104,29 +104,17 @@ fn batches_in_ranges(rt: HostRuntime) {
     let twice = joined(&first, &first);
     let mut more = [0; 71];
     more[..70].copy_from_slice(&second);
-    let part = three_at(2);
-    let late = nine_at(5);
-    let below = nine_at(-1);
-    let past = nine_at(GREATEST + 1);
-    let last = nine_at(GREATEST);
     let touch: &[(i64, i64)] = &[(0, 1)];
     let apart: &[(i64, i64)] = &[(0, 0), (2, 3)];
-    let all: &[(i64, i64)] = &[(0, GREATEST)];
-    let first_bad = Some(ImageError::BadBatch(0));
     let second_bad = Some(ImageError::BadBatch(1));
+    let third_bad = Some(ImageError::BadBatch(2));
     let outside = Some(ImageError::Outside);
     let extra = Some(ImageError::Extra);
     // The ranges, the count of batches, their bytes, and the refusal.
     let rows = [
         ("two batches", touch, 2, both.as_slice(), None),
         ("one of two", touch, 1, &both, extra),
-        (
-            "two of three",
-            touch,
-            3,
-            &both,
-            Some(ImageError::BadBatch(2)),
-        ),
+        ("two of three", touch, 3, &both, third_bad),
         ("one byte too many", touch, 1, &more, extra),
         (
             "a byte in the place of a batch",
@@ -137,16 +125,45 @@ fn batches_in_ranges(rt: HostRuntime) {
         ),
         ("bases that fall", touch, 2, &fall, second_bad),
         ("one batch twice", touch, 2, &twice, second_bad),
-        ("a base behind the ranges", touch, 1, &late, outside),
         ("a base between ranges", apart, 2, &both, outside),
+    ];
+    for (name, ranges, count, batches, wanted) in &rows {
+        let range_count = ranges.len() as i32;
+        let found = refusal(rt.alloc(), range_count, ranges, *count, batches);
+        assert_eq!(rt; found, *wanted, "{name}");
+    }
+}
+
+#[test]
+fn one_batch_in_ranges(rt: HostRuntime) {
+    let first = one(0, 0, b'a', b'1');
+    let part = three_at(2);
+    let late = nine_at(5);
+    let below = nine_at(-1);
+    let past = nine_at(GREATEST + 1);
+    let last = nine_at(GREATEST);
+    let touch: &[(i64, i64)] = &[(0, 1)];
+    let apart: &[(i64, i64)] = &[(0, 0), (2, 3)];
+    let all: &[(i64, i64)] = &[(0, GREATEST)];
+    let bad = Some(ImageError::BadBatch(0));
+    let outside = Some(ImageError::Outside);
+    // The ranges, the count of batches, their bytes, and the refusal.
+    let rows = [
+        (
+            "a base behind the ranges",
+            touch,
+            1,
+            late.as_slice(),
+            outside,
+        ),
         ("a span that ends behind them", apart, 1, &part, outside),
         ("no ranges", &[], 1, &first, outside),
         ("the greatest offset", all, 1, &last, None),
-        ("a greater one", all, 1, &past, first_bad),
-        ("a base below 0", all, 1, &below, first_bad),
-        ("a null key", all, 1, &NO_KEY, first_bad),
-        ("a batch that is cut", all, 1, &first[..69], first_bad),
-        ("no batch to read", all, 0, &first, extra),
+        ("a greater one", all, 1, &past, bad),
+        ("a base below 0", all, 1, &below, bad),
+        ("a null key", all, 1, &NO_KEY, bad),
+        ("a batch that is cut", all, 1, &first[..69], bad),
+        ("no batch to read", all, 0, &first, Some(ImageError::Extra)),
     ];
     for (name, ranges, count, batches, wanted) in &rows {
         let range_count = ranges.len() as i32;
