@@ -2,23 +2,56 @@
 
 use batch_codec::view;
 use copy_images::write_image;
-use partition_log::{Delivered, PartitionLog};
+use partition_log::{CleanReport, Delivered, PartitionLog};
 use segment::VecStore;
 use std::alloc::Allocator;
-use std::test::Fail;
 
 /// A copy in a vector of batches.
 pub(crate) type VecLog<A> = PartitionLog<VecStore<A>>;
 
-/// A copy to which these batches were delivered, each of them new.
-pub(crate) fn copy_of<A: Allocator + Copy>(alloc: A, batches: &[&[u8]]) -> Result<VecLog<A>, Fail> {
-    let mut copy = PartitionLog::new(alloc);
-    for bytes in batches {
-        if copy.deliver(&view(bytes)?)? != Delivered::Added {
-            return Err(Fail::new("it was there"));
-        }
+/// Whether a batch is delivered to a copy as a new one.
+fn is_added<A: Allocator + Copy>(copy: &mut VecLog<A>, bytes: &[u8]) -> bool {
+    match view(bytes) {
+        Ok(batch) => copy.deliver(&batch) == Ok(Delivered::Added),
+        Err(_) => false,
     }
-    Ok(copy)
+}
+
+/// A copy to which these batches were delivered; `None` unless each of them is new.
+pub(crate) fn copy_of<A: Allocator + Copy>(alloc: A, batches: &[&[u8]]) -> Option<VecLog<A>> {
+    let mut copy = PartitionLog::new(alloc);
+    let mut are_added = true;
+    for bytes in batches {
+        are_added = are_added && is_added(&mut copy, bytes);
+    }
+    if are_added { Some(copy) } else { None }
+}
+
+/// Whether a cleaning of a copy has this report.
+fn is_cleaned<A: Allocator + Copy>(
+    copy: &mut VecLog<A>,
+    (upto, tomb_before): (i64, i64),
+    report: CleanReport,
+) -> bool {
+    match copy.clean(upto, tomb_before) {
+        Ok(found) => found == report,
+        Err(_) => false,
+    }
+}
+
+/// A copy to which batches were delivered, and which was then cleaned; `None` with another report.
+pub(crate) fn cleaned<A: Allocator + Copy>(
+    alloc: A,
+    batches: &[&[u8]],
+    limits: (i64, i64),
+    report: CleanReport,
+) -> Option<VecLog<A>> {
+    let mut copy = copy_of(alloc, batches)?;
+    if is_cleaned(&mut copy, limits, report) {
+        Some(copy)
+    } else {
+        None
+    }
 }
 
 /// Whether a copy shows these rows and has seen these offsets.
@@ -43,4 +76,15 @@ pub(crate) fn has_image<A: Allocator + Copy, B: Allocator + Copy>(
         Ok(bytes) => bytes.as_slice() == image,
         Err(_) => false,
     }
+}
+
+/// The name of the first fact that is wrong; `None` where all are right.
+pub(crate) fn first_wrong(facts: &[(&'static str, bool)]) -> Option<&'static str> {
+    let mut first = None;
+    for (name, is_right) in facts {
+        if first.is_none() && !*is_right {
+            first = Some(*name);
+        }
+    }
+    first
 }

@@ -1,6 +1,6 @@
 //! Clusters: `new`, `run` and `step` on each kind of event, and what `copy`, `archived` and `image` show.
 
-use crate::copies::shows;
+use crate::copies::{first_wrong, shows};
 use crate::outside::{B_IS_2, EMPTY};
 use batch_codec::BatchError;
 use cluster::{Cluster, ClusterError, Event, EventError, Outcome};
@@ -65,19 +65,35 @@ const ANSWERS: [Answer; 10] = [
 ];
 
 #[test]
-fn clusters_have_one_to_eight_copies(rt: HostRuntime) -> Result<(), Fail> {
-    for copies in [0, 9, usize::MAX] {
-        let refusal = Cluster::<VecStore<_>>::new(rt.alloc(), copies).err();
+fn clusters_of_other_numbers_of_copies(rt: HostRuntime) {
+    for copies in &[0, 9, usize::MAX] {
+        let refusal = Cluster::<VecStore<_>>::new(rt.alloc(), *copies).err();
         assert_eq!(rt; refusal, Some(ClusterError::BadCopies), "{copies} copies");
     }
-    for copies in 1..9 {
-        let cluster = Cluster::<VecStore<_>>::new(rt.alloc(), copies)?;
-        let last = cluster.copy(copies - 1);
-        assert!(rt; last.is_some_and(|copy| copy.end() == 0), "{copies} copies");
-        assert!(rt; cluster.copy(copies).is_none(), "{copies} copies");
-        assert!(rt; cluster.archived(0).is_none() && cluster.image(0).is_none());
+}
+
+/// Whether a cluster has this many copies, the last one empty, and neither batches nor images.
+fn has_copies<A: Allocator + Copy>(cluster: &Cluster<VecStore<A>>, copies: usize) -> bool {
+    let last = cluster.copy(copies.saturating_sub(1));
+    last.is_some_and(|copy| copy.end() == 0)
+        && cluster.copy(copies).is_none()
+        && cluster.archived(0).is_none()
+        && cluster.image(0).is_none()
+}
+
+/// Whether a new cluster of this many copies is such a one.
+fn is_made<A: Allocator + Copy>(alloc: A, copies: usize) -> bool {
+    match Cluster::<VecStore<A>>::new(alloc, copies) {
+        Ok(cluster) => has_copies(&cluster, copies),
+        Err(_) => false,
     }
-    Ok(())
+}
+
+#[test]
+fn clusters_have_one_to_eight_copies(rt: HostRuntime) {
+    for copies in 1..9 {
+        assert!(rt; is_made(rt.alloc(), copies), "{copies} copies");
+    }
 }
 
 /// A cleaning of the leader's copy.
@@ -108,31 +124,55 @@ fn events<A: Allocator + Copy>(alloc: A) -> Result<[Event<A>; 10], AllocError> {
     ])
 }
 
-/// A cluster of two copies after the list of events, each with its answer.
-fn ran<A: Allocator + Copy>(alloc: A, events: &[Event<A>]) -> Result<Cluster<VecStore<A>>, Fail> {
-    let mut cluster = Cluster::new(alloc, 2)?;
-    if cluster.run(events)?.as_slice() == ANSWERS.as_slice() {
-        return Ok(cluster);
+/// Whether a cluster answers the list of events as it should.
+fn answers_all<A: Allocator + Copy>(
+    cluster: &mut Cluster<VecStore<A>>,
+    events: &[Event<A>],
+) -> bool {
+    match cluster.run(events) {
+        Ok(answers) => answers.as_slice() == ANSWERS.as_slice(),
+        Err(_) => false,
     }
-    Err(Fail::new("other answers"))
+}
+
+/// Whether a copy of a cluster shows the one row that the events leave.
+fn shows_row<A: Allocator + Copy>(cluster: &Cluster<VecStore<A>>, number: usize) -> bool {
+    match cluster.copy(number) {
+        Some(copy) => shows(copy, &[(b"b", b"2")], &[(0, 2)]),
+        None => false,
+    }
+}
+
+/// What a cluster shows after the list of events, by name, and whether it is right.
+fn facts<A: Allocator + Copy>(
+    cluster: &mut Cluster<VecStore<A>>,
+    events: &[Event<A>],
+) -> [(&'static str, bool); 8] {
+    let batch = one(1, 0, b'b', b'2');
+    [
+        ("the answers", answers_all(cluster, events)),
+        ("copy 0", shows_row(cluster, 0)),
+        ("copy 1", shows_row(cluster, 1)),
+        ("batch 1", cluster.archived(1) == Some(batch.as_slice())),
+        ("image 0", cluster.image(0) == Some(EMPTY.as_slice())),
+        ("image 1", cluster.image(1) == Some(B_IS_2.as_slice())),
+        ("no batch 3", cluster.archived(3).is_none()),
+        ("no image 2", cluster.image(2).is_none()),
+    ]
+}
+
+/// The first of them that is wrong, of a new cluster of two copies.
+fn wrong_after<A: Allocator + Copy>(alloc: A, events: &[Event<A>]) -> Option<&'static str> {
+    match Cluster::new(alloc, 2) {
+        Ok(mut cluster) => first_wrong(&facts(&mut cluster, events)),
+        Err(_) => Some("no cluster"),
+    }
 }
 
 #[test]
 fn a_list_of_events(rt: HostRuntime) -> Result<(), Fail> {
     let events = events(rt.alloc())?;
-    let cluster = ran(rt.alloc(), &events)?;
-    for number in 0..2 {
-        let rows: &[(&[u8], &[u8])] = &[(b"b", b"2")];
-        let copy = cluster.copy(number);
-        assert!(rt;
-            copy.is_some_and(|copy| shows(copy, rows, &[(0, 2)])),
-            "copy {number}"
-        );
-    }
-    assert_eq!(rt; cluster.archived(1), Some(one(1, 0, b'b', b'2').as_slice()));
-    assert_eq!(rt; cluster.image(0), Some(EMPTY.as_slice()));
-    assert_eq!(rt; cluster.image(1), Some(B_IS_2.as_slice()));
-    assert!(rt; cluster.archived(3).is_none() && cluster.image(2).is_none());
+    assert_eq!(rt; wrong_after(rt.alloc(), &events), None);
     Ok(())
 }
 
@@ -156,13 +196,51 @@ fn answers<A: Allocator + Copy>(
         && cluster.image(0).is_none()
 }
 
+/// Whether a cluster answers so to a batch that is sent, and then holds the one batch and no image.
+fn answers_to<A: Allocator + Copy>(
+    alloc: A,
+    cluster: &mut Cluster<VecStore<A>>,
+    bytes: &[u8],
+    wanted: Answer,
+) -> bool {
+    match produce(alloc, bytes) {
+        Ok(event) => answers(cluster, &event, wanted),
+        Err(_) => false,
+    }
+}
+
+/// The first of these batches that a cluster answers wrong.
+fn wrong_answer<A: Allocator + Copy>(
+    alloc: A,
+    cluster: &mut Cluster<VecStore<A>>,
+    rows: &[(&'static str, &[u8], Answer)],
+) -> Option<&'static str> {
+    let mut wrong = None;
+    for (name, bytes, wanted) in rows {
+        if wrong.is_none() && !answers_to(alloc, cluster, bytes, *wanted) {
+            wrong = Some(*name);
+        }
+    }
+    wrong
+}
+
+/// The same of a new cluster of two copies.
+fn wrong_when_new<A: Allocator + Copy>(
+    alloc: A,
+    rows: &[(&'static str, &[u8], Answer)],
+) -> Option<&'static str> {
+    match Cluster::new(alloc, 2) {
+        Ok(mut cluster) => wrong_answer(alloc, &mut cluster, rows),
+        Err(_) => Some("no cluster"),
+    }
+}
+
 #[test]
-fn batches_that_are_sent(rt: HostRuntime) -> Result<(), Fail> {
-    let alloc = rt.alloc();
+fn batches_that_are_sent(rt: HostRuntime) {
     let first = misplaced();
     let gap = sent(7, 0, 2);
-    let mut extra = Vec::from_slice(alloc, &first)?;
-    extra.push(0)?;
+    let mut extra = [0; 71];
+    extra[..70].copy_from_slice(&first);
     let short = Err(EventError::BadBatch(BatchError::Short));
     let rows = [
         ("a batch", first.as_slice(), based(0)),
@@ -173,42 +251,84 @@ fn batches_that_are_sent(rt: HostRuntime) -> Result<(), Fail> {
         ("a byte less", &first[..69], short),
         ("no byte", &[], short),
     ];
-    let mut cluster = Cluster::<VecStore<_>>::new(alloc, 2)?;
-    for (name, bytes, wanted) in rows {
-        let event = produce(alloc, bytes)?;
-        assert!(rt; answers(&mut cluster, &event, wanted), "{name}");
+    assert_eq!(rt; wrong_when_new(rt.alloc(), &rows), None);
+}
+
+/// Whether the delivery of a batch is answered so.
+fn delivers<A: Allocator + Copy>(
+    cluster: &mut Cluster<VecStore<A>>,
+    copy: usize,
+    batch: usize,
+    why: EventError,
+) -> bool {
+    answers(cluster, &Event::Deliver { copy, batch }, Err(why))
+}
+
+/// Whether the merge of an image is answered so.
+fn merges<A: Allocator + Copy>(
+    cluster: &mut Cluster<VecStore<A>>,
+    copy: usize,
+    image: usize,
+    why: EventError,
+) -> bool {
+    answers(cluster, &Event::Merge { copy, image }, Err(why))
+}
+
+/// Whether the sending of a copy is answered so.
+fn sends<A: Allocator + Copy>(
+    cluster: &mut Cluster<VecStore<A>>,
+    copy: usize,
+    why: EventError,
+) -> bool {
+    answers(cluster, &Event::Send { copy }, Err(why))
+}
+
+/// Whether the cleaning of a copy is answered so.
+fn cleans<A: Allocator + Copy>(
+    cluster: &mut Cluster<VecStore<A>>,
+    copy: usize,
+    why: EventError,
+) -> bool {
+    let event = Event::Clean {
+        copy,
+        upto: 9,
+        tomb_before: 9,
+    };
+    answers(cluster, &event, Err(why))
+}
+
+/// Events with numbers that a cluster of two copies and one batch doesn't have, by name, and whether it
+/// answers them right.
+fn refusals<A: Allocator + Copy>(cluster: &mut Cluster<VecStore<A>>) -> [(&'static str, bool); 8] {
+    let leader = EventError::LeaderCopy;
+    let no_copy = EventError::NoCopy;
+    [
+        ("a batch to the leader", delivers(cluster, 0, 9, leader)),
+        ("a batch to copy 2", delivers(cluster, 2, 9, no_copy)),
+        ("batch 1", delivers(cluster, 1, 1, EventError::NoBatch)),
+        ("an image to the leader", merges(cluster, 0, 9, leader)),
+        ("an image to copy 2", merges(cluster, 2, 9, no_copy)),
+        ("image 0", merges(cluster, 1, 0, EventError::NoImage)),
+        ("an image of copy 2", sends(cluster, 2, no_copy)),
+        ("a cleaning of copy 2", cleans(cluster, 2, no_copy)),
+    ]
+}
+
+/// The first of them that is answered wrong, once the cluster has the batch.
+fn wrong_refusal<A: Allocator + Copy>(
+    alloc: A,
+    cluster: &mut Cluster<VecStore<A>>,
+) -> Option<&'static str> {
+    if answers_to(alloc, cluster, &sent(7, 0, 0), based(0)) {
+        first_wrong(&refusals(cluster))
+    } else {
+        Some("the batch")
     }
-    Ok(())
 }
 
 #[test]
 fn numbers_that_nothing_has(rt: HostRuntime) -> Result<(), Fail> {
-    let alloc = rt.alloc();
-    let leader = Err(EventError::LeaderCopy);
-    let no_copy = Err(EventError::NoCopy);
-    let rows = [
-        (Event::Deliver { copy: 0, batch: 9 }, leader),
-        (Event::Deliver { copy: 2, batch: 9 }, no_copy),
-        (
-            Event::Deliver { copy: 1, batch: 1 },
-            Err(EventError::NoBatch),
-        ),
-        (Event::Merge { copy: 0, image: 9 }, leader),
-        (Event::Merge { copy: 2, image: 9 }, no_copy),
-        (Event::Merge { copy: 1, image: 0 }, Err(EventError::NoImage)),
-        (Event::Send { copy: 2 }, no_copy),
-    ];
-    let mut cluster = Cluster::<VecStore<_>>::new(alloc, 2)?;
-    let first = produce(alloc, &sent(7, 0, 0))?;
-    assert!(rt; answers(&mut cluster, &first, based(0)));
-    for (row, (event, wanted)) in rows.into_iter().enumerate() {
-        assert!(rt; answers(&mut cluster, &event, wanted), "row {row}");
-    }
-    let nothing = Event::Clean {
-        copy: 2,
-        upto: 9,
-        tomb_before: 9,
-    };
-    assert!(rt; answers(&mut cluster, &nothing, no_copy));
+    let mut cluster = Cluster::<VecStore<_>>::new(rt.alloc(), 2)?;
+    assert_eq!(rt; wrong_refusal(rt.alloc(), &mut cluster), None);
     Ok(())
 }

@@ -1,13 +1,12 @@
 //! `write_image` and `read_image`: images against bytes of another program, and copies made of them.
 
-use crate::copies::{VecLog, copy_of, has_image, shows};
+use crate::copies::{VecLog, cleaned, first_wrong, has_image, shows};
 use crate::outside::{B_IS_2, EMPTY, SECOND_OF_TWO, TWO};
 use copy_images::{ImageError, read_image};
 use copy_merge::merge_into;
 use partition_log::{CleanReport, PartitionLog};
 use segment::VecStore;
 use std::alloc::Allocator;
-use std::test::Fail;
 
 /// The refusal of bytes as an image, in memory that suffices.
 fn refusal<A: Allocator + Copy>(alloc: A, bytes: &[u8]) -> Option<ImageError> {
@@ -22,40 +21,54 @@ fn is_kept<A: Allocator + Copy>(alloc: A, bytes: &[u8]) -> bool {
     }
 }
 
-/// A copy of two records, of which a cleaning leaves the second.
-fn cleaned<A: Allocator + Copy>(alloc: A) -> Result<VecLog<A>, Fail> {
-    let mut copy = copy_of(alloc, &[&TWO])?;
+/// Whether a new copy has the empty image.
+fn is_empty_written<A: Allocator + Copy>(alloc: A) -> bool {
+    let empty: VecLog<A> = PartitionLog::new(alloc);
+    has_image(alloc, &empty, &EMPTY)
+}
+
+/// Whether a copy of two records, of which a cleaning leaves the second, has its image.
+fn is_cleaned_written<A: Allocator + Copy>(alloc: A) -> bool {
     let report = CleanReport {
         records: 1,
         tombstones: 0,
         batches: 0,
     };
-    if copy.clean(2, 0)? == report {
-        return Ok(copy);
+    match cleaned(alloc, &[&TWO], (2, 0), report) {
+        Some(copy) => has_image(alloc, &copy, &SECOND_OF_TWO),
+        None => false,
     }
-    Err(Fail::new("another report"))
 }
 
-/// An empty copy with this image merged into it.
-fn received<A: Allocator + Copy>(alloc: A, image: &[u8]) -> Result<VecLog<A>, Fail> {
-    let sent = read_image::<VecStore<A>>(alloc, image)?;
+/// Whether an empty copy shows the second record once the copy that has it is merged into it.
+fn is_received<A: Allocator + Copy>(alloc: A, sent: &VecLog<A>) -> bool {
     let mut copy = PartitionLog::new(alloc);
-    merge_into(&mut copy, &sent)?;
-    Ok(copy)
+    merge_into(&mut copy, sent).is_ok() && shows(&copy, &[(b"a", b"2")], &[(0, 1)])
+}
+
+/// The same of a copy that is read.
+fn is_read_received<A: Allocator + Copy>(alloc: A) -> bool {
+    match read_image::<VecStore<A>>(alloc, &SECOND_OF_TWO) {
+        Ok(sent) => is_received(alloc, &sent),
+        Err(_) => false,
+    }
 }
 
 #[test]
-fn images_are_read_and_written(rt: HostRuntime) -> Result<(), Fail> {
+fn images_are_read_and_written(rt: HostRuntime) {
     let alloc = rt.alloc();
-    let empty: VecLog<_> = PartitionLog::new(alloc);
-    assert!(rt; has_image(alloc, &empty, &EMPTY));
-    for bytes in [EMPTY.as_slice(), &B_IS_2, &SECOND_OF_TWO] {
-        assert!(rt; is_kept(alloc, bytes));
-    }
-    assert!(rt; has_image(alloc, &cleaned(alloc)?, &SECOND_OF_TWO));
-    let copy = received(alloc, &SECOND_OF_TWO)?;
-    assert!(rt; shows(&copy, &[(b"a", b"2")], &[(0, 1)]));
-    Ok(())
+    let rows = [
+        ("an empty copy", is_empty_written(alloc)),
+        ("a cleaned copy", is_cleaned_written(alloc)),
+        ("the image of an empty copy", is_kept(alloc, &EMPTY)),
+        ("the image of one record", is_kept(alloc, &B_IS_2)),
+        (
+            "the image of a second record",
+            is_kept(alloc, &SECOND_OF_TWO),
+        ),
+        ("an image that is merged", is_read_received(alloc)),
+    ];
+    assert_eq!(rt; first_wrong(&rows), None);
 }
 
 /// The refusal of the image `B_IS_2` with one byte changed.
@@ -68,20 +81,24 @@ fn changed_byte(at: usize) -> ImageError {
 }
 
 #[test]
-fn an_image_that_is_cut_or_changed(rt: HostRuntime) -> Result<(), Fail> {
-    let alloc = rt.alloc();
+fn an_image_that_is_cut(rt: HostRuntime) {
     for len in 0..B_IS_2.len() {
         let wanted = if len < 18 {
             ImageError::Short
         } else {
             ImageError::BadCrc
         };
-        let cut = refusal(alloc, &B_IS_2[..len]);
+        let cut = refusal(rt.alloc(), &B_IS_2[..len]);
         assert_eq!(rt; cut, Some(wanted), "{len} bytes");
-        let mut bytes = B_IS_2;
-        bytes[len] ^= 0x10;
-        let changed = refusal(alloc, &bytes);
-        assert_eq!(rt; changed, Some(changed_byte(len)), "byte {len}");
     }
-    Ok(())
+}
+
+#[test]
+fn an_image_that_is_changed(rt: HostRuntime) {
+    for at in 0..B_IS_2.len() {
+        let mut bytes = B_IS_2;
+        bytes[at] ^= 0x10;
+        let changed = refusal(rt.alloc(), &bytes);
+        assert_eq!(rt; changed, Some(changed_byte(at)), "byte {at}");
+    }
 }

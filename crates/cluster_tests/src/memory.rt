@@ -1,15 +1,16 @@
 //! Merges, images and copies made of parts under each allocation failing in turn: all is as it was, and the
 //! same call then succeeds.
 
-use crate::copies::{VecLog, copy_of, has_image};
-use crate::outside::{A_AND_B, NONE_OF_TWO};
+use crate::copies::{VecLog, has_image};
+use crate::merging::without_one;
+use crate::outside::NONE_OF_TWO;
 use crate::parts::rebuilt;
 use copy_images::{ImageError, read_image, write_image};
 use copy_merge::{MergeError, merge, merge_into};
 use outside_batches::one;
 use refusing_alloc::Refusing;
 use segment::VecStore;
-use std::alloc::Allocator;
+use std::alloc::{Allocator, Global};
 use std::test::Fail;
 
 /// More allocations than any call below asks for.
@@ -26,6 +27,25 @@ pub(crate) enum Came {
     Wrong,
 }
 
+impl Came {
+    /// What came of a call whose allocation of this number fails. Each call asks for one at least.
+    pub(crate) fn at(self, number: u64) -> Came {
+        if number == 1 && self == Came::AtOnce {
+            return Came::Wrong;
+        }
+        self
+    }
+
+    /// What came of two calls.
+    pub(crate) fn and(self, other: Came) -> Came {
+        match (self, other) {
+            (Came::AtOnce, came) | (came, Came::AtOnce) => came,
+            (Came::Later, Came::Later) => Came::Later,
+            _ => Came::Wrong,
+        }
+    }
+}
+
 /// What came of a call that succeeded, and did this rightly or not.
 pub(crate) fn at_once(is_right: bool) -> Came {
     if is_right { Came::AtOnce } else { Came::Wrong }
@@ -36,18 +56,21 @@ pub(crate) fn later(is_right: bool) -> Came {
     if is_right { Came::Later } else { Came::Wrong }
 }
 
-/// A copy of `A_AND_B` and this batch, cleaned.
-fn cleaned<A: Allocator + Copy>(alloc: A, last: &[u8]) -> Result<VecLog<A>, Fail> {
-    let mut copy = copy_of(alloc, &[&A_AND_B, last])?;
-    copy.clean(4, 0)?;
-    Ok(copy)
+/// Two copies of one log, whose merge is `NONE_OF_TWO`.
+fn pair<A: Allocator + Copy>(alloc: A) -> Option<(VecLog<A>, VecLog<A>)> {
+    let left = without_one(alloc, &one(2, 0, b'a', b'5'))?;
+    let right = without_one(alloc, &one(3, 0, b'b', b'6'))?;
+    Some((left, right))
 }
 
-/// Two copies of one log, whose merge is `NONE_OF_TWO`.
-fn pair<A: Allocator + Copy>(alloc: A) -> Result<(VecLog<A>, VecLog<A>), Fail> {
-    let left = cleaned(alloc, &one(2, 0, b'a', b'5'))?;
-    let right = cleaned(alloc, &one(3, 0, b'b', b'6'))?;
-    Ok((left, right))
+/// How many allocations the two copies ask for.
+fn calls_of_pair(alloc: Global) -> Option<u64> {
+    let counted = Refusing::new(alloc, 0);
+    if pair(&counted).is_some() {
+        Some(counted.calls())
+    } else {
+        None
+    }
 }
 
 /// Whether the two copies merge to `NONE_OF_TWO`.
@@ -154,55 +177,99 @@ enum Call {
     Rebuild,
 }
 
-/// Makes a call on the two copies.
-fn tries<A: Allocator + Copy, B: Allocator + Copy>(
+/// Makes a call on the two copies, the first of which has this image.
+fn makes<A: Allocator + Copy, B: Allocator + Copy>(
     call: Call,
-    heap: A,
     inner: B,
-) -> Result<Came, Fail> {
-    let (mut left, right) = pair(heap)?;
-    let image = write_image(inner, &left)?;
-    Ok(match call {
-        Call::Merge => merges(inner, &left, &right),
-        Call::MergeInto => merges_into(inner, &mut left, &right, &image),
-        Call::Rebuild => rebuilds(inner, &left, &image),
-    })
+    (left, right): (&mut VecLog<A>, &VecLog<A>),
+    image: &[u8],
+) -> Came {
+    match call {
+        Call::Merge => merges(inner, left, right),
+        Call::MergeInto => merges_into(inner, left, right, image),
+        Call::Rebuild => rebuilds(inner, left, image),
+    }
+}
+
+/// Makes a call on the two copies.
+fn tries_on<A: Allocator + Copy, B: Allocator + Copy>(
+    call: Call,
+    inner: B,
+    left: &mut VecLog<A>,
+    right: &VecLog<A>,
+) -> Came {
+    match write_image(inner, left) {
+        Ok(image) => makes(call, inner, (left, right), &image),
+        Err(_) => Came::Wrong,
+    }
+}
+
+/// Makes a call on two copies of its own.
+fn tries<A: Allocator + Copy, B: Allocator + Copy>(call: Call, heap: A, inner: B) -> Came {
+    match pair(heap) {
+        Some((mut left, right)) => tries_on(call, inner, &mut left, &right),
+        None => Came::Wrong,
+    }
+}
+
+/// Makes a call, while each allocation behind those of the two copies fails in turn.
+fn tries_later(alloc: Global, calls: u64, call: Call) -> Came {
+    let mut came = Came::Later;
+    for number in 1..MOST {
+        if came == Came::Later {
+            let heap = Refusing::new(alloc, calls.saturating_add(number));
+            came = tries(call, &heap, alloc).at(number);
+        }
+    }
+    came
 }
 
 #[test]
 fn merges_succeed_later(rt: HostRuntime) -> Result<(), Fail> {
-    let counted = Refusing::new(rt.alloc(), 0);
-    pair(&counted)?;
-    for call in [Call::Merge, Call::MergeInto, Call::Rebuild] {
-        let mut came = Came::Later;
-        for number in 1..MOST {
-            let heap = Refusing::new(rt.alloc(), counted.calls().saturating_add(number));
-            came = tries(call, &heap, rt.alloc())?;
-            assert!(rt; number > 1 || came == Came::Later, "{call:?}");
-            if came != Came::Later {
-                break;
-            }
-        }
+    let Some(calls) = calls_of_pair(rt.alloc()) else {
+        return Err(Fail::new("there are no copies"));
+    };
+    for call in &[Call::Merge, Call::MergeInto, Call::Rebuild] {
+        let came = tries_later(rt.alloc(), calls, *call);
         assert_eq!(rt; came, Came::AtOnce, "{call:?}");
     }
     Ok(())
 }
 
-#[test]
-fn images_come_later(rt: HostRuntime) -> Result<(), Fail> {
-    let alloc = rt.alloc();
-    let copy = read_image::<VecStore<_>>(alloc, &NONE_OF_TWO)?;
-    let mut came = [Came::Later; 2];
+/// Writes an image, while each allocation fails in turn: the last one, and what came of it.
+fn writes_later(alloc: Global, copy: &VecLog<Global>) -> (u64, Came) {
+    let mut last = (0, Came::Later);
     for number in 1..MOST {
-        let first = Refusing::new(alloc, number);
-        let second = Refusing::new(alloc, number);
-        came = [writes(&first, &copy), reads(&second, alloc)];
-        assert!(rt; number > 1 || came == [Came::Later; 2]);
-        assert!(rt; !came.contains(&Came::Wrong), "{number}");
-        if came == [Came::AtOnce; 2] {
-            break;
+        if last.1 == Came::Later {
+            let heap = Refusing::new(alloc, number);
+            last = (number, writes(&heap, copy).at(number));
         }
     }
-    assert_eq!(rt; came, [Came::AtOnce; 2]);
+    last
+}
+
+/// Reads an image, while each allocation fails in turn: the last one, and what came of it.
+fn reads_later(alloc: Global) -> (u64, Came) {
+    let mut last = (0, Came::Later);
+    for number in 1..MOST {
+        if last.1 == Came::Later {
+            let heap = Refusing::new(alloc, number);
+            last = (number, reads(&heap, alloc).at(number));
+        }
+    }
+    last
+}
+
+#[test]
+fn written_images_come_later(rt: HostRuntime) -> Result<(), Fail> {
+    let copy = read_image::<VecStore<_>>(rt.alloc(), &NONE_OF_TWO)?;
+    let (number, came) = writes_later(rt.alloc(), &copy);
+    assert_eq!(rt; came, Came::AtOnce, "{number}");
     Ok(())
+}
+
+#[test]
+fn read_images_come_later(rt: HostRuntime) {
+    let (number, came) = reads_later(rt.alloc());
+    assert_eq!(rt; came, Came::AtOnce, "{number}");
 }

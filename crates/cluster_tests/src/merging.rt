@@ -1,14 +1,13 @@
 //! `merge` and `merge_into`: merges worked by hand, with the bytes of their images, and copies that
 //! disagree.
 
-use crate::copies::{VecLog, copy_of, has_image, shows};
+use crate::copies::{VecLog, cleaned, copy_of, has_image, shows};
 use crate::outside::{A_AND_B, B_IS_2, NONE_OF_TWO, TWO};
 use copy_images::write_image;
 use copy_merge::{MergeError, merge, merge_into};
 use outside_batches::{nine_at, null_at, one, three_at};
 use partition_log::CleanReport;
-use std::alloc::{AllocError, Allocator};
-use std::test::Fail;
+use std::alloc::Allocator;
 
 /// What a merge gives: the image, the rows that it shows, and the offsets that it has seen.
 #[derive(Clone, Copy)]
@@ -18,23 +17,34 @@ struct Wanted<'a> {
     seen: &'a [(i64, i64)],
 }
 
-/// Whether both calls merge the second copy with the first into the one that is wanted.
-fn merges_in_order<A: Allocator + Copy>(
+/// Whether `merge` gives the copy that is wanted.
+fn merges<A: Allocator + Copy>(
     alloc: A,
     left: &VecLog<A>,
     right: &VecLog<A>,
     wanted: &Wanted<'_>,
-) -> Result<bool, AllocError> {
-    let mut changed = left.try_clone()?;
-    let Ok(merged) = merge(left, right) else {
-        return Ok(false);
-    };
-    Ok(
-        merge_into(&mut changed, right).is_ok()
-            && has_image(alloc, &changed, wanted.image)
-            && has_image(alloc, &merged, wanted.image)
-            && shows(&merged, wanted.rows, wanted.seen),
-    )
+) -> bool {
+    match merge(left, right) {
+        Ok(merged) => {
+            has_image(alloc, &merged, wanted.image) && shows(&merged, wanted.rows, wanted.seen)
+        }
+        Err(_) => false,
+    }
+}
+
+/// Whether `merge_into` makes the first copy the one that is wanted.
+fn merges_into<A: Allocator + Copy>(
+    alloc: A,
+    left: &VecLog<A>,
+    right: &VecLog<A>,
+    wanted: &Wanted<'_>,
+) -> bool {
+    match left.try_clone() {
+        Ok(mut changed) => {
+            merge_into(&mut changed, right).is_ok() && has_image(alloc, &changed, wanted.image)
+        }
+        Err(_) => false,
+    }
 }
 
 /// Whether both calls, in both orders, merge two copies into the one that is wanted.
@@ -44,22 +54,10 @@ fn merges_to<A: Allocator + Copy>(
     right: &VecLog<A>,
     wanted: &Wanted<'_>,
 ) -> bool {
-    merges_in_order(alloc, left, right, wanted) == Ok(true)
-        && merges_in_order(alloc, right, left, wanted) == Ok(true)
-}
-
-/// A copy to which batches were delivered, and which was then cleaned with this report.
-fn cleaned<A: Allocator + Copy>(
-    alloc: A,
-    batches: &[&[u8]],
-    (upto, tomb_before): (i64, i64),
-    report: CleanReport,
-) -> Result<VecLog<A>, Fail> {
-    let mut copy = copy_of(alloc, batches)?;
-    if copy.clean(upto, tomb_before)? == report {
-        return Ok(copy);
-    }
-    Err(Fail::new("another report"))
+    merges(alloc, left, right, wanted)
+        && merges(alloc, right, left, wanted)
+        && merges_into(alloc, left, right, wanted)
+        && merges_into(alloc, right, left, wanted)
 }
 
 /// What goes where a record and the tombstone of its key are cleaned away.
@@ -70,7 +68,7 @@ const TWO_BATCHES: CleanReport = CleanReport {
 };
 
 /// A copy whose record `a` = 1 went, and then its tombstone.
-fn without_a<A: Allocator + Copy>(alloc: A, first: &[u8]) -> Result<VecLog<A>, Fail> {
+fn without_a<A: Allocator + Copy>(alloc: A, first: &[u8]) -> Option<VecLog<A>> {
     let second = one(1, 0, b'b', b'2');
     cleaned(alloc, &[first, &second, &null_at(2)], (3, 3), TWO_BATCHES)
 }
@@ -87,13 +85,25 @@ fn stays_gone<A: Allocator + Copy>(alloc: A, cleaned: &VecLog<A>, other: &VecLog
         && merges_to(alloc, cleaned, cleaned, &wanted)
 }
 
+/// The same of a copy of this batch.
+fn stays_gone_beside<A: Allocator + Copy>(alloc: A, cleaned: &VecLog<A>, batch: &[u8]) -> bool {
+    match copy_of(alloc, &[batch]) {
+        Some(other) => stays_gone(alloc, cleaned, &other),
+        None => false,
+    }
+}
+
+/// The same of a copy that dropped the record of this batch.
+fn drops_for_good<A: Allocator + Copy>(alloc: A, first: &[u8]) -> bool {
+    match without_a(alloc, first) {
+        Some(cleaned) => stays_gone_beside(alloc, &cleaned, first),
+        None => false,
+    }
+}
+
 #[test]
-fn a_dropped_record_stays_gone(rt: HostRuntime) -> Result<(), Fail> {
-    let first = one(0, 0, b'a', b'1');
-    let cleaned = without_a(rt.alloc(), &first)?;
-    let other = copy_of(rt.alloc(), &[&first])?;
-    assert!(rt; stays_gone(rt.alloc(), &cleaned, &other));
-    Ok(())
+fn a_dropped_record_stays_gone(rt: HostRuntime) {
+    assert!(rt; drops_for_good(rt.alloc(), &one(0, 0, b'a', b'1')));
 }
 
 /// What goes where one record of a batch is cleaned away.
@@ -104,32 +114,64 @@ const ONE_RECORD: CleanReport = CleanReport {
 };
 
 /// A copy of the batch `a` = 1, `b` = 2 without the record that this batch supersedes.
-fn without_one<A: Allocator + Copy>(alloc: A, last: &[u8]) -> Result<VecLog<A>, Fail> {
+pub(crate) fn without_one<A: Allocator + Copy>(alloc: A, last: &[u8]) -> Option<VecLog<A>> {
     cleaned(alloc, &[&A_AND_B, last], (4, 0), ONE_RECORD)
 }
 
-/// Whether the merge of two copies that lost another record each has neither, and merges with the first
-/// to itself.
-fn both_go<A: Allocator + Copy>(
-    alloc: A,
-    left: &VecLog<A>,
-    right: &VecLog<A>,
-) -> Result<bool, MergeError> {
-    let merged = merge(left, right)?;
-    let wanted = Wanted {
-        image: &NONE_OF_TWO,
-        rows: &[(b"a", b"5"), (b"b", b"6")],
-        seen: &[(0, 3)],
-    };
-    Ok(merges_to(alloc, left, right, &wanted) && merges_to(alloc, &merged, left, &wanted))
+/// What the merge of two copies gives that lost another record each: it has neither.
+const NEITHER: Wanted<'static> = Wanted {
+    image: &NONE_OF_TWO,
+    rows: &[(b"a", b"5"), (b"b", b"6")],
+    seen: &[(0, 3)],
+};
+
+/// Whether the merge of two such copies merges with the first to itself.
+fn merges_again<A: Allocator + Copy>(alloc: A, left: &VecLog<A>, right: &VecLog<A>) -> bool {
+    match merge(left, right) {
+        Ok(merged) => merges_to(alloc, &merged, left, &NEITHER),
+        Err(_) => false,
+    }
+}
+
+/// Whether both records go in the merges of this copy with one that superseded the other record.
+fn both_go<A: Allocator + Copy>(alloc: A, left: &VecLog<A>) -> bool {
+    match without_one(alloc, &one(3, 0, b'b', b'6')) {
+        Some(right) => {
+            merges_to(alloc, left, &right, &NEITHER) && merges_again(alloc, left, &right)
+        }
+        None => false,
+    }
+}
+
+/// The same of two copies that superseded another record each.
+fn both_go_in_merges<A: Allocator + Copy>(alloc: A) -> bool {
+    match without_one(alloc, &one(2, 0, b'a', b'5')) {
+        Some(left) => both_go(alloc, &left),
+        None => false,
+    }
 }
 
 #[test]
-fn records_stay_that_both_have(rt: HostRuntime) -> Result<(), Fail> {
-    let left = without_one(rt.alloc(), &one(2, 0, b'a', b'5'))?;
-    let right = without_one(rt.alloc(), &one(3, 0, b'b', b'6'))?;
-    assert!(rt; both_go(rt.alloc(), &left, &right)?);
-    Ok(())
+fn records_stay_that_both_have(rt: HostRuntime) {
+    assert!(rt; both_go_in_merges(rt.alloc()));
+}
+
+/// Whether both calls refuse the second copy at this base beside the first, which keeps this image.
+fn refuse<A: Allocator + Copy>(
+    alloc: A,
+    (left, right): (&VecLog<A>, &VecLog<A>),
+    base: i64,
+    image: &[u8],
+) -> bool {
+    let wanted = MergeError::Disagree { base };
+    match left.try_clone() {
+        Ok(mut changed) => {
+            merge(left, right).err() == Some(wanted)
+                && merge_into(&mut changed, right) == Err(wanted)
+                && has_image(alloc, &changed, image)
+        }
+        Err(_) => false,
+    }
 }
 
 /// Whether both calls refuse the second copy at this base beside the first, which stays as it is.
@@ -138,37 +180,41 @@ fn refuse_in_order<A: Allocator + Copy>(
     left: &VecLog<A>,
     right: &VecLog<A>,
     base: i64,
-) -> Result<bool, AllocError> {
-    let wanted = MergeError::Disagree { base };
-    let image = write_image(alloc, left)?;
-    let mut changed = left.try_clone()?;
-    Ok(
-        merge(left, right).err() == Some(wanted)
-            && merge_into(&mut changed, right) == Err(wanted)
-            && has_image(alloc, &changed, &image),
-    )
+) -> bool {
+    match write_image(alloc, left) {
+        Ok(image) => refuse(alloc, (left, right), base, &image),
+        Err(_) => false,
+    }
 }
 
 /// Whether both calls, in both orders, refuse two copies at this base, and change nothing.
 fn disagree<A: Allocator + Copy>(alloc: A, left: &VecLog<A>, right: &VecLog<A>, base: i64) -> bool {
-    refuse_in_order(alloc, left, right, base) == Ok(true)
-        && refuse_in_order(alloc, right, left, base) == Ok(true)
+    refuse_in_order(alloc, left, right, base) && refuse_in_order(alloc, right, left, base)
 }
 
-/// Whether a copy of one batch and one of another disagree so.
-fn apart<A: Allocator + Copy>(
+/// Whether a copy and one of these batches disagree so.
+fn disagrees_with<A: Allocator + Copy>(
     alloc: A,
-    left: &[u8],
-    right: &[u8],
+    left: &VecLog<A>,
+    right: &[&[u8]],
     base: i64,
-) -> Result<bool, Fail> {
-    let left = copy_of(alloc, &[left])?;
-    let right = copy_of(alloc, &[right])?;
-    Ok(disagree(alloc, &left, &right, base))
+) -> bool {
+    match copy_of(alloc, right) {
+        Some(right) => disagree(alloc, left, &right, base),
+        None => false,
+    }
+}
+
+/// Whether copies of these batches disagree so.
+fn apart<A: Allocator + Copy>(alloc: A, left: &[&[u8]], right: &[&[u8]], base: i64) -> bool {
+    match copy_of(alloc, left) {
+        Some(left) => disagrees_with(alloc, &left, right, base),
+        None => false,
+    }
 }
 
 #[test]
-fn copies_of_two_logs(rt: HostRuntime) -> Result<(), Fail> {
+fn copies_of_two_logs(rt: HostRuntime) {
     let first = one(0, 0, b'a', b'1');
     let value = one(0, 0, b'a', b'2');
     let time = one(0, 1, b'a', b'1');
@@ -182,18 +228,17 @@ fn copies_of_two_logs(rt: HostRuntime) -> Result<(), Fail> {
         ("the second offset alone", &TWO, &second, 0),
         ("an offset within", &within, &around, 5),
     ];
-    for (name, left, right, base) in rows {
-        assert!(rt; apart(rt.alloc(), left, right, base)?, "{name}");
+    for (name, left, right, base) in &rows {
+        assert!(rt; apart(rt.alloc(), &[left], &[right], *base), "{name}");
     }
-    Ok(())
 }
 
 #[test]
-fn the_least_base_at_fault(rt: HostRuntime) -> Result<(), Fail> {
+fn the_least_base_at_fault(rt: HostRuntime) {
     let first = one(0, 0, b'a', b'1');
-    let left = copy_of(rt.alloc(), &[&first, &nine_at(1), &nine_at(2)])?;
     let second = one(1, 0, b'a', b'2');
-    let right = copy_of(rt.alloc(), &[&one(2, 0, b'a', b'8'), &second, &first])?;
-    assert!(rt; disagree(rt.alloc(), &left, &right, 1));
-    Ok(())
+    let third = one(2, 0, b'a', b'8');
+    let left: &[&[u8]] = &[&first, &nine_at(1), &nine_at(2)];
+    let right: &[&[u8]] = &[&third, &second, &first];
+    assert!(rt; apart(rt.alloc(), left, right, 1));
 }

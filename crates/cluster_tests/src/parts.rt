@@ -3,7 +3,7 @@
 ghost use Rattle.std.specs.Prelude.{◌≡◌, pos, IfOk};
 ghost use Rattle.content.specs.Content.{IsContent};
 
-use crate::copies::{VecLog, copy_of, has_image, shows};
+use crate::copies::{VecLog, copy_of, first_wrong, has_image, shows};
 use crate::outside::{A_AND_B, B_IS_2, EMPTY, SECOND_OF_TWO};
 use batch_codec::Batch;
 use copy_images::read_image;
@@ -11,7 +11,6 @@ use outside_batches::one;
 use partition_log::PartitionLog;
 use segment::{BatchStore, VecStore};
 use std::alloc::{AllocError, Allocator};
-use std::test::Fail;
 
 /// A copy's content is a valid one from 0 on: this is known behind the call, which does nothing.
 fn know_content<S: BatchStore>(copy: &PartitionLog<S>)
@@ -58,34 +57,75 @@ fn restored<S: BatchStore>(
     Ok(PartitionLog::from_store(alloc, copy.cover().try_clone()?, store))
 }
 
-/// Whether the copy has this image, when it is put together again in either way.
-fn is_kept<A: Allocator + Copy>(
-    alloc: A,
-    copy: &VecLog<A>,
-    image: &[u8],
-) -> Result<bool, AllocError> {
-    let made = rebuilt(alloc, copy)?;
-    let stored = restored(alloc, copy)?;
-    Ok(has_image(alloc, &made, image) && has_image(alloc, &stored, image))
-}
-
-#[test]
-fn copies_are_made_of_their_parts(rt: HostRuntime) -> Result<(), Fail> {
-    let alloc = rt.alloc();
-    for image in [EMPTY.as_slice(), &B_IS_2, &SECOND_OF_TWO] {
-        let copy = read_image::<VecStore<_>>(alloc, image)?;
-        assert!(rt; is_kept(alloc, &copy, image)?);
+/// Whether a copy made of the parts of this one has this image.
+fn is_rebuilt<A: Allocator + Copy>(alloc: A, copy: &VecLog<A>, image: &[u8]) -> bool {
+    match rebuilt(alloc, copy) {
+        Ok(made) => has_image(alloc, &made, image),
+        Err(_) => false,
     }
-    Ok(())
+}
+
+/// Whether a copy made of this one's store has this image.
+fn is_restored<A: Allocator + Copy>(alloc: A, copy: &VecLog<A>, image: &[u8]) -> bool {
+    match restored(alloc, copy) {
+        Ok(made) => has_image(alloc, &made, image),
+        Err(_) => false,
+    }
+}
+
+/// Whether the copy of an image has it too, when it is put together again in either way.
+fn is_kept<A: Allocator + Copy>(alloc: A, image: &[u8]) -> bool {
+    match read_image::<VecStore<A>>(alloc, image) {
+        Ok(copy) => is_rebuilt(alloc, &copy, image) && is_restored(alloc, &copy, image),
+        Err(_) => false,
+    }
 }
 
 #[test]
-fn a_copy_with_a_gap_is_made_of_its_parts(rt: HostRuntime) -> Result<(), Fail> {
-    let alloc = rt.alloc();
-    let copy = copy_of(alloc, &[&one(9, 0, b'c', b'3'), &A_AND_B])?;
+fn copies_are_made_of_their_parts(rt: HostRuntime) {
+    let rows = [
+        ("an empty copy", is_kept(rt.alloc(), &EMPTY)),
+        ("one record", is_kept(rt.alloc(), &B_IS_2)),
+        ("a second record", is_kept(rt.alloc(), &SECOND_OF_TWO)),
+    ];
+    assert_eq!(rt; first_wrong(&rows), None);
+}
+
+/// Whether a copy shows the three rows that stand around the gap.
+fn shows_gap<A: Allocator + Copy>(copy: &VecLog<A>) -> bool {
     let rows: &[(&[u8], &[u8])] = &[(b"a", b"1"), (b"b", b"2"), (b"c", b"3")];
-    let seen = [(0, 1), (9, 9)];
-    assert!(rt; shows(&rebuilt(alloc, &copy)?, rows, &seen));
-    assert!(rt; shows(&restored(alloc, &copy)?, rows, &seen));
-    Ok(())
+    shows(copy, rows, &[(0, 1), (9, 9)])
+}
+
+/// Whether a copy made of the parts of this one shows them.
+fn is_rebuilt_with_gap<A: Allocator + Copy>(alloc: A, copy: &VecLog<A>) -> bool {
+    match rebuilt(alloc, copy) {
+        Ok(made) => shows_gap(&made),
+        Err(_) => false,
+    }
+}
+
+/// Whether a copy made of this one's store shows them.
+fn is_restored_with_gap<A: Allocator + Copy>(alloc: A, copy: &VecLog<A>) -> bool {
+    match restored(alloc, copy) {
+        Ok(made) => shows_gap(&made),
+        Err(_) => false,
+    }
+}
+
+/// Whether a copy made of this one in either way shows them.
+fn keeps_gap<A: Allocator + Copy>(alloc: A, batches: &[&[u8]]) -> (bool, bool) {
+    match copy_of(alloc, batches) {
+        Some(copy) => (
+            is_rebuilt_with_gap(alloc, &copy),
+            is_restored_with_gap(alloc, &copy),
+        ),
+        None => (false, false),
+    }
+}
+
+#[test]
+fn a_copy_with_a_gap_is_made_of_its_parts(rt: HostRuntime) {
+    let kept = keeps_gap(rt.alloc(), &[&one(9, 0, b'c', b'3'), &A_AND_B]);
+    assert_eq!(rt; kept, (true, true), "of its parts, and of its store");
 }

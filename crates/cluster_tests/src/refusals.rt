@@ -31,15 +31,30 @@ pub(crate) fn image_with<A: Allocator>(
     Ok(bytes)
 }
 
-/// Bytes one after the other.
-fn joined<A: Allocator>(alloc: A, left: &[u8], right: &[u8]) -> Result<Vec<u8, A>, AllocError> {
-    let mut bytes = Vec::from_slice(alloc, left)?;
-    bytes.extend_from_slice(right)?;
-    Ok(bytes)
+/// The refusal of such bytes as an image, in memory that suffices.
+fn refusal<A: Allocator + Copy>(
+    alloc: A,
+    range_count: i32,
+    ranges: &[(i64, i64)],
+    batch_count: i32,
+    batches: &[u8],
+) -> Option<ImageError> {
+    match image_with(alloc, range_count, ranges, batch_count, batches) {
+        Ok(bytes) => read_image::<VecStore<A>>(alloc, &bytes).err(),
+        Err(_) => Some(ImageError::OutOfMemory),
+    }
+}
+
+/// Two batches one after the other.
+fn joined(left: &[u8; 70], right: &[u8; 70]) -> [u8; 140] {
+    let mut bytes = [0; 140];
+    bytes[..70].copy_from_slice(left);
+    bytes[70..].copy_from_slice(right);
+    bytes
 }
 
 #[test]
-fn counts_and_ranges(rt: HostRuntime) -> Result<(), Fail> {
+fn counts_and_ranges(rt: HostRuntime) {
     let bad = Some(ImageError::BadCover);
     let short = Some(ImageError::Short);
     let none: &[(i64, i64)] = &[];
@@ -74,46 +89,32 @@ fn counts_and_ranges(rt: HostRuntime) -> Result<(), Fail> {
             Some(ImageError::Extra),
         ),
     ];
-    for (name, range_count, ranges, batch_count, wanted) in rows {
-        let bytes = image_with(rt.alloc(), range_count, ranges, batch_count, b"")?;
-        let refusal = read_image::<VecStore<_>>(rt.alloc(), &bytes).err();
-        assert_eq!(rt; refusal, wanted, "{name}");
+    for (name, range_count, ranges, batch_count, wanted) in &rows {
+        let found = refusal(rt.alloc(), *range_count, ranges, *batch_count, b"");
+        assert_eq!(rt; found, *wanted, "{name}");
     }
-    Ok(())
 }
 
 #[test]
-fn batches_in_ranges(rt: HostRuntime) -> Result<(), Fail> {
-    let alloc = rt.alloc();
+fn two_batches_in_ranges(rt: HostRuntime) {
     let first = one(0, 0, b'a', b'1');
     let second = one(1, 0, b'b', b'2');
-    let both = joined(alloc, &first, &second)?;
-    let fall = joined(alloc, &second, &first)?;
-    let twice = joined(alloc, &first, &first)?;
-    let more = joined(alloc, &second, &[0])?;
-    let part = three_at(2);
-    let late = nine_at(5);
-    let below = nine_at(-1);
-    let past = nine_at(GREATEST + 1);
-    let last = nine_at(GREATEST);
+    let both = joined(&first, &second);
+    let fall = joined(&second, &first);
+    let twice = joined(&first, &first);
+    let mut more = [0; 71];
+    more[..70].copy_from_slice(&second);
     let touch: &[(i64, i64)] = &[(0, 1)];
     let apart: &[(i64, i64)] = &[(0, 0), (2, 3)];
-    let all: &[(i64, i64)] = &[(0, GREATEST)];
-    let first_bad = Some(ImageError::BadBatch(0));
     let second_bad = Some(ImageError::BadBatch(1));
+    let third_bad = Some(ImageError::BadBatch(2));
     let outside = Some(ImageError::Outside);
     let extra = Some(ImageError::Extra);
     // The ranges, the count of batches, their bytes, and the refusal.
     let rows = [
         ("two batches", touch, 2, both.as_slice(), None),
         ("one of two", touch, 1, &both, extra),
-        (
-            "two of three",
-            touch,
-            3,
-            &both,
-            Some(ImageError::BadBatch(2)),
-        ),
+        ("two of three", touch, 3, &both, third_bad),
         ("one byte too many", touch, 1, &more, extra),
         (
             "a byte in the place of a batch",
@@ -124,24 +125,51 @@ fn batches_in_ranges(rt: HostRuntime) -> Result<(), Fail> {
         ),
         ("bases that fall", touch, 2, &fall, second_bad),
         ("one batch twice", touch, 2, &twice, second_bad),
-        ("a base behind the ranges", touch, 1, &late, outside),
         ("a base between ranges", apart, 2, &both, outside),
+    ];
+    for (name, ranges, count, batches, wanted) in &rows {
+        let range_count = ranges.len() as i32;
+        let found = refusal(rt.alloc(), range_count, ranges, *count, batches);
+        assert_eq!(rt; found, *wanted, "{name}");
+    }
+}
+
+#[test]
+fn one_batch_in_ranges(rt: HostRuntime) {
+    let first = one(0, 0, b'a', b'1');
+    let part = three_at(2);
+    let late = nine_at(5);
+    let below = nine_at(-1);
+    let past = nine_at(GREATEST + 1);
+    let last = nine_at(GREATEST);
+    let touch: &[(i64, i64)] = &[(0, 1)];
+    let apart: &[(i64, i64)] = &[(0, 0), (2, 3)];
+    let all: &[(i64, i64)] = &[(0, GREATEST)];
+    let bad = Some(ImageError::BadBatch(0));
+    let outside = Some(ImageError::Outside);
+    // The ranges, the count of batches, their bytes, and the refusal.
+    let rows = [
+        (
+            "a base behind the ranges",
+            touch,
+            1,
+            late.as_slice(),
+            outside,
+        ),
         ("a span that ends behind them", apart, 1, &part, outside),
         ("no ranges", &[], 1, &first, outside),
         ("the greatest offset", all, 1, &last, None),
-        ("a greater one", all, 1, &past, first_bad),
-        ("a base below 0", all, 1, &below, first_bad),
-        ("a null key", all, 1, &NO_KEY, first_bad),
-        ("a batch that is cut", all, 1, &first[..69], first_bad),
-        ("no batch to read", all, 0, &first, extra),
+        ("a greater one", all, 1, &past, bad),
+        ("a base below 0", all, 1, &below, bad),
+        ("a null key", all, 1, &NO_KEY, bad),
+        ("a batch that is cut", all, 1, &first[..69], bad),
+        ("no batch to read", all, 0, &first, Some(ImageError::Extra)),
     ];
-    for (name, ranges, count, batches, wanted) in rows {
+    for (name, ranges, count, batches, wanted) in &rows {
         let range_count = ranges.len() as i32;
-        let bytes = image_with(alloc, range_count, ranges, count, batches)?;
-        let refusal = read_image::<VecStore<_>>(alloc, &bytes).err();
-        assert_eq!(rt; refusal, wanted, "{name}");
+        let found = refusal(rt.alloc(), range_count, ranges, *count, batches);
+        assert_eq!(rt; found, *wanted, "{name}");
     }
-    Ok(())
 }
 
 #[test]
