@@ -1,49 +1,77 @@
 //! A copy under each allocation failing in turn: it is as it was, and the call succeeds later.
-use batch_codec::view;
+use batch_codec::{BatchView, view};
 use outside_batches::{NINE, THREE};
 use partition_log::{DeliverError, Delivered, PartitionLog};
 use refusing_alloc::Refusing;
 use segment::VecStore;
-use std::alloc::{AllocError, Allocator};
+use std::alloc::Allocator;
 use std::test::Fail;
 
 /// More allocations than any run below asks for.
 const MOST: u64 = 100;
 
-/// Whether the copy shows these rows.
-fn shows<A: Allocator + Copy>(
-    log: &PartitionLog<VecStore<A>>,
-    rows: &[(&[u8], &[u8])],
-) -> Result<bool, AllocError> {
-    Ok(log.table()?.as_slice() == rows)
+/// The rows of a table.
+type Rows<'a> = &'a [(&'a [u8], &'a [u8])];
+
+/// Whether the copy has memory for its table, and shows these rows.
+fn shows<A: Allocator + Copy>(log: &PartitionLog<VecStore<A>>, rows: Rows<'_>) -> bool {
+    match log.table() {
+        Ok(table) => table.as_slice() == rows,
+        Err(_) => false,
+    }
+}
+
+/// What a copy answers to a batch.
+type Answer = Result<Delivered, DeliverError>;
+
+/// Delivers a batch.
+fn deliver<A: Allocator + Copy>(
+    log: &mut PartitionLog<VecStore<A>>,
+    batch: &BatchView<'_>,
+) -> Answer {
+    log.deliver(batch)
+}
+
+/// Delivers a batch that is new, again where memory lacked, and tells whether the copy was as it had been
+/// then, and took it.
+fn is_added<A: Allocator + Copy>(
+    log: &mut PartitionLog<VecStore<A>>,
+    bytes: &[u8],
+) -> Result<bool, Fail> {
+    let batch = view(bytes)?;
+    let before = log.len();
+    let mut answer = deliver(log, &batch);
+    let mut is_same = true;
+    if answer == Err(DeliverError::OutOfMemory) {
+        is_same = log.len() == before;
+        answer = deliver(log, &batch);
+    }
+    Ok(is_same && answer == Ok(Delivered::Added))
+}
+
+/// Delivers two batches to a new copy, and tells whether it took each, and showed it at the first or the
+/// second time of asking.
+fn takes_both<A: Allocator + Copy>(heap: A, rows: &[(&[u8], Rows<'_>)]) -> Result<bool, Fail> {
+    let mut log = PartitionLog::new(heap);
+    let mut is_right = true;
+    for (bytes, wanted) in rows {
+        is_right = is_right
+            && is_added(&mut log, bytes)?
+            && (shows(&log, wanted) || shows(&log, wanted));
+    }
+    Ok(is_right)
 }
 
 #[test]
 fn a_copy_is_as_before_an_allocation_that_fails(rt: HostRuntime) -> Result<(), Fail> {
-    let two: &[(&[u8], &[u8])] = &[(b"b", b"2")];
-    let nine: &[(&[u8], &[u8])] = &[(b"a", b"9"), (b"b", b"2")];
-    let rows = [
-        ("the first batch", THREE.as_slice(), two),
-        ("the second batch", &NINE, nine),
+    let rows: [(&[u8], Rows<'_>); 2] = [
+        (&THREE, &[(b"b", b"2")]),
+        (&NINE, &[(b"a", b"9"), (b"b", b"2")]),
     ];
     let mut passed = false;
     for refused in 1..MOST {
         let heap = Refusing::new(rt.alloc(), refused);
-        let mut log = PartitionLog::<VecStore<_>>::new(&heap);
-        for (name, bytes, wanted) in rows {
-            let batch = view(bytes)?;
-            let before = log.len();
-            if let Err(why) = log.deliver(&batch) {
-                assert_eq!(rt; why, DeliverError::OutOfMemory, "{name}");
-                assert_eq!(rt; log.len(), before, "{name}");
-                assert_eq!(rt; log.deliver(&batch), Ok(Delivered::Added), "{name}");
-            }
-            let is_shown = match shows(&log, wanted) {
-                Ok(is_shown) => is_shown,
-                Err(_) => shows(&log, wanted)?,
-            };
-            assert!(rt; is_shown, "{name}");
-        }
+        assert!(rt; takes_both(&heap, &rows)?, "allocation {refused} fails");
         passed = heap.calls() < refused;
         if passed {
             break;

@@ -1,7 +1,7 @@
 //! Batches that are sent to a leader: the answer of each, and what its log then holds.
 use batch_codec::view;
 use outside_batches::{EMPTIED, NINE, NO_KEY, THREE, nine_at, one, sent};
-use partition_log::{AppendError, LeaderLog, PartitionLog};
+use partition_log::{AppendError, Delivered, LeaderLog, PartitionLog};
 use segment::VecStore;
 use std::alloc::{AllocError, Allocator};
 use std::test::Fail;
@@ -54,63 +54,137 @@ fn has_nine<A: Allocator + Copy>(log: &PartitionLog<VecStore<A>>) -> bool {
     log.len() > 5 && log.at(5).head().base == 5 && log.bytes_of(5) == nine_at(5).as_slice()
 }
 
+/// What a batch is, the batch, and the answer to it.
+type Row = (&'static str, Sent, Answer);
+
+/// Batches that are sent to an empty log, five of them of a producer.
+const OF_SEVEN: [Row; 11] = [
+    (
+        "records missing",
+        Sent::Other(&EMPTIED),
+        Err(AppendError::NotWhole),
+    ),
+    ("a null key", Sent::Other(&NO_KEY), Err(AppendError::NoKey)),
+    (
+        "an id of -2",
+        Sent::Of(-2, 0, 0),
+        Err(AppendError::BadProducer),
+    ),
+    (
+        "no epoch",
+        Sent::Of(7, -1, 0),
+        Err(AppendError::BadProducer),
+    ),
+    (
+        "no sequence number",
+        Sent::Of(7, 0, -1),
+        Err(AppendError::BadProducer),
+    ),
+    ("the first of 7", Sent::Of(7, 0, 0), Ok((0, false))),
+    ("the second", Sent::Of(7, 0, 1), Ok((1, false))),
+    ("the third", Sent::Of(7, 0, 2), Ok((2, false))),
+    ("the fourth", Sent::Of(7, 0, 3), Ok((3, false))),
+    ("the fifth", Sent::Of(7, 0, 4), Ok((4, false))),
+    ("of no producer", Sent::Other(&NINE), Ok((5, false))),
+];
+
+/// What comes next, some of it again.
+const AGAIN: [Row; 7] = [
+    ("the first again", Sent::Of(7, 0, 0), Ok((0, true))),
+    ("the fifth again", Sent::Of(7, 0, 4), Ok((4, true))),
+    ("the sixth", Sent::Of(7, 0, 5), Ok((6, false))),
+    (
+        "the first once more",
+        Sent::Of(7, 0, 0),
+        Err(AppendError::OutOfOrder),
+    ),
+    ("the second again", Sent::Of(7, 0, 1), Ok((1, true))),
+    (
+        "one left out",
+        Sent::Of(7, 0, 7),
+        Err(AppendError::OutOfOrder),
+    ),
+    ("three records", Sent::Other(&THREE), Ok((7, false))),
+];
+
+/// What comes last: of another producer and of other epochs.
+const OF_EIGHT: [Row; 8] = [
+    ("the last of 8", Sent::Of(8, 0, i32::MAX), Ok((10, false))),
+    ("from 0 again", Sent::Of(8, 0, 0), Ok((11, false))),
+    (
+        "an epoch, not from 0",
+        Sent::Of(8, 1, 3),
+        Err(AppendError::OutOfOrder),
+    ),
+    ("a later epoch", Sent::Of(8, 1, 0), Ok((12, false))),
+    (
+        "the epoch before it",
+        Sent::Of(8, 0, 1),
+        Err(AppendError::OldEpoch),
+    ),
+    ("that epoch again", Sent::Of(8, 1, 0), Ok((12, true))),
+    ("7 goes on", Sent::Of(7, 0, 6), Ok((13, false))),
+    ("of producer 0", Sent::Of(0, 0, 3), Ok((14, false))),
+];
+
+/// Sends batches, each of which must get its answer.
+fn send_all<A: Allocator + Copy>(
+    log: &mut LeaderLog<VecStore<A>>,
+    rows: &[Row],
+) -> Result<(), Fail> {
+    for (name, batch, wanted) in rows {
+        if !is_right(log, *batch, *wanted)? {
+            return Err(Fail::new(*name));
+        }
+    }
+    Ok(())
+}
+
 #[test]
 fn appends(rt: HostRuntime) -> Result<(), Fail> {
-    let not_whole = Err(AppendError::NotWhole);
-    let no_key = Err(AppendError::NoKey);
-    let bad_producer = Err(AppendError::BadProducer);
-    let out_of_order = Err(AppendError::OutOfOrder);
-    let old_epoch = Err(AppendError::OldEpoch);
-    let rows: [(&str, Sent, Answer); 26] = [
-        ("records missing", Sent::Other(&EMPTIED), not_whole),
-        ("a null key", Sent::Other(&NO_KEY), no_key),
-        ("an id of -2", Sent::Of(-2, 0, 0), bad_producer),
-        ("no epoch", Sent::Of(7, -1, 0), bad_producer),
-        ("no sequence number", Sent::Of(7, 0, -1), bad_producer),
-        ("the first of 7", Sent::Of(7, 0, 0), Ok((0, false))),
-        ("the second", Sent::Of(7, 0, 1), Ok((1, false))),
-        ("the third", Sent::Of(7, 0, 2), Ok((2, false))),
-        ("the fourth", Sent::Of(7, 0, 3), Ok((3, false))),
-        ("the fifth", Sent::Of(7, 0, 4), Ok((4, false))),
-        ("of no producer", Sent::Other(&NINE), Ok((5, false))),
-        ("the first again", Sent::Of(7, 0, 0), Ok((0, true))),
-        ("the fifth again", Sent::Of(7, 0, 4), Ok((4, true))),
-        ("the sixth", Sent::Of(7, 0, 5), Ok((6, false))),
-        ("the first once more", Sent::Of(7, 0, 0), out_of_order),
-        ("the second again", Sent::Of(7, 0, 1), Ok((1, true))),
-        ("one left out", Sent::Of(7, 0, 7), out_of_order),
-        ("three records", Sent::Other(&THREE), Ok((7, false))),
-        ("the last of 8", Sent::Of(8, 0, i32::MAX), Ok((10, false))),
-        ("from 0 again", Sent::Of(8, 0, 0), Ok((11, false))),
-        ("an epoch, not from 0", Sent::Of(8, 1, 3), out_of_order),
-        ("a later epoch", Sent::Of(8, 1, 0), Ok((12, false))),
-        ("the epoch before it", Sent::Of(8, 0, 1), old_epoch),
-        ("that epoch again", Sent::Of(8, 1, 0), Ok((12, true))),
-        ("7 goes on", Sent::Of(7, 0, 6), Ok((13, false))),
-        ("of producer 0", Sent::Of(0, 0, 3), Ok((14, false))),
-    ];
     let mut log = empty_log(rt.alloc())?;
-    for (name, batch, wanted) in rows {
-        assert!(rt; is_right(&mut log, batch, wanted)?, "{name}");
+    for rows in [OF_SEVEN.as_slice(), &AGAIN, &OF_EIGHT] {
+        send_all(&mut log, rows)?;
     }
     assert!(rt; log.copy().end() == 15 && log.copy().len() == 13 && has_nine(log.copy()));
     assert_eq!(rt; log.copy().cover().ranges(), [(0, 14)].as_slice());
     Ok(())
 }
 
+/// Delivers a batch that is new.
+fn deliver<A: Allocator + Copy>(
+    copy: &mut PartitionLog<VecStore<A>>,
+    bytes: &[u8],
+) -> Result<(), Fail> {
+    if copy.deliver(&view(bytes)?)? == Delivered::Added {
+        return Ok(());
+    }
+    Err(Fail::new("it was there"))
+}
+
+/// The copy with a gap that a leader's log can't be made of, handed back.
+fn handed_back<A: Allocator + Copy>(alloc: A) -> Result<PartitionLog<VecStore<A>>, Fail> {
+    let mut copy = PartitionLog::new(alloc);
+    deliver(&mut copy, &one(1, 0, b'b', b'2'))?;
+    match LeaderLog::from_copy(copy) {
+        Ok(_) => Err(Fail::new("it has a gap")),
+        Err(gapped) => Ok(gapped.copy),
+    }
+}
+
+/// The end of the log of a copy, where that has no gap.
+fn end_of<A: Allocator + Copy>(copy: PartitionLog<VecStore<A>>) -> Option<i64> {
+    match LeaderLog::from_copy(copy) {
+        Ok(log) => Some(log.copy().end()),
+        Err(_) => None,
+    }
+}
+
 #[test]
 fn a_copy_with_a_gap_is_handed_back(rt: HostRuntime) -> Result<(), Fail> {
-    let mut copy = PartitionLog::<VecStore<_>>::new(rt.alloc());
-    assert!(rt; copy.deliver(&view(&one(1, 0, b'b', b'2'))?).is_ok());
-    let Err(gapped) = LeaderLog::from_copy(copy) else {
-        return Err(Fail::new("it has a gap"));
-    };
-    let mut copy = gapped.copy;
+    let mut copy = handed_back(rt.alloc())?;
     assert_eq!(rt; copy.get(b"b"), Some(b"2".as_slice()));
-    assert!(rt; copy.deliver(&view(&one(0, 0, b'a', b'1'))?).is_ok());
-    let Ok(log) = LeaderLog::from_copy(copy) else {
-        return Err(Fail::new("it has no gap"));
-    };
-    assert!(rt; log.copy().end() == 2);
+    deliver(&mut copy, &one(0, 0, b'a', b'1'))?;
+    assert_eq!(rt; end_of(copy), Some(2));
     Ok(())
 }

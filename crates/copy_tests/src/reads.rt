@@ -44,14 +44,19 @@ fn has_both<A: Allocator + Copy>(log: &PartitionLog<VecStore<A>>) -> bool {
         && log.bytes_of(1) == one(3, 3000, b'b', b'3').as_slice()
 }
 
+/// Whether a copy with gaps answers from where to where it goes, what it has seen, and the later value.
+fn knows_both<A: Allocator + Copy>(log: &PartitionLog<VecStore<A>>) -> bool {
+    (log.start(), log.end(), log.cover().first_gap(0)) == (0, 4, 0)
+        && log.cover().ranges() == [(1, 1), (3, 3)].as_slice()
+        && log.get(b"b") == Some(b"3".as_slice())
+}
+
 #[test]
 fn a_copy_with_gaps(rt: HostRuntime) -> Result<(), Fail> {
     assert!(rt; is_empty(&PartitionLog::new(rt.alloc())));
     let log = with_gaps(rt.alloc())?;
-    assert!(rt; has_both(&log) && (log.start(), log.end()) == (0, 4));
-    assert_eq!(rt; log.cover().ranges(), [(1, 1), (3, 3)].as_slice());
-    assert_eq!(rt; log.cover().first_gap(0), 0);
-    assert_eq!(rt; log.get(b"b"), Some(b"3".as_slice()));
+    assert!(rt; has_both(&log));
+    assert!(rt; knows_both(&log));
     Ok(())
 }
 
@@ -94,16 +99,31 @@ fn times(rt: HostRuntime) -> Result<(), Fail> {
     Ok(())
 }
 
+/// A copy of which a tombstone came first, and then its record and another.
+fn without_a<A: Allocator + Copy>(alloc: A) -> Result<PartitionLog<VecStore<A>>, Fail> {
+    let batches: [&[u8]; 3] = [&null_at(2), &one(0, 0, b'a', b'1'), &one(1, 0, b'b', b'2')];
+    copy_of(alloc, &batches)
+}
+
+/// Whether that copy shows the other record alone, and has seen all.
+fn has_no_a<A: Allocator + Copy>(copy: &PartitionLog<VecStore<A>>) -> bool {
+    copy.get(b"a").is_none()
+        && copy.get(b"b") == Some(b"2".as_slice())
+        && (copy.start(), copy.end(), copy.len()) == (0, 3, 3)
+        && copy.cover().ranges() == [(0, 2)].as_slice()
+}
+
+/// Delivers a later record of the key, and tells whether it is shown.
+fn gets_a<A: Allocator + Copy>(log: &mut PartitionLog<VecStore<A>>) -> Result<bool, Fail> {
+    log.deliver(&view(&one(3, 0, b'a', b'4'))?)?;
+    Ok(log.get(b"a") == Some(b"4".as_slice()))
+}
+
 #[test]
 fn a_deleted_key_stays_deleted(rt: HostRuntime) -> Result<(), Fail> {
-    let batches: [&[u8]; 3] = [&null_at(2), &one(0, 0, b'a', b'1'), &one(1, 0, b'b', b'2')];
-    let mut log = copy_of(rt.alloc(), &batches)?;
+    let mut log = without_a(rt.alloc())?;
     let copy = log.try_clone()?;
-    log.deliver(&view(&one(3, 0, b'a', b'4'))?)?;
-    assert_eq!(rt; log.get(b"a"), Some(b"4".as_slice()));
-    assert_eq!(rt; copy.get(b"a"), None);
-    assert_eq!(rt; copy.get(b"b"), Some(b"2".as_slice()));
-    assert_eq!(rt; (copy.start(), copy.end(), copy.len()), (0, 3, 3));
-    assert_eq!(rt; copy.cover().ranges(), [(0, 2)].as_slice());
+    assert!(rt; gets_a(&mut log)?);
+    assert!(rt; has_no_a(&copy));
     Ok(())
 }

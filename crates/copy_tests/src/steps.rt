@@ -90,10 +90,12 @@ struct World<A: Allocator + Copy> {
     log: Vec<(u8, u8), A>,
 }
 
-/// The bytes of a batch that the next numbers choose, and its records.
+/// The bytes of a batch of this producer, epoch and sequence number that the next numbers choose, and its
+/// records.
 fn chosen<A: Allocator>(
     alloc: A,
     numbers: &mut Numbers,
+    (id, epoch, sequence): (i64, i16, i32),
 ) -> Result<(Vec<u8, A>, [(u8, u8); 3]), AllocError> {
     let key = if numbers.below(3) == 0 { b'b' } else { b'a' };
     let (batch, pairs): (&[u8], [(u8, u8); 3]) = match numbers.below(5) {
@@ -105,6 +107,9 @@ fn chosen<A: Allocator>(
     let mut bytes = Vec::from_slice(alloc, batch)?;
     if let Some(byte) = bytes.get_mut(66) {
         *byte = key;
+    }
+    if bytes.len() >= 61 {
+        set_producer(&mut bytes, id, epoch, sequence);
     }
     Ok((bytes, pairs))
 }
@@ -160,6 +165,34 @@ impl<A: Allocator + Copy> World<A> {
         Ok(())
     }
 
+    /// Sends the leader a batch, and tells whether it answers so.
+    fn is_answered(
+        &mut self,
+        bytes: &[u8],
+        wanted: Result<Appended, AppendError>,
+    ) -> Result<bool, Fail> {
+        Ok(self.leader.append(&view(bytes)?) == wanted)
+    }
+
+    /// Notes that a producer's batch was appended, with this epoch and sequence number.
+    fn note(
+        &mut self,
+        producer: &mut Producer<A>,
+        (epoch, sequence): (i16, i32),
+        bytes: Vec<u8, A>,
+        pairs: [(u8, u8); 3],
+    ) -> Result<(), AllocError> {
+        producer.base = self.end();
+        producer.last = Vec::from_slice(self.alloc, &bytes)?;
+        self.keep(bytes, pairs)?;
+        if producer.id >= 0 {
+            let count = self.end().saturating_sub(producer.base);
+            producer.epoch = epoch;
+            producer.next = sequence.wrapping_add(i32::try_from(count).unwrap_or(0)) & i32::MAX;
+        }
+        Ok(())
+    }
+
     /// Sends the leader one batch, and tells whether the answer was right.
     fn append(&mut self, numbers: &mut Numbers, producer: &mut Producer<A>) -> Result<bool, Fail> {
         let act = numbers.below(8);
@@ -168,26 +201,15 @@ impl<A: Allocator + Copy> World<A> {
                 base: producer.base,
                 repeat: true,
             };
-            return Ok(self.leader.append(&view(&producer.last)?) == Ok(again));
+            return self.is_answered(&producer.last, Ok(again));
         }
-        let base = self.end();
-        let (epoch, sequence, wanted) = producer.next(act, base);
-        let (mut bytes, pairs) = chosen(self.alloc, numbers)?;
-        if bytes.len() >= 61 {
-            set_producer(&mut bytes, producer.id, epoch, sequence);
-        }
-        if self.leader.append(&view(&bytes)?) != wanted {
+        let (epoch, sequence, wanted) = producer.next(act, self.end());
+        let (bytes, pairs) = chosen(self.alloc, numbers, (producer.id, epoch, sequence))?;
+        if !self.is_answered(&bytes, wanted)? {
             return Ok(false);
         }
         if wanted.is_ok() {
-            producer.last = Vec::from_slice(self.alloc, &bytes)?;
-            self.keep(bytes, pairs)?;
-            producer.base = base;
-            if producer.id >= 0 {
-                producer.epoch = epoch;
-                let count = i32::try_from(self.end().saturating_sub(base)).unwrap_or(0);
-                producer.next = sequence.wrapping_add(count) & i32::MAX;
-            }
+            self.note(producer, (epoch, sequence), bytes, pairs)?;
         }
         Ok(true)
     }
@@ -217,6 +239,19 @@ impl<A: Allocator + Copy> World<A> {
             None => self.leader.clean(upto, tomb_before)?,
         };
         Ok(())
+    }
+
+    /// Makes the step that the next number chooses, and tells whether the answer was right.
+    fn step(&mut self, numbers: &mut Numbers, producers: &mut [Producer<A>]) -> Result<bool, Fail> {
+        let act = numbers.below(8) as usize;
+        if act == 3 {
+            self.clean(numbers)?;
+            return Ok(true);
+        }
+        match producers.get_mut(act) {
+            Some(producer) => self.append(numbers, producer),
+            None => self.deliver(numbers),
+        }
     }
 
     /// Whether the leader and each copy show what the log has within what they have seen.
@@ -262,21 +297,13 @@ fn empty_world<A: Allocator + Copy>(alloc: A) -> Result<World<A>, AllocError> {
 fn generated_steps(rt: HostRuntime) -> Result<(), Fail> {
     let mut world = empty_world(rt.alloc())?;
     let mut numbers = Numbers { x: 1 };
-    let mut seven = silent(rt.alloc(), 7, 1, 0);
-    let mut eight = silent(rt.alloc(), 8, 1, i32::MAX);
-    let mut nobody = silent(rt.alloc(), -1, -1, -1);
+    let mut producers = [
+        silent(rt.alloc(), 7, 1, 0),
+        silent(rt.alloc(), 8, 1, i32::MAX),
+        silent(rt.alloc(), -1, -1, -1),
+    ];
     for step in 0..STEPS {
-        let is_right = match numbers.below(8) {
-            0 => world.append(&mut numbers, &mut seven)?,
-            1 => world.append(&mut numbers, &mut eight)?,
-            2 => world.append(&mut numbers, &mut nobody)?,
-            3 => {
-                world.clean(&mut numbers)?;
-                true
-            }
-            _ => world.deliver(&mut numbers)?,
-        };
-        assert!(rt; is_right, "step {step}");
+        assert!(rt; world.step(&mut numbers, &mut producers)?, "step {step}");
         assert!(rt; world.is_right()?, "after step {step}");
     }
     assert!(rt; world.sent.len() > 60 && world.leader.copy().len() < world.sent.len());

@@ -4,7 +4,7 @@ ghost use Rattle.std.specs.Prelude.{◌<◌, pos, ◌≤ℤ◌};
 
 use cover_ranges::{Cover, CoverError, OFFSETS_END};
 use refusing_alloc::Refusing;
-use std::alloc::Allocator;
+use std::alloc::{AllocError, Allocator};
 use std::test::Fail;
 
 const GREATEST: i64 = OFFSETS_END - 1;
@@ -82,45 +82,75 @@ fn the_first_range_at_fault_decides(rt: HostRuntime) -> Result<(), Fail> {
     Ok(())
 }
 
+/// Whether all and whether some offsets from the first to the last are in the set, and its first gap.
+type Answers = (bool, bool, i64);
+
+/// What a set answers of these offsets.
+fn answers_of<A: Allocator + Copy>(cover: &Cover<A>, first: i64, last: i64) -> Answers {
+    let all = cover.has_all(first, last);
+    let any = cover.has_any(first, last);
+    (all, any, cover.first_gap(first))
+}
+
+/// The first and the last offset that are asked for, and the answers.
+const QUESTIONS: [(i64, i64, Answers); 11] = [
+    (0, 0, (true, true, 5)),
+    (1, 4, (true, true, 5)),
+    (1, 5, (false, true, 5)),
+    (4, 10, (false, true, 5)),
+    (5, 9, (false, false, 5)),
+    (7, 6, (true, false, 7)),
+    (8, 15, (false, true, 8)),
+    (10, 12, (true, true, 13)),
+    (25, GREATEST, (true, true, OFFSETS_END)),
+    (i64::MIN, i64::MAX, (false, true, i64::MIN)),
+    (i64::MAX, i64::MAX, (false, false, i64::MAX)),
+];
+
 #[test]
 fn questions_take_any_numbers(rt: HostRuntime) -> Result<(), Fail> {
     let cover = Cover::from_ranges(rt.alloc(), &[(0, 4), (10, 12), (20, GREATEST)])?;
-    // whether all and whether some offsets from first to last are in the set, and its first gap
-    let rows: [(i64, i64, bool, bool, i64); 11] = [
-        (0, 0, true, true, 5),
-        (1, 4, true, true, 5),
-        (1, 5, false, true, 5),
-        (4, 10, false, true, 5),
-        (5, 9, false, false, 5),
-        (7, 6, true, false, 7),
-        (8, 15, false, true, 8),
-        (10, 12, true, true, 13),
-        (25, GREATEST, true, true, OFFSETS_END),
-        (i64::MIN, i64::MAX, false, true, i64::MIN),
-        (i64::MAX, i64::MAX, false, false, i64::MAX),
-    ];
-    for (first, last, all, any, gap) in rows {
-        let name = format!(in rt.alloc(); "{first} to {last}")?;
-        let answers = (cover.has_all(first, last), cover.has_any(first, last));
-        assert_eq!(rt; answers, (all, any), "{name}");
-        assert_eq!(rt; cover.first_gap(first), gap, "{name}");
-        assert_eq!(rt; cover.contains(first), gap != first, "{name}");
+    for (first, last, wanted) in QUESTIONS {
+        assert_eq!(rt;
+            answers_of(&cover, first, last),
+            wanted,
+            "{first} to {last}"
+        );
+        assert_eq!(rt; cover.contains(first), wanted.2 != first, "{first}");
     }
     Ok(())
+}
+
+/// Whether the second set is the first with an offset more.
+fn is_more<A: Allocator + Copy>(left: &Cover<A>, more: &Cover<A>) -> bool {
+    left.is_subset(more) && !more.is_subset(left)
+}
+
+/// The set with the offset 100, which it has not.
+fn with_hundred<A: Allocator + Copy>(cover: &Cover<A>) -> Result<Cover<A>, AllocError> {
+    let mut copy = cover.try_clone()?;
+    copy.insert(100, 100)?;
+    Ok(copy)
+}
+
+/// Whether the union of two sets has these ranges, and each of them within it.
+fn unites_to<A: Allocator + Copy>(
+    left: &Cover<A>,
+    right: &Cover<A>,
+    wanted: &[(i64, i64)],
+) -> Result<bool, AllocError> {
+    let both = left.union(right)?;
+    Ok(both.ranges() == wanted && is_more(left, &both) && is_more(right, &both))
 }
 
 #[test]
 fn two_sets(rt: HostRuntime) -> Result<(), Fail> {
     let left = Cover::from_ranges(rt.alloc(), &[(0, 4), (10, 12), (30, 31)])?;
     let right = Cover::from_ranges(rt.alloc(), &[(3, 6), (13, 15), (40, 40)])?;
-    let both = left.union(&right)?;
     let wanted = [(0, 6), (10, 15), (30, 31), (40, 40)];
-    assert_eq!(rt; both.ranges(), wanted.as_slice());
-    assert!(rt; left.is_subset(&both) && right.is_subset(&both) && left.is_subset(&left));
-    assert!(rt; !both.is_subset(&left) && !right.is_subset(&left));
-    let mut copy = left.try_clone()?;
-    copy.insert(100, 100)?;
-    assert!(rt; left.is_subset(&copy) && !copy.is_subset(&left));
+    assert!(rt; unites_to(&left, &right, &wanted)?);
+    assert!(rt; left.is_subset(&left) && !right.is_subset(&left));
+    assert!(rt; is_more(&left, &with_hundred(&left)?));
     Ok(())
 }
 
@@ -134,37 +164,71 @@ fn start_of(n: u8) -> i64
     if n % 2 == 0 { 1000 + step } else { 1000 - step }
 }
 
+/// Reserves room, again where memory lacked at the first time, and tells how often it lacked.
+fn reserve<A: Allocator + Copy>(cover: &mut Cover<A>) -> Result<u8, AllocError> {
+    if cover.reserve_one().is_ok() {
+        return Ok(0);
+    }
+    cover.reserve_one()?;
+    Ok(1)
+}
+
+/// Inserts the five offsets from this one on, which touch no range, again where memory lacked; tells how
+/// often it lacked, or `None` where the set wasn't as it had been then, or hasn't one range more now.
+fn inserts<A: Allocator + Copy, B: Allocator + Copy>(
+    inner: B,
+    cover: &mut Cover<A>,
+    first: i64,
+) -> Result<Option<u8>, AllocError>
+    requires at_least { pos 0 ≤ℤ first }
+    requires at_most { first ≤ℤ pos 1400 }
+{
+    let before = cover.ranges().to_vec(inner)?;
+    let failures = u8::from(cover.insert(first, first + 4).is_err());
+    let mut is_right = true;
+    if failures > 0 {
+        is_right = cover.ranges() == before.as_slice();
+        cover.insert(first, first + 4)?;
+    }
+    is_right = is_right
+        && cover.has_all(first, first + 4)
+        && cover.ranges().len() == before.len().saturating_add(1);
+    Ok(if is_right { Some(failures) } else { None })
+}
+
+/// Inserts 40 ranges, and tells how often memory lacked; `None` where something was wrong.
+fn inserts_forty<B: Allocator + Copy>(
+    inner: B,
+    heap: &Refusing<B>,
+    reserving: bool,
+) -> Result<Option<u8>, AllocError> {
+    let mut cover = Cover::new(heap);
+    let mut failures = 0u8;
+    for n in 0..40u8 {
+        if reserving {
+            failures = failures.saturating_add(reserve(&mut cover)?);
+        }
+        let calls = heap.calls();
+        let Some(more) = inserts(inner, &mut cover, start_of(n))? else {
+            return Ok(None);
+        };
+        if reserving && heap.calls() != calls {
+            return Ok(None);
+        }
+        failures = failures.saturating_add(more);
+    }
+    Ok(Some(failures))
+}
+
 #[test]
 fn each_allocation_of_insertions_fails(rt: HostRuntime) -> Result<(), Fail> {
     for reserving in [false, true] {
         let mut passed = false;
         for failing in 1..MANY_ALLOCATIONS {
             let heap = Refusing::new(rt.alloc(), failing);
-            let mut cover = Cover::new(&heap);
-            let mut failures = 0u8;
-            for n in 0..40u8 {
-                let first = start_of(n);
-                let before = cover.ranges().to_vec(rt.alloc())?;
-                if reserving && cover.reserve_one().is_err() {
-                    failures = failures.saturating_add(1);
-                    cover.reserve_one()?;
-                }
-                let calls = heap.calls();
-                if cover.insert(first, first + 4).is_err() {
-                    failures = failures.saturating_add(1);
-                    assert_eq!(rt; cover.ranges(), before.as_slice(), "{failing}");
-                    cover.insert(first, first + 4)?;
-                }
-                assert!(rt; !reserving || heap.calls() == calls, "{failing}");
-                assert!(rt; cover.has_all(first, first + 4), "{failing}");
-                assert_eq!(rt;
-                    cover.ranges().len(),
-                    before.len().saturating_add(1),
-                    "{failing}"
-                );
-            }
+            let failures = inserts_forty(rt.alloc(), &heap, reserving)?;
             passed = heap.calls() < failing;
-            assert_eq!(rt; failures, u8::from(!passed), "{failing}");
+            assert_eq!(rt; failures, Some(u8::from(!passed)), "{failing}");
             if passed {
                 break;
             }
@@ -174,33 +238,54 @@ fn each_allocation_of_insertions_fails(rt: HostRuntime) -> Result<(), Fail> {
     Ok(())
 }
 
+/// Two sets, and their union.
+const MINE: [(i64, i64); 6] = [(0, 4), (20, 24), (40, 44), (60, 64), (80, 84), (100, 104)];
+
+const THEIRS: [(i64, i64); 6] = [(3, 9), (30, 34), (45, 59), (70, 74), (90, 94), (105, 109)];
+
+const BOTH: [(i64, i64); 8] = [
+    (0, 9),
+    (20, 24),
+    (30, 34),
+    (40, 64),
+    (70, 74),
+    (80, 84),
+    (90, 94),
+    (100, 109),
+];
+
+/// Whether the union of these two sets is theirs; `None` where memory lacks.
+fn united<A: Allocator + Copy>(mine: &Cover<A>, theirs: &Cover<A>) -> Option<bool> {
+    match mine.union(theirs) {
+        Ok(union) => Some(union.ranges() == BOTH.as_slice()),
+        Err(_) => None,
+    }
+}
+
+/// Unites two sets, again where memory lacked, and tells whether it lacked; `None` where the union is wrong,
+/// or a set is not as it was.
+fn unites<A: Allocator + Copy>(heap: A) -> Result<Option<bool>, CoverError> {
+    let mine = Cover::from_ranges(heap, &MINE)?;
+    let theirs = Cover::from_ranges(heap, &THEIRS)?;
+    let first = united(&mine, &theirs);
+    let is_right = first.or_else(|| united(&mine, &theirs)) == Some(true);
+    let is_same = mine.ranges() == MINE.as_slice() && theirs.ranges() == THEIRS.as_slice();
+    Ok(if is_right && is_same {
+        Some(first.is_none())
+    } else {
+        None
+    })
+}
+
 #[test]
 fn each_allocation_of_a_union_fails(rt: HostRuntime) -> Result<(), Fail> {
-    let left = [(0, 4), (20, 24), (40, 44), (60, 64), (80, 84), (100, 104)];
-    let right = [(3, 9), (30, 34), (45, 59), (70, 74), (90, 94), (105, 109)];
-    let both = [
-        (0, 9),
-        (20, 24),
-        (30, 34),
-        (40, 64),
-        (70, 74),
-        (80, 84),
-        (90, 94),
-        (100, 109),
-    ];
     let mut passed = false;
     // The first two allocations are for the two sets.
     for failing in 3..MANY_ALLOCATIONS {
         let heap = Refusing::new(rt.alloc(), failing);
-        let mine = Cover::from_ranges(&heap, &left)?;
-        let theirs = Cover::from_ranges(&heap, &right)?;
-        let first = mine.union(&theirs);
+        let lacked = unites(&heap)?;
         passed = heap.calls() < failing;
-        assert!(rt; first.is_ok() == passed, "{failing}");
-        let union = if passed { first? } else { mine.union(&theirs)? };
-        assert_eq!(rt; union.ranges(), both.as_slice(), "{failing}");
-        assert_eq!(rt; mine.ranges(), left.as_slice(), "{failing}");
-        assert_eq!(rt; theirs.ranges(), right.as_slice(), "{failing}");
+        assert_eq!(rt; lacked, Some(!passed), "{failing}");
         if passed {
             break;
         }
@@ -209,18 +294,36 @@ fn each_allocation_of_a_union_fails(rt: HostRuntime) -> Result<(), Fail> {
     Ok(())
 }
 
+/// What comes of making a set of these ranges: the refusal, or whether it has them.
+fn made<A: Allocator + Copy>(heap: A, ranges: &[(i64, i64)]) -> Result<bool, CoverError> {
+    Ok(Cover::from_ranges(heap, ranges)?.ranges() == ranges)
+}
+
+/// Whether a copy of the set has its ranges; `None` where memory lacks.
+fn copied<A: Allocator + Copy>(cover: &Cover<A>) -> Option<bool> {
+    match cover.try_clone() {
+        Ok(copy) => Some(copy.ranges() == cover.ranges()),
+        Err(_) => None,
+    }
+}
+
 #[test]
 fn out_of_memory_comes_after_every_fault(rt: HostRuntime) -> Result<(), Fail> {
     let heap = Refusing::new(rt.alloc(), 1);
-    let faulty = Cover::from_ranges(&heap, &[(0, 4), (5, 9)]);
+    let ranges = [(0, 4), (6, 9)];
+    let faulty = made(&heap, &[(0, 4), (5, 9)]);
     assert!(rt; matches!(faulty, Err(CoverError::NotRising)) && heap.calls() == 0);
-    let failed = Cover::from_ranges(&heap, &[(0, 4), (6, 9)]);
+    let failed = made(&heap, &ranges);
     assert!(rt; matches!(failed, Err(CoverError::OutOfMemory)) && heap.calls() == 1);
-    let cover = Cover::from_ranges(&heap, &[(0, 4), (6, 9)])?;
-    assert_eq!(rt; cover.ranges(), [(0, 4), (6, 9)].as_slice());
+    assert!(rt; made(&heap, &ranges)?);
+    Ok(())
+}
+
+#[test]
+fn a_copy_of_a_set_comes_later(rt: HostRuntime) -> Result<(), Fail> {
     let heap = Refusing::new(rt.alloc(), 2);
     let cover = Cover::from_ranges(&heap, &[(0, 4), (6, 9)])?;
-    assert!(rt; cover.try_clone().is_err() && heap.calls() == 2);
-    assert_eq!(rt; cover.try_clone()?.ranges(), cover.ranges());
+    assert!(rt; copied(&cover).is_none() && heap.calls() == 2);
+    assert_eq!(rt; copied(&cover), Some(true));
     Ok(())
 }

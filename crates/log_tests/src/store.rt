@@ -19,6 +19,12 @@ const MOST: u64 = 100;
 /// The greatest offset.
 const GREATEST: i64 = 0x3fff_ffff_ffff_ffff;
 
+/// The base offsets of five batches.
+const FIVE_BASES: [i64; 5] = [0, 3, 5, 9, GREATEST];
+
+/// The base offsets of four batches.
+const FOUR_BASES: [i64; 4] = [0, 3, 5, 6];
+
 /// Inserts a batch where it may be inserted.
 fn insert<S: BatchStore>(
     store: &mut S,
@@ -121,6 +127,17 @@ fn read_all<S: BatchStore, A: Allocator + Copy>(
     Ok(list)
 }
 
+/// Inserts a batch, and tells whether it went there, and the batches then have these base offsets.
+fn goes<S: BatchStore>(
+    store: &mut S,
+    bytes: &[u8],
+    wanted: Option<usize>,
+    bases: &[i64],
+) -> Result<bool, Fail> {
+    let found = insert(store, &view(bytes)?)?;
+    Ok(found == wanted && has_bases(store, bases))
+}
+
 #[test]
 fn batches_go_in_order(rt: HostRuntime) -> Result<(), Fail> {
     let mut store = VecStore::new(rt.alloc());
@@ -134,119 +151,177 @@ fn batches_go_in_order(rt: HostRuntime) -> Result<(), Fail> {
         ("inside a span", &nine_at(2), None, &[0, 3, 5, 9]),
         ("a span over two", &EMPTIED, None, &[0, 3, 5, 9]),
         ("below 0", &nine_at(-1), None, &[0, 3, 5, 9]),
-        (
-            "the last offset",
-            &nine_at(GREATEST),
-            Some(4),
-            &[0, 3, 5, 9, GREATEST],
-        ),
+        ("the last offset", &nine_at(GREATEST), Some(4), &FIVE_BASES),
         (
             "past the last offset",
             &nine_at(GREATEST + 1),
             None,
-            &[0, 3, 5, 9, GREATEST],
+            &FIVE_BASES,
         ),
-        (
-            "the greatest number",
-            &nine_at(i64::MAX),
-            None,
-            &[0, 3, 5, 9, GREATEST],
-        ),
+        ("the greatest number", &nine_at(i64::MAX), None, &FIVE_BASES),
     ];
     for (name, bytes, wanted, bases) in rows {
-        let batch = view(bytes)?;
-        assert_eq!(rt; insert(&mut store, &batch)?, wanted, "{name}");
-        assert!(rt; has_bases(&store, bases), "{name}");
+        assert!(rt; goes(&mut store, bytes, wanted, bases)?, "{name}");
     }
-    let searches = [
-        (i64::MIN, 0),
-        (-1, 0),
-        (0, 0),
-        (2, 0),
-        (3, 1),
-        (4, 2),
-        (5, 2),
-        (6, 3),
-        (9, 3),
-        (10, 4),
-        (GREATEST, 4),
-        (i64::MAX, 5),
-    ];
-    for (offset, wanted) in searches {
+    Ok(())
+}
+
+/// Five batches at those offsets.
+fn five_batches<A: Allocator + Copy>(alloc: A) -> Result<VecStore<A>, Fail> {
+    let mut store = VecStore::new(alloc);
+    insert(&mut store, &view(&THREE)?)?;
+    for base in [3, 5, 9, GREATEST] {
+        insert(&mut store, &view(&nine_at(base))?)?;
+    }
+    Ok(store)
+}
+
+/// An offset, and the place of the first of the five batches from there on.
+const SEARCHES: [(i64, usize); 12] = [
+    (i64::MIN, 0),
+    (-1, 0),
+    (0, 0),
+    (2, 0),
+    (3, 1),
+    (4, 2),
+    (5, 2),
+    (6, 3),
+    (9, 3),
+    (10, 4),
+    (GREATEST, 4),
+    (i64::MAX, 5),
+];
+
+#[test]
+fn batches_are_found(rt: HostRuntime) -> Result<(), Fail> {
+    let store = five_batches(rt.alloc())?;
+    assert!(rt; has_bases(&store, &FIVE_BASES));
+    for (offset, wanted) in SEARCHES {
         assert_eq!(rt; store.first_from(offset), wanted, "from {offset}");
     }
     Ok(())
 }
 
+/// Inserts a batch at another base offset, and tells whether it went there, with its bytes, and the batches
+/// then have these base offsets.
+fn takes<A: Allocator + Copy>(
+    store: &mut VecStore<A>,
+    alloc: A,
+    (base, epoch): (i64, i32),
+    wanted: Option<usize>,
+    bases: &[i64],
+) -> Result<bool, Fail> {
+    let batch = view(&THREE)?;
+    let found = insert_rebased(alloc, store, &batch, base, epoch)?;
+    let bytes = rebased(alloc, &batch, base, epoch)?;
+    let has_bytes = match found {
+        Some(i) => i < store.len() && store.bytes_of(i) == bytes.as_slice(),
+        None => true,
+    };
+    Ok(found == wanted && has_bytes && has_bases(store, bases))
+}
+
 #[test]
 fn a_batch_takes_another_base(rt: HostRuntime) -> Result<(), Fail> {
-    let alloc = rt.alloc();
-    let mut store = VecStore::new(alloc);
-    let batch = view(&THREE)?;
-    let rows: [(&str, i64, i32, Option<usize>, &[i64]); 6] = [
-        ("the first", 5, 7, Some(0), &[5]),
-        ("after all", 11, -1, Some(1), &[5, 11]),
-        ("between", 8, i32::MAX, Some(1), &[5, 8, 11]),
-        ("its own base", 0, 0, Some(0), &[0, 5, 8, 11]),
-        ("inside a span", 3, 7, None, &[0, 5, 8, 11]),
-        ("below 0", -1, 7, None, &[0, 5, 8, 11]),
+    let mut store = VecStore::new(rt.alloc());
+    let rows: [(&str, (i64, i32), Option<usize>, &[i64]); 6] = [
+        ("the first", (5, 7), Some(0), &[5]),
+        ("after all", (11, -1), Some(1), &[5, 11]),
+        ("between", (8, i32::MAX), Some(1), &[5, 8, 11]),
+        ("its own base", (0, 0), Some(0), &[0, 5, 8, 11]),
+        ("inside a span", (3, 7), None, &[0, 5, 8, 11]),
+        ("below 0", (-1, 7), None, &[0, 5, 8, 11]),
     ];
-    for (name, base, epoch, wanted, bases) in rows {
-        let found = insert_rebased(alloc, &mut store, &batch, base, epoch)?;
-        assert_eq!(rt; found, wanted, "{name}");
-        assert!(rt; has_bases(&store, bases), "{name}");
-        if let Some(i) = found {
-            let bytes = rebased(alloc, &batch, base, epoch)?;
-            assert!(rt;
-                i < store.len() && store.bytes_of(i) == bytes.as_slice(),
-                "{name}"
-            );
-        }
+    for (name, place, wanted, bases) in rows {
+        assert!(rt;
+            takes(&mut store, rt.alloc(), place, wanted, bases)?,
+            "{name}"
+        );
     }
     Ok(())
 }
 
+/// Inserts a batch, again where memory lacked, and tells whether the batches had these base offsets then, and
+/// have those now.
+fn goes_later<S: BatchStore>(
+    store: &mut S,
+    bytes: &[u8],
+    wanted: usize,
+    (before, after): (&[i64], &[i64]),
+) -> Result<bool, Fail> {
+    let batch = view(bytes)?;
+    let is_right = match insert(store, &batch) {
+        Ok(found) => found == Some(wanted),
+        Err(_) => has_bases(store, before) && insert(store, &batch) == Ok(Some(wanted)),
+    };
+    Ok(is_right && has_bases(store, after))
+}
+
+/// Inserts four batches, each again where memory lacked.
+fn four_go_later<S: BatchStore, A: Allocator + Copy>(
+    alloc: A,
+    store: &mut S,
+) -> Result<bool, Fail> {
+    let went = goes_later(store, &nine_at(5), 0, (&[], &[5]))?
+        && goes_later(store, &THREE, 0, (&[5], &[0, 5]))?
+        && goes_later(store, &nine_at(3), 1, (&[0, 5], &[0, 3, 5]))?;
+    let three = view(&THREE)?;
+    Ok(went && rebases_again(alloc, store, &three, 6)? && has_bases(store, &FOUR_BASES))
+}
+
+/// Copies a store of the four batches, again where memory lacked.
+fn is_copied_later<A: Allocator + Copy>(store: &VecStore<A>) -> Result<bool, AllocError> {
+    let copy = match store.try_clone() {
+        Ok(copy) => copy,
+        Err(_) => store.try_clone()?,
+    };
+    Ok(has_bases(&copy, &FOUR_BASES))
+}
+
+/// Puts the batches of the second store in the place of the first one's.
+fn replace<S: BatchStore, T: BatchStore, A: Allocator + Copy>(
+    alloc: A,
+    store: &mut S,
+    other: &T,
+) -> Result<(), AllocError> {
+    store.replace(read_all(alloc, other)?)
+}
+
+/// Puts four batches in the place of one, again where memory lacked.
+fn is_replaced_later<S: BatchStore, T: BatchStore, A: Allocator + Copy>(
+    alloc: A,
+    store: &mut S,
+    other: &T,
+) -> Result<bool, Fail> {
+    let mut is_right = goes_later(store, &EMPTIED, 0, (&[], &[0]))?;
+    if replace(alloc, store, other).is_err() {
+        is_right = is_right && has_bases(store, &[0]);
+        replace(alloc, store, other)?;
+    }
+    Ok(is_right && has_bases(store, &FOUR_BASES))
+}
+
+/// Makes each call on stores of this memory, again where it lacked.
+fn succeeds_later<A: Allocator + Copy, B: Allocator + Copy>(
+    heap: A,
+    alloc: B,
+) -> Result<bool, Fail> {
+    let mut store = VecStore::new(heap);
+    let went = four_go_later(alloc, &mut store)? && is_copied_later(&store)?;
+    let mut other = VecStore::new(heap);
+    let replaced = is_replaced_later(alloc, &mut other, &store)?;
+    Ok(went && replaced && has_bases(&store, &FOUR_BASES))
+}
+
 #[test]
 fn a_list_is_as_before_an_allocation_that_fails(rt: HostRuntime) -> Result<(), Fail> {
-    let rows: [(&str, &[u8], usize, &[i64], &[i64]); 3] = [
-        ("the first", &nine_at(5), 0, &[], &[5]),
-        ("before it", &THREE, 0, &[5], &[0, 5]),
-        ("between", &nine_at(3), 1, &[0, 5], &[0, 3, 5]),
-    ];
     let mut passed = false;
     for refused in 1..MOST {
         let heap = Refusing::new(rt.alloc(), refused);
-        let mut store = VecStore::new(&heap);
-        for (name, bytes, wanted, before, after) in rows {
-            let batch = view(bytes)?;
-            let first = insert(&mut store, &batch);
-            if first.is_err() {
-                assert!(rt; has_bases(&store, before), "{name}");
-                assert_eq!(rt; insert(&mut store, &batch), Ok(Some(wanted)), "{name}");
-            } else {
-                assert_eq!(rt; first, Ok(Some(wanted)), "{name}");
-            }
-            assert!(rt; has_bases(&store, after), "{name}");
-        }
-        let three = view(&THREE)?;
-        assert!(rt; rebases_again(rt.alloc(), &mut store, &three, 6)?);
-        assert!(rt; has_bases(&store, &[0, 3, 5, 6]));
-        let copy = match store.try_clone() {
-            Ok(copy) => copy,
-            Err(_) => store.try_clone()?,
-        };
-        assert!(rt; has_bases(&copy, &[0, 3, 5, 6]));
-        let mut other = VecStore::new(&heap);
-        let batch = view(&EMPTIED)?;
-        if insert(&mut other, &batch).is_err() {
-            assert_eq!(rt; insert(&mut other, &batch), Ok(Some(0)));
-        }
-        if other.replace(read_all(rt.alloc(), &store)?).is_err() {
-            assert!(rt; has_bases(&other, &[0]));
-            other.replace(read_all(rt.alloc(), &store)?)?;
-        }
-        assert!(rt; has_bases(&other, &[0, 3, 5, 6]));
-        assert!(rt; has_bases(&store, &[0, 3, 5, 6]));
+        assert!(rt;
+            succeeds_later(&heap, rt.alloc())?,
+            "allocation {refused} fails"
+        );
         passed = heap.calls() < refused;
         if passed {
             break;
