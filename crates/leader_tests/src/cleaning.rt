@@ -1,4 +1,5 @@
 //! Cleanings of a copy and of a leader's log, and what is answered after them.
+use crate::answers::{Answer, VecLeader, answer};
 use batch_codec::view;
 use outside_batches::{THREE, null_at, one, sent};
 use partition_log::{AppendError, CleanReport, DeliverError, Delivered, LeaderLog, PartitionLog};
@@ -106,49 +107,31 @@ fn a_cleaned_batch_is_not_delivered(rt: HostRuntime) -> Result<(), Fail> {
     Ok(())
 }
 
-/// The base offset that the leader answers, and whether it had the batch.
-type Answer = Result<(i64, bool), AppendError>;
-
-/// Sends a batch to a leader, and tells whether it answers so.
-fn is_answered<A: Allocator + Copy>(
-    log: &mut LeaderLog<VecStore<A>>,
-    bytes: &[u8],
-    wanted: Answer,
-) -> bool {
-    match view(bytes) {
-        Ok(batch) => match log.append(&batch) {
-            Ok(appended) => wanted == Ok((appended.base, appended.repeat)),
-            Err(why) => wanted == Err(why),
-        },
-        Err(_) => false,
-    }
-}
-
 /// Sends the batch of producer 7 with this sequence number, and tells whether the leader answers so.
-fn is_sent<A: Allocator + Copy>(
-    log: &mut LeaderLog<VecStore<A>>,
-    sequence: i32,
-    wanted: Answer,
-) -> bool {
-    is_answered(log, &sent(7, 0, sequence), wanted)
+fn is_sent<A: Allocator + Copy>(log: &mut VecLeader<A>, sequence: i32, wanted: Answer) -> bool {
+    answer(log, &sent(7, 0, sequence)) == Some(wanted)
 }
+
+/// Whether a batch of no producer goes to the offset 5.
+fn is_other_sent<A: Allocator + Copy>(log: &mut VecLeader<A>) -> bool {
+    answer(log, &one(9, 0, b'k', b'v')) == Some(Ok((5, false)))
+}
+
+/// What goes where five records do, and no batch.
+const FIVE: CleanReport = CleanReport {
+    records: 5,
+    tombstones: 0,
+    batches: 0,
+};
 
 /// Whether a leader's cleaning takes five records and no batch.
-fn loses_five<A: Allocator + Copy>(log: &mut LeaderLog<VecStore<A>>) -> bool {
-    let five = CleanReport {
-        records: 5,
-        tombstones: 0,
-        batches: 0,
-    };
-    match log.clean(6, 0) {
-        Ok(report) => report == five && log.copy().len() == 6 && log.copy().end() == 6,
-        Err(_) => false,
-    }
+fn loses_five<A: Allocator + Copy>(log: &mut VecLeader<A>) -> bool {
+    log.clean(6, 0) == Ok(FIVE) && log.copy().len() == 6 && log.copy().end() == 6
 }
 
 /// Whether a leader answers the retry of the first batch, then a new one, and then the retry again, which
 /// is too late.
-fn knows_the_last_five<A: Allocator + Copy>(log: &mut LeaderLog<VecStore<A>>) -> bool {
+fn knows_the_last_five<A: Allocator + Copy>(log: &mut VecLeader<A>) -> bool {
     is_sent(log, 0, Ok((0, true)))
         && is_sent(log, 5, Ok((6, false)))
         && is_sent(log, 0, Err(AppendError::OutOfOrder))
@@ -162,11 +145,7 @@ fn a_retry_is_recognised_after_a_cleaning(rt: HostRuntime) -> Result<(), Fail> {
         let wanted = Ok((i64::from(sequence), false));
         assert!(rt; is_sent(&mut log, sequence, wanted), "{sequence}");
     }
-    let other = one(9, 0, b'k', b'v');
-    assert!(rt;
-        is_answered(&mut log, &other, Ok((5, false))),
-        "of no producer"
-    );
+    assert!(rt; is_other_sent(&mut log), "of no producer");
     assert!(rt; loses_five(&mut log), "the cleaning");
     assert!(rt; knows_the_last_five(&mut log), "the retries");
     Ok(())

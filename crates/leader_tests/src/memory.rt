@@ -1,6 +1,6 @@
 //! A leader's log and a copy under each allocation failing in turn: they are as they were, and the call
 //! succeeds later.
-use batch_codec::view;
+use crate::answers::{VecLeader, answer};
 use outside_batches::one;
 use partition_log::{AppendError, CleanReport, LeaderLog, PartitionLog};
 use refusing_alloc::Refusing;
@@ -24,21 +24,20 @@ fn holds<A: Allocator + Copy>(copy: &PartitionLog<VecStore<A>>, len: usize, valu
 }
 
 /// Appends a batch of this value, again where memory failed, and tells whether the log was as before then.
-fn appends<A: Allocator + Copy>(log: &mut LeaderLog<VecStore<A>>, value: u8) -> bool {
+fn appends<A: Allocator + Copy>(log: &mut VecLeader<A>, value: u8) -> bool {
     let bytes = one(0, 0, b'k', value);
-    let Ok(batch) = view(&bytes) else {
-        return false;
-    };
     let end = log.copy().end();
-    match log.append(&batch) {
-        Ok(appended) => appended.base == end,
-        Err(AppendError::OutOfMemory) => log.copy().end() == end && log.append(&batch).is_ok(),
-        Err(_) => false,
+    match answer(log, &bytes) {
+        Some(Ok((base, _))) => base == end,
+        Some(Err(AppendError::OutOfMemory)) => {
+            log.copy().end() == end && matches!(answer(log, &bytes), Some(Ok(_)))
+        }
+        _ => false,
     }
 }
 
 /// Cleans a leader's log, again where memory failed, and tells whether it was as before then.
-fn cleans<A: Allocator + Copy>(log: &mut LeaderLog<VecStore<A>>) -> bool {
+fn cleans<A: Allocator + Copy>(log: &mut VecLeader<A>) -> bool {
     match log.clean(2, 0) {
         Ok(report) => report == ONE_WENT,
         Err(_) => holds(log.copy(), 2, b'2') && log.clean(2, 0) == Ok(ONE_WENT),
@@ -64,7 +63,7 @@ fn cloned<A: Allocator + Copy>(
 }
 
 /// Clones a log's copy, and tells whether the log and then the clone are cleaned right.
-fn cleans_both<A: Allocator + Copy>(log: &mut LeaderLog<VecStore<A>>) -> bool {
+fn cleans_both<A: Allocator + Copy>(log: &mut VecLeader<A>) -> bool {
     match cloned(log.copy()) {
         Ok(mut other) => {
             cleans(log)

@@ -1,5 +1,5 @@
 //! A leader's log of many producers: what it answers to each, with an index of producers and without.
-use batch_codec::view;
+use crate::answers::{Answer, VecLeader, answer};
 use outside_batches::sent;
 use partition_log::{AppendError, CleanReport, LeaderLog, PartitionLog};
 use refusing_alloc::Refusing;
@@ -16,40 +16,27 @@ const END: i32 = 60;
 /// More allocations than any run below asks for.
 const MOST: u64 = 500;
 
-/// The base offset that the leader answers, and whether it had the batch.
-type Answer = Result<(i64, bool), AppendError>;
-
 /// A batch's name, its producer, epoch and sequence number, and what the leader answers.
 type Row = (&'static str, i64, i16, i32, Answer);
 
-/// What the leader answers to a batch; `None` where there is no such batch.
-fn answer<A: Allocator + Copy>(
-    log: &mut LeaderLog<VecStore<A>>,
+/// What the leader answers to the batch of a producer.
+fn answer_to<A: Allocator + Copy>(
+    log: &mut VecLeader<A>,
     producer: i64,
     epoch: i16,
     sequence: i32,
 ) -> Option<Answer> {
-    let bytes = sent(producer, epoch, sequence);
-    match view(&bytes) {
-        Ok(batch) => Some(match log.append(&batch) {
-            Ok(appended) => Ok((appended.base, appended.repeat)),
-            Err(why) => Err(why),
-        }),
-        Err(_) => None,
-    }
+    answer(log, &sent(producer, epoch, sequence))
 }
 
 /// Sends the batch that the producers, in turn, have at an offset.
-fn answer_in_turn<A: Allocator + Copy>(
-    log: &mut LeaderLog<VecStore<A>>,
-    offset: i32,
-) -> Option<Answer> {
-    answer(log, i64::from(offset % PRODUCERS), 0, offset / PRODUCERS)
+fn answer_in_turn<A: Allocator + Copy>(log: &mut VecLeader<A>, offset: i32) -> Option<Answer> {
+    answer_to(log, i64::from(offset % PRODUCERS), 0, offset / PRODUCERS)
 }
 
 /// Sends the batch that has this offset, and tells whether it goes there. Where memory failed the log is
 /// as before, and it is sent again.
-fn is_appended<A: Allocator + Copy>(log: &mut LeaderLog<VecStore<A>>, offset: i32) -> bool {
+fn is_appended<A: Allocator + Copy>(log: &mut VecLeader<A>, offset: i32) -> bool {
     let base = i64::from(offset);
     let appended = Some(Ok((base, false)));
     let first = answer_in_turn(log, offset);
@@ -60,7 +47,7 @@ fn is_appended<A: Allocator + Copy>(log: &mut LeaderLog<VecStore<A>>, offset: i3
 }
 
 /// Whether the producers' batches go to the end in turn.
-fn are_appended<A: Allocator + Copy>(log: &mut LeaderLog<VecStore<A>>) -> bool {
+fn are_appended<A: Allocator + Copy>(log: &mut VecLeader<A>) -> bool {
     let mut all = true;
     for offset in 0..END {
         all = all && is_appended(log, offset);
@@ -69,7 +56,7 @@ fn are_appended<A: Allocator + Copy>(log: &mut LeaderLog<VecStore<A>>) -> bool {
 }
 
 /// Whether each of the producers' batches is a repeat.
-fn are_repeats<A: Allocator + Copy>(log: &mut LeaderLog<VecStore<A>>) -> bool {
+fn are_repeats<A: Allocator + Copy>(log: &mut VecLeader<A>) -> bool {
     let mut all = true;
     for offset in 0..END {
         let repeat = Some(Ok((i64::from(offset), true)));
@@ -78,28 +65,27 @@ fn are_repeats<A: Allocator + Copy>(log: &mut LeaderLog<VecStore<A>>) -> bool {
     all
 }
 
+/// What goes where every record but the last does, and no batch.
+const ALL_BUT_ONE: CleanReport = CleanReport {
+    records: 59,
+    tombstones: 0,
+    batches: 0,
+};
+
 /// Cleans the log, again where memory failed, and tells whether every record but the last goes, and no
 /// batch.
-fn is_cleaned<A: Allocator + Copy>(log: &mut LeaderLog<VecStore<A>>) -> bool {
-    let wanted = CleanReport {
-        records: 59,
-        tombstones: 0,
-        batches: 0,
-    };
-    match log.clean(i64::from(END), 0) {
-        Ok(report) => report == wanted,
-        Err(_) => log.clean(i64::from(END), 0) == Ok(wanted),
+fn is_cleaned<A: Allocator + Copy>(log: &mut VecLeader<A>) -> bool {
+    match log.clean(60, 0) {
+        Ok(report) => report == ALL_BUT_ONE,
+        Err(_) => log.clean(60, 0) == Ok(ALL_BUT_ONE),
     }
 }
 
 /// The name of the first batch that the leader answers in another way; empty where there is none.
-fn first_wrong<A: Allocator + Copy>(
-    log: &mut LeaderLog<VecStore<A>>,
-    rows: &[Row],
-) -> &'static str {
+fn first_wrong<A: Allocator + Copy>(log: &mut VecLeader<A>, rows: &[Row]) -> &'static str {
     let mut wrong = "";
     for &(name, producer, epoch, sequence, wanted) in rows {
-        if wrong.is_empty() && answer(log, producer, epoch, sequence) != Some(wanted) {
+        if wrong.is_empty() && answer_to(log, producer, epoch, sequence) != Some(wanted) {
             wrong = name;
         }
     }
@@ -107,16 +93,14 @@ fn first_wrong<A: Allocator + Copy>(
 }
 
 /// A log with the batches of another, and without its index of producers.
-fn without_index<A: Allocator + Copy>(
-    log: &LeaderLog<VecStore<A>>,
-) -> Result<LeaderLog<VecStore<A>>, AllocError> {
+fn without_index<A: Allocator + Copy>(log: &VecLeader<A>) -> Result<VecLeader<A>, AllocError> {
     let copy = log.copy().try_clone()?;
     LeaderLog::from_copy(copy).map_err(|_| AllocError)
 }
 
 /// The first batch that a log answers in another way, and the first that it does without its index.
 fn first_wrongs<A: Allocator + Copy>(
-    log: &mut LeaderLog<VecStore<A>>,
+    log: &mut VecLeader<A>,
     rows: &[Row],
 ) -> Result<(&'static str, &'static str), AllocError> {
     let mut without = without_index(log)?;
