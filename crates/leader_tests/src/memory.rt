@@ -1,6 +1,6 @@
 //! A leader's log and a copy under each allocation failing in turn: they are as they were, and the call
 //! succeeds later.
-use batch_codec::view;
+use crate::answers::{VecLeader, answer};
 use outside_batches::one;
 use partition_log::{AppendError, CleanReport, LeaderLog, PartitionLog};
 use refusing_alloc::Refusing;
@@ -23,70 +23,75 @@ fn holds<A: Allocator + Copy>(copy: &PartitionLog<VecStore<A>>, len: usize, valu
     copy.len() == len && copy.end() == 2 && copy.get(b"k") == Some([value].as_slice())
 }
 
-/// Appends a batch, again where memory failed, and tells whether the log was as before then.
-fn append<A: Allocator + Copy>(
-    log: &mut LeaderLog<VecStore<A>>,
-    bytes: &[u8],
-) -> Result<bool, Fail> {
-    let batch = view(bytes)?;
+/// Appends a batch of this value, again where memory failed, and tells whether the log was as before then.
+fn appends<A: Allocator + Copy>(log: &mut VecLeader<A>, value: u8) -> bool {
+    let bytes = one(0, 0, b'k', value);
     let end = log.copy().end();
-    match log.append(&batch) {
-        Ok(appended) => Ok(appended.base == end),
-        Err(AppendError::OutOfMemory) => {
-            let is_same = log.copy().end() == end;
-            Ok(is_same && log.append(&batch).is_ok())
+    match answer(log, &bytes) {
+        Some(Ok((base, _))) => base == end,
+        Some(Err(AppendError::OutOfMemory)) => {
+            log.copy().end() == end && matches!(answer(log, &bytes), Some(Ok(_)))
         }
-        Err(_) => Ok(false),
+        _ => false,
     }
 }
 
 /// Cleans a leader's log, again where memory failed, and tells whether it was as before then.
-fn clean<A: Allocator + Copy>(log: &mut LeaderLog<VecStore<A>>) -> Result<bool, AllocError> {
+fn cleans<A: Allocator + Copy>(log: &mut VecLeader<A>) -> bool {
     match log.clean(2, 0) {
-        Ok(report) => Ok(report == ONE_WENT),
-        Err(_) => {
-            let is_same = holds(log.copy(), 2, b'2');
-            Ok(is_same && log.clean(2, 0)? == ONE_WENT)
-        }
+        Ok(report) => report == ONE_WENT,
+        Err(_) => holds(log.copy(), 2, b'2') && log.clean(2, 0) == Ok(ONE_WENT),
     }
 }
 
 /// The same of a copy.
-fn clean_copy<A: Allocator + Copy>(
-    copy: &mut PartitionLog<VecStore<A>>,
-) -> Result<bool, AllocError> {
+fn cleans_copy<A: Allocator + Copy>(copy: &mut PartitionLog<VecStore<A>>) -> bool {
     match copy.clean(2, 0) {
-        Ok(report) => Ok(report == ONE_WENT),
-        Err(_) => {
-            let is_same = holds(copy, 2, b'2');
-            Ok(is_same && copy.clean(2, 0)? == ONE_WENT)
+        Ok(report) => report == ONE_WENT,
+        Err(_) => holds(copy, 2, b'2') && copy.clean(2, 0) == Ok(ONE_WENT),
+    }
+}
+
+/// Clones a copy, again where memory failed.
+fn cloned<A: Allocator + Copy>(
+    copy: &PartitionLog<VecStore<A>>,
+) -> Result<PartitionLog<VecStore<A>>, AllocError> {
+    match copy.try_clone() {
+        Ok(other) => Ok(other),
+        Err(_) => copy.try_clone(),
+    }
+}
+
+/// Clones a log's copy, and tells whether the log and then the clone are cleaned right.
+fn cleans_both<A: Allocator + Copy>(log: &mut VecLeader<A>) -> bool {
+    match cloned(log.copy()) {
+        Ok(mut other) => {
+            cleans(log)
+                && holds(log.copy(), 1, b'2')
+                && cleans_copy(&mut other)
+                && holds(&other, 1, b'2')
         }
+        Err(_) => false,
+    }
+}
+
+/// Whether a new log takes two batches and is cleaned, and a clone of it too, with one allocation failing
+/// or none.
+fn is_as_before<A: Allocator + Copy>(heap: A) -> bool {
+    match LeaderLog::from_copy(PartitionLog::<VecStore<_>>::new(heap)) {
+        Ok(mut log) => {
+            appends(&mut log, b'1') && appends(&mut log, b'2') && cleans_both(&mut log)
+        }
+        Err(_) => false,
     }
 }
 
 #[test]
 fn a_log_is_as_before_an_allocation_that_fails(rt: HostRuntime) -> Result<(), Fail> {
-    let first = one(0, 0, b'k', b'1');
-    let second = one(0, 0, b'k', b'2');
     let mut passed = false;
     for refused in 1..MOST {
         let heap = Refusing::new(rt.alloc(), refused);
-        let Ok(mut log) = LeaderLog::from_copy(PartitionLog::<VecStore<_>>::new(&heap)) else {
-            break;
-        };
-        assert!(rt;
-            append(&mut log, &first)? && append(&mut log, &second)?,
-            "{refused}"
-        );
-        let mut copy = match log.copy().try_clone() {
-            Ok(copy) => copy,
-            Err(_) => log.copy().try_clone()?,
-        };
-        assert!(rt; clean(&mut log)? && holds(log.copy(), 1, b'2'), "{refused}");
-        assert!(rt;
-            clean_copy(&mut copy)? && holds(&copy, 1, b'2'),
-            "{refused}"
-        );
+        assert!(rt; is_as_before(&heap), "{refused}");
         passed = heap.calls() < refused;
         if passed {
             break;

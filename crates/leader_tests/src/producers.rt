@@ -1,7 +1,7 @@
 //! A leader's log of many producers: what it answers to each, with an index of producers and without.
-use batch_codec::view;
+use crate::answers::{Answer, VecLeader, answer};
 use outside_batches::sent;
-use partition_log::{AppendError, Appended, CleanReport, LeaderLog, PartitionLog};
+use partition_log::{AppendError, CleanReport, LeaderLog, PartitionLog};
 use refusing_alloc::Refusing;
 use segment::VecStore;
 use std::alloc::{AllocError, Allocator};
@@ -16,96 +16,101 @@ const END: i32 = 60;
 /// More allocations than any run below asks for.
 const MOST: u64 = 500;
 
-/// The base offset that the leader answers, and whether it had the batch.
-type Answer = Result<(i64, bool), AppendError>;
-
 /// A batch's name, its producer, epoch and sequence number, and what the leader answers.
 type Row = (&'static str, i64, i16, i32, Answer);
 
-/// What the leader answers to a batch.
-fn send<A: Allocator + Copy>(
-    log: &mut LeaderLog<VecStore<A>>,
+/// What the leader answers to the batch of a producer.
+fn answer_to<A: Allocator + Copy>(
+    log: &mut VecLeader<A>,
     producer: i64,
     epoch: i16,
     sequence: i32,
-) -> Result<Answer, Fail> {
-    let bytes = sent(producer, epoch, sequence);
-    match log.append(&view(&bytes)?) {
-        Ok(Appended { base, repeat }) => Ok(Ok((base, repeat))),
-        Err(why) => Ok(Err(why)),
-    }
+) -> Option<Answer> {
+    answer(log, &sent(producer, epoch, sequence))
 }
 
-/// Sends the batch that the producers, in turn, have at an offset, and tells whether it goes there. Where
-/// memory failed the log is as before, and it is sent again.
-fn is_appended<A: Allocator + Copy>(
-    log: &mut LeaderLog<VecStore<A>>,
-    offset: i32,
-) -> Result<bool, Fail> {
-    let producer = i64::from(offset % PRODUCERS);
-    let sequence = offset / PRODUCERS;
+/// Sends the batch that the producers, in turn, have at an offset.
+fn answer_in_turn<A: Allocator + Copy>(log: &mut VecLeader<A>, offset: i32) -> Option<Answer> {
+    answer_to(log, i64::from(offset % PRODUCERS), 0, offset / PRODUCERS)
+}
+
+/// Sends the batch that has this offset, and tells whether it goes there. Where memory failed the log is
+/// as before, and it is sent again.
+fn is_appended<A: Allocator + Copy>(log: &mut VecLeader<A>, offset: i32) -> bool {
     let base = i64::from(offset);
-    let answer = send(log, producer, 0, sequence)?;
-    if answer != Err(AppendError::OutOfMemory) {
-        return Ok(answer == Ok((base, false)));
+    let appended = Some(Ok((base, false)));
+    let first = answer_in_turn(log, offset);
+    if first != Some(Err(AppendError::OutOfMemory)) {
+        return first == appended;
     }
-    let is_same = log.copy().end() == base;
-    Ok(is_same && send(log, producer, 0, sequence)? == Ok((base, false)))
+    log.copy().end() == base && answer_in_turn(log, offset) == appended
 }
 
 /// Whether the producers' batches go to the end in turn.
-fn are_appended<A: Allocator + Copy>(log: &mut LeaderLog<VecStore<A>>) -> Result<bool, Fail> {
+fn are_appended<A: Allocator + Copy>(log: &mut VecLeader<A>) -> bool {
+    let mut all = true;
     for offset in 0..END {
-        if !is_appended(log, offset)? {
-            return Ok(false);
-        }
+        all = all && is_appended(log, offset);
     }
-    Ok(true)
+    all
 }
 
 /// Whether each of the producers' batches is a repeat.
-fn are_repeats<A: Allocator + Copy>(log: &mut LeaderLog<VecStore<A>>) -> Result<bool, Fail> {
+fn are_repeats<A: Allocator + Copy>(log: &mut VecLeader<A>) -> bool {
+    let mut all = true;
     for offset in 0..END {
-        let producer = i64::from(offset % PRODUCERS);
-        let answer = send(log, producer, 0, offset / PRODUCERS)?;
-        if answer != Ok((i64::from(offset), true)) {
-            return Ok(false);
-        }
+        let repeat = Some(Ok((i64::from(offset), true)));
+        all = all && answer_in_turn(log, offset) == repeat;
     }
-    Ok(true)
+    all
 }
+
+/// What goes where every record but the last does, and no batch.
+const ALL_BUT_ONE: CleanReport = CleanReport {
+    records: 59,
+    tombstones: 0,
+    batches: 0,
+};
 
 /// Cleans the log, again where memory failed, and tells whether every record but the last goes, and no
 /// batch.
-fn is_cleaned<A: Allocator + Copy>(log: &mut LeaderLog<VecStore<A>>) -> Result<bool, AllocError> {
-    let wanted = CleanReport {
-        records: 59,
-        tombstones: 0,
-        batches: 0,
-    };
-    match log.clean(i64::from(END), 0) {
-        Ok(report) => Ok(report == wanted),
-        Err(_) => Ok(log.clean(i64::from(END), 0)? == wanted),
+fn is_cleaned<A: Allocator + Copy>(log: &mut VecLeader<A>) -> bool {
+    match log.clean(60, 0) {
+        Ok(report) => report == ALL_BUT_ONE,
+        Err(_) => log.clean(60, 0) == Ok(ALL_BUT_ONE),
     }
 }
 
 /// The name of the first batch that the leader answers in another way; empty where there is none.
-fn first_wrong<A: Allocator + Copy>(
-    log: &mut LeaderLog<VecStore<A>>,
-    rows: [Row; 12],
-) -> Result<&'static str, Fail> {
-    for (name, producer, epoch, sequence, wanted) in rows {
-        if send(log, producer, epoch, sequence)? != wanted {
-            return Ok(name);
+fn first_wrong<A: Allocator + Copy>(log: &mut VecLeader<A>, rows: &[Row]) -> &'static str {
+    let mut wrong = "";
+    for &(name, producer, epoch, sequence, wanted) in rows {
+        if wrong.is_empty() && answer_to(log, producer, epoch, sequence) != Some(wanted) {
+            wrong = name;
         }
     }
-    Ok("")
+    wrong
+}
+
+/// A log with the batches of another, and without its index of producers.
+fn without_index<A: Allocator + Copy>(log: &VecLeader<A>) -> Result<VecLeader<A>, AllocError> {
+    let copy = log.copy().try_clone()?;
+    LeaderLog::from_copy(copy).map_err(|_| AllocError)
+}
+
+/// The first batch that a log answers in another way, and the first that it does without its index.
+fn first_wrongs<A: Allocator + Copy>(
+    log: &mut VecLeader<A>,
+    rows: &[Row],
+) -> Result<(&'static str, &'static str), AllocError> {
+    let mut without = without_index(log)?;
+    Ok((first_wrong(log, rows), first_wrong(&mut without, rows)))
 }
 
 #[test]
 fn each_producer_has_its_window(rt: HostRuntime) -> Result<(), Fail> {
     let out_of_order = Err(AppendError::OutOfOrder);
-    let rows = [
+    let rows: [Row; 12] = [
         ("the first of 0 again", 0, 0, 0, Ok((0, true))),
         ("the second of 7 again", 7, 0, 1, Ok((27, true))),
         ("the last of 19 again", 19, 0, 2, Ok((59, true))),
@@ -121,12 +126,23 @@ fn each_producer_has_its_window(rt: HostRuntime) -> Result<(), Fail> {
     ];
     let copy = PartitionLog::<VecStore<_>>::new(rt.alloc());
     let mut log = LeaderLog::from_copy(copy).map_err(|_| AllocError)?;
-    assert!(rt; are_appended(&mut log)? && is_cleaned(&mut log)?);
-    let copy = log.copy().try_clone()?;
-    let mut without = LeaderLog::from_copy(copy).map_err(|_| AllocError)?;
-    assert_eq!(rt; first_wrong(&mut log, rows)?, "", "with an index");
-    assert_eq!(rt; first_wrong(&mut without, rows)?, "", "without");
+    assert!(rt; are_appended(&mut log) && is_cleaned(&mut log));
+    // with an index, and without
+    assert_eq!(rt; first_wrongs(&mut log, &rows), Ok(("", "")));
     Ok(())
+}
+
+/// Whether a new log takes the batches, and knows each of them again before and after a cleaning.
+fn knows_its_producers<A: Allocator + Copy>(heap: A) -> bool {
+    match LeaderLog::from_copy(PartitionLog::<VecStore<_>>::new(heap)) {
+        Ok(mut log) => {
+            are_appended(&mut log)
+                && are_repeats(&mut log)
+                && is_cleaned(&mut log)
+                && are_repeats(&mut log)
+        }
+        Err(_) => false,
+    }
 }
 
 #[test]
@@ -134,17 +150,7 @@ fn the_index_is_no_reason_to_fail(rt: HostRuntime) -> Result<(), Fail> {
     let mut passed = false;
     for refused in 1..MOST {
         let heap = Refusing::new(rt.alloc(), refused);
-        let Ok(mut log) = LeaderLog::from_copy(PartitionLog::<VecStore<_>>::new(&heap)) else {
-            break;
-        };
-        assert!(rt;
-            are_appended(&mut log)? && are_repeats(&mut log)?,
-            "{refused}"
-        );
-        assert!(rt;
-            is_cleaned(&mut log)? && are_repeats(&mut log)?,
-            "{refused}"
-        );
+        assert!(rt; knows_its_producers(&heap), "{refused}");
         passed = heap.calls() < refused;
         if passed {
             break;

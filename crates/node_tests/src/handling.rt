@@ -2,7 +2,7 @@
 //! allocation failing in turn.
 
 use crate::configs::configured;
-use broker_core::{Answer, Node, Role};
+use broker_core::{Answer, ConfigError, Node, Role};
 use outside_batches::A_IS_1;
 use refusing_alloc::Refusing;
 use request_frames::parse;
@@ -60,58 +60,125 @@ fn end_of<S: BatchStore>(node: &Node<S>) -> i64 {
     node.log(b"t", 0).map_or(-1, |log| log.end())
 }
 
+/// A leader with one partition of `t`, if the memory suffices.
+fn leader<A: Allocator + Copy>(alloc: A) -> Result<Node<VecStore<A>>, ConfigError> {
+    match configured(alloc, Role::Leader, 9, &[("t", 1)], 0) {
+        Ok(config) => Node::new(alloc, config),
+        Err(_) => Err(ConfigError::OutOfMemory),
+    }
+}
+
+/// Whether a broker answers the Produce request with these acks so, and the bytes that go out are then
+/// those of one response.
+fn is_produced<S: BatchStore, A: Allocator + Copy>(
+    alloc: A,
+    node: &mut Node<S>,
+    out: &mut Vec<u8, A>,
+    acks: u8,
+    wanted: Answer,
+) -> bool {
+    match produce(alloc, acks) {
+        Ok(frame) => answer(node, &frame, out) == Some(wanted) && out.as_slice() == STORED,
+        Err(_) => false,
+    }
+}
+
+/// Whether a broker whose partition is empty says so.
+fn is_listed<S: BatchStore, A: Allocator + Copy>(node: &mut Node<S>, out: &mut Vec<u8, A>) -> bool {
+    answer(node, LIST, out) == Some(Answer::Reply) && out.as_slice() == LISTED
+}
+
+/// Whether a new broker answers two requests, and stores the batch of one without answer.
+fn are_answered<S: BatchStore, A: Allocator + Copy>(alloc: A, node: &mut Node<S>) -> bool {
+    let mut out = Vec::new(alloc);
+    let is_first = is_listed(node, &mut out);
+    out.clear();
+    is_first
+        && is_produced(alloc, node, &mut out, 1, Answer::Reply)
+        && is_produced(alloc, node, &mut out, 0, Answer::Silent)
+        && end_of(node) == 2
+}
+
 #[test]
 fn two_requests_and_one_without_answer(rt: HostRuntime) -> Result<(), Fail> {
-    let config = configured(rt.alloc(), Role::Leader, 9, &[("t", 1)], 0)?;
-    let mut node = Node::<VecStore<_>>::new(rt.alloc(), config)?;
-    let mut out = Vec::new(rt.alloc());
-    assert!(rt; answer(&mut node, LIST, &mut out) == Some(Answer::Reply));
-    assert_eq!(rt; out.as_slice(), LISTED);
-    out.clear();
-    let frame = produce(rt.alloc(), 1)?;
-    assert!(rt; answer(&mut node, &frame, &mut out) == Some(Answer::Reply));
-    assert_eq!(rt; out.as_slice(), STORED);
-    let frame = produce(rt.alloc(), 0)?;
-    assert!(rt; answer(&mut node, &frame, &mut out) == Some(Answer::Silent));
-    assert_eq!(rt; out.as_slice(), STORED);
-    assert_eq!(rt; end_of(&node), 2);
+    let mut node = leader(rt.alloc())?;
+    assert!(rt; are_answered(rt.alloc(), &mut node));
     Ok(())
+}
+
+/// What came of a Produce request in memory of which one allocation fails.
+#[derive(Clone, Copy, Debug, PartialEq, Eq)]
+enum Came {
+    /// The batch was stored: that allocation wasn't asked for.
+    Stored,
+    /// There was no memory for the response, and no batch was stored; later one was.
+    NoRoom,
+    /// There was no memory for the batch, and the response said so; later there was.
+    NoLog,
+    /// Something else.
+    Wrong,
+}
+
+/// What came of a request that was answered or not, after which the batch is there or not.
+fn came_of(is_answered: bool, is_stored: bool, out: &[u8]) -> Came {
+    match (is_answered, is_stored) {
+        (true, true) if out == STORED => Came::Stored,
+        (true, false) if out == NOT_STORED => Came::NoLog,
+        (false, false) if out.is_empty() => Came::NoRoom,
+        _ => Came::Wrong,
+    }
+}
+
+/// Sends the Produce request to a broker, again where the batch wasn't stored.
+fn stores<S: BatchStore, A: Allocator + Copy>(
+    node: &mut Node<S>,
+    frame: &[u8],
+    out: &mut Vec<u8, A>,
+) -> Came {
+    let is_answered = answer(node, frame, out).is_some();
+    let came = came_of(is_answered, end_of(node) == 1, out);
+    if came == Came::Stored {
+        return came;
+    }
+    out.clear();
+    let succeeds = answer(node, frame, out).is_some() && out.as_slice() == STORED;
+    if succeeds { came } else { Came::Wrong }
+}
+
+/// The same to a new broker in this memory.
+fn stores_in<A: Allocator + Copy>(heap: A, frame: &[u8]) -> Came {
+    match leader(heap) {
+        Ok(mut node) => {
+            let mut out = Vec::new(heap);
+            stores(&mut node, frame, &mut out)
+        }
+        Err(_) => Came::Wrong,
+    }
 }
 
 #[test]
 fn a_batch_is_stored_once_there_is_memory(rt: HostRuntime) -> Result<(), Fail> {
     let frame = produce(rt.alloc(), 1)?;
     let counted = Refusing::new(rt.alloc(), 0);
-    let config = configured(&counted, Role::Leader, 9, &[("t", 1)], 0)?;
-    Node::<VecStore<_>>::new(&counted, config)?;
-    let mut no_room = false;
-    let mut no_log = false;
-    let mut passed = false;
+    leader(&counted)?;
+    let mut met = [false; 2];
+    let mut came = Came::Wrong;
     for more in 1..MOST {
         // The broker has memory; one allocation behind it fails.
         let heap = Refusing::new(rt.alloc(), counted.calls().saturating_add(more));
-        let config = configured(&heap, Role::Leader, 9, &[("t", 1)], 0)?;
-        let mut node = Node::<VecStore<_>>::new(&heap, config)?;
-        let mut out = Vec::new(&heap);
-        let answered = answer(&mut node, &frame, &mut out).is_some();
-        passed = end_of(&node) == 1;
-        if !answered {
-            assert!(rt; out.is_empty() && !passed, "allocation {more} fails");
-            no_room = true;
-        } else if passed {
-            assert_eq!(rt; out.as_slice(), STORED, "allocation {more} fails");
+        came = stores_in(&heap, &frame);
+        assert!(rt; came != Came::Wrong, "allocation {more} fails");
+        met = [
+            met[0] || came == Came::NoRoom,
+            met[1] || came == Came::NoLog,
+        ];
+        if came == Came::Stored {
             break;
-        } else {
-            assert_eq!(rt; out.as_slice(), NOT_STORED, "allocation {more} fails");
-            no_log = true;
         }
-        out.clear();
-        assert!(rt;
-            answer(&mut node, &frame, &mut out).is_some(),
-            "{more}, later"
-        );
-        assert_eq!(rt; out.as_slice(), STORED, "{more}, later");
     }
-    assert!(rt; passed && no_room && no_log);
+    assert!(rt;
+        came == Came::Stored && met == [true; 2],
+        "{came:?}, {met:?}"
+    );
     Ok(())
 }

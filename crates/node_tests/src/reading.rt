@@ -2,11 +2,12 @@
 
 use crate::configs::configured;
 use crate::handling::{answer, produce};
+use crate::memory::{Came, at_once, later};
 use broker_core::{ConfigError, Node, Role};
 use outside_batches::A_IS_1;
 use refusing_alloc::Refusing;
-use segment::VecStore;
-use std::alloc::Allocator;
+use segment::{BatchStore, VecStore};
+use std::alloc::{AllocError, Allocator};
 use std::test::Fail;
 
 /// A Fetch request for partition 0 of `t` from offset 0 on, at most 1,000 bytes.
@@ -39,34 +40,69 @@ fn filled<A: Allocator + Copy>(alloc: A) -> Result<Node<VecStore<A>>, ConfigErro
     Ok(node)
 }
 
+/// Sends a request to a broker, again where it isn't answered.
+fn reads<S: BatchStore, A: Allocator + Copy>(
+    node: &mut Node<S>,
+    request: &[u8],
+    response: &[u8],
+    out: &mut Vec<u8, A>,
+) -> Came {
+    if answer(node, request, out).is_some() {
+        return at_once(out.as_slice() == response);
+    }
+    let is_same = out.is_empty();
+    let succeeds = answer(node, request, out).is_some() && out.as_slice() == response;
+    later(is_same && succeeds)
+}
+
+/// The same to a filled broker in memory of which this allocation fails.
+fn reads_in<A: Allocator + Copy>(inner: A, refused: u64, request: &[u8], response: &[u8]) -> Came {
+    let heap = Refusing::new(inner, refused);
+    match filled(&heap) {
+        Ok(mut node) => {
+            let mut out = Vec::new(&heap);
+            reads(&mut node, request, response, &mut out)
+        }
+        Err(_) => Came::Wrong,
+    }
+}
+
+/// The first allocation behind those of the broker with which a request isn't answered later, and what came
+/// of it.
+fn first_at_once<A: Allocator + Copy>(
+    inner: A,
+    made: u64,
+    request: &[u8],
+    response: &[u8],
+) -> (u64, Came) {
+    let mut last = (0, Came::Later);
+    for more in 1..MOST {
+        if last.1 == Came::Later {
+            last = (
+                more,
+                reads_in(inner, made.saturating_add(more), request, response),
+            );
+        }
+    }
+    last
+}
+
+/// Fetch's response with its batch.
+fn fetched<A: Allocator + Copy>(alloc: A) -> Result<Vec<u8, A>, AllocError> {
+    let mut bytes = Vec::from_slice(alloc, FETCHED)?;
+    bytes.extend_from_slice(&A_IS_1)?;
+    Ok(bytes)
+}
+
 #[test]
 fn reads_are_answered_once_there_is_memory(rt: HostRuntime) -> Result<(), Fail> {
     let counted = Refusing::new(rt.alloc(), 0);
     filled(&counted)?;
-    let mut fetched = Vec::from_slice(rt.alloc(), FETCHED)?;
-    fetched.extend_from_slice(&A_IS_1)?;
+    let fetched = fetched(rt.alloc())?;
     for (request, response) in [(FETCH, fetched.as_slice()), (DESCRIBE, DESCRIBED)] {
-        let mut passed = false;
-        for more in 1..MOST {
-            // The broker has memory; one allocation behind it fails.
-            let heap = Refusing::new(rt.alloc(), counted.calls().saturating_add(more));
-            let mut node = filled(&heap)?;
-            let mut out = Vec::new(&heap);
-            passed = answer(&mut node, request, &mut out).is_some();
-            if !passed {
-                assert!(rt; out.is_empty(), "allocation {more} fails");
-                assert!(rt;
-                    answer(&mut node, request, &mut out).is_some(),
-                    "{more}, later"
-                );
-            }
-            assert_eq!(rt; out.as_slice(), response, "allocation {more} fails");
-            if passed {
-                assert!(rt; more > 1, "it takes no memory");
-                break;
-            }
-        }
-        assert!(rt; passed);
+        let (more, came) = first_at_once(rt.alloc(), counted.calls(), request, response);
+        // At the first allocation it would take no memory.
+        assert!(rt; came == Came::AtOnce && more > 1, "allocation {more} fails");
     }
     Ok(())
 }

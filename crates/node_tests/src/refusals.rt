@@ -1,9 +1,36 @@
 //! Configurations that a broker refuses, and the names of the refusals as they are printed.
 
 use crate::configs::configured;
-use broker_core::{Node, Role};
+use broker_core::{Config, Node, Role};
 use segment::VecStore;
+use std::alloc::{AllocError, Allocator};
+use std::string::String;
 use std::test::Fail;
+
+/// What a new broker of this configuration answers, as text.
+fn answer_of<A: Allocator + Copy>(alloc: A, config: Config<A>) -> Result<String<A>, AllocError> {
+    match Node::<VecStore<_>>::new(alloc, config) {
+        Ok(_) => String::from_str(alloc, "a node"),
+        Err(why) => format!(in alloc; "{why}"),
+    }
+}
+
+/// Whether a new broker with a host of so many bytes, these topics and so many more answers so.
+fn is_answered<A: Allocator + Copy>(
+    alloc: A,
+    host_bytes: u32,
+    topics: &[(&str, u32)],
+    more: u32,
+    wanted: &str,
+) -> bool {
+    match configured(alloc, Role::Leader, host_bytes, topics, more) {
+        Ok(config) => match answer_of(alloc, config) {
+            Ok(answer) => answer.as_str() == wanted,
+            Err(_) => false,
+        },
+        Err(_) => false,
+    }
+}
 
 #[test]
 fn configurations_are_refused_for_their_first_fault(rt: HostRuntime) -> Result<(), Fail> {
@@ -46,12 +73,8 @@ fn configurations_are_refused_for_their_first_fault(rt: HostRuntime) -> Result<(
     ];
     for (row, host_bytes, first, second, more, wanted) in rows {
         let topics = [first, second];
-        let config = configured(rt.alloc(), Role::Leader, host_bytes, &topics, more)?;
-        let answer = match Node::<VecStore<_>>::new(rt.alloc(), config) {
-            Ok(_) => format!(in rt.alloc(); "a node")?,
-            Err(why) => format!(in rt.alloc(); "{why}")?,
-        };
-        assert_eq!(rt; answer.as_str(), wanted, "{row}");
+        let is_right = is_answered(rt.alloc(), host_bytes, &topics, more, wanted);
+        assert!(rt; is_right, "{row}");
     }
     Ok(())
 }

@@ -1,6 +1,6 @@
 //! What the tests let a broker read, and the reader and writer of it.
 
-use broker_core::{Config, Node, Role, TopicConfig, serve};
+use broker_core::{Config, Ended, Node, Role, SessionError, TopicConfig, serve};
 use segment::VecStore;
 use std::alloc::{AllocError, Allocator};
 use std::io::{Error, ErrorKind, Read, Result, Write};
@@ -17,10 +17,10 @@ pub(crate) const RESPONSE: &[u8] =
 
 /// Gives at most `piece` bytes a read, and fails where `fails_at` bytes are left.
 #[derive(Drop)]
-pub(crate) struct Pieces<'a> {
-    pub(crate) left: &'a [u8],
-    pub(crate) piece: usize,
-    pub(crate) fails_at: Option<usize>,
+struct Pieces<'a> {
+    left: &'a [u8],
+    piece: usize,
+    fails_at: Option<usize>,
 }
 
 impl Read for Pieces<'_> {
@@ -37,11 +37,11 @@ impl Read for Pieces<'_> {
 /// taking no byte where there is none; a write after that takes bytes again. Where there is an error,
 /// each flush fails with it.
 #[derive(Drop)]
-pub(crate) struct Halting<A: Allocator> {
-    pub(crate) taken: Vec<u8, A>,
-    pub(crate) piece: usize,
-    pub(crate) room: usize,
-    pub(crate) error: Option<ErrorKind>,
+struct Halting<A: Allocator> {
+    taken: Vec<u8, A>,
+    piece: usize,
+    room: usize,
+    error: Option<ErrorKind>,
 }
 
 /// The ways in which a writer fails.
@@ -74,16 +74,24 @@ impl<A: Allocator> Write for Halting<A> {
     }
 }
 
-/// A leader of topic `t` with one partition.
-pub(crate) fn leader<A: Allocator + Copy>(
+/// One topic `t` of one partition.
+fn topics<A: Allocator + Copy>(
     alloc: A,
-) -> std::result::Result<Option<Node<VecStore<A>>>, AllocError> {
+) -> std::result::Result<Vec<TopicConfig<A>, A>, AllocError> {
     let name = String::from_str(alloc, "t")?;
     let mut topics = Vec::new(alloc);
     topics.push(TopicConfig {
         name,
         partitions: 1,
     })?;
+    Ok(topics)
+}
+
+/// A leader of topic `t` with one partition.
+pub(crate) fn leader<A: Allocator + Copy>(
+    alloc: A,
+) -> std::result::Result<Option<Node<VecStore<A>>>, AllocError> {
+    let topics = topics(alloc)?;
     let config = Config {
         role: Role::Leader,
         node_id: 1,
@@ -94,23 +102,102 @@ pub(crate) fn leader<A: Allocator + Copy>(
     Ok(Node::new(alloc, config).ok())
 }
 
-/// Lets a broker serve the reader and the writer. Gives the answer as text, what the writer took, and
-/// the end of the log of `t`.
+/// How the streams of a session behave: the most bytes that a read gives, the number of bytes left where
+/// a read fails, the most bytes that a write takes, the number of bytes behind which a write fails, and
+/// with which error.
+#[derive(Clone, Copy)]
+pub(crate) struct Streams {
+    pub(crate) read: usize,
+    pub(crate) fails_at: Option<usize>,
+    pub(crate) write: usize,
+    pub(crate) room: usize,
+    pub(crate) error: Option<ErrorKind>,
+}
+
+/// The streams of which none fails.
+pub(crate) fn unfailing(read: usize, write: usize) -> Streams {
+    Streams {
+        read,
+        fails_at: None,
+        write,
+        room: usize::MAX,
+        error: None,
+    }
+}
+
+/// The answer of a session as text.
+fn text_of<A: Allocator + Copy>(
+    alloc: A,
+    answer: std::result::Result<Ended, SessionError>,
+) -> std::result::Result<String<A>, AllocError> {
+    match answer {
+        Ok(ended) => format!(in alloc; "{} and {}", ended.frames, ended.rest),
+        Err(why) => format!(in alloc; "{why}"),
+    }
+}
+
+/// Lets a broker serve these bytes. Gives its answer, and what was taken of its replies.
+fn served<A: Allocator + Copy, B: Allocator + Copy>(
+    alloc: A,
+    heap: B,
+    node: &mut Node<VecStore<A>>,
+    input: &[u8],
+    streams: Streams,
+) -> (std::result::Result<Ended, SessionError>, Vec<u8, A>) {
+    let mut source = Source::new(Pieces {
+        left: input,
+        piece: streams.read,
+        fails_at: streams.fails_at,
+    });
+    let mut sink = Sink::new(Halting {
+        taken: Vec::new(alloc),
+        piece: streams.write,
+        room: streams.room,
+        error: streams.error,
+    });
+    let answer = serve(heap, node, &mut source, &mut sink);
+    (answer, sink.into_inner().taken)
+}
+
+/// Lets a new broker serve these bytes. Gives the answer as text, what the writer took, and the end of
+/// the log of `t`.
 pub(crate) fn session<A: Allocator + Copy, B: Allocator + Copy>(
     alloc: A,
     heap: B,
-    reader: Pieces<'_>,
-    writer: Halting<A>,
+    input: &[u8],
+    streams: Streams,
 ) -> std::result::Result<(String<A>, Vec<u8, A>, i64), AllocError> {
-    let mut source = Source::new(reader);
-    let mut sink = Sink::new(writer);
-    let Some(mut node) = leader(alloc)? else {
-        return Err(AllocError);
-    };
-    let answer = match serve(heap, &mut node, &mut source, &mut sink) {
-        Ok(ended) => format!(in alloc; "{} and {}", ended.frames, ended.rest)?,
-        Err(why) => format!(in alloc; "{why}")?,
-    };
-    let end = node.log(b"t", 0).map_or(-1, |log| log.end());
-    Ok((answer, sink.into_inner().taken, end))
+    match leader(alloc)? {
+        Some(mut node) => {
+            let (answer, taken) = served(alloc, heap, &mut node, input, streams);
+            let end = node.log(b"t", 0).map_or(-1, |log| log.end());
+            Ok((text_of(alloc, answer)?, taken, end))
+        }
+        None => Err(AllocError),
+    }
+}
+
+/// What comes of a session: the answer as text, what the writer took, and the end of the log of `t`.
+#[derive(Clone, Copy)]
+pub(crate) struct Outcome<'a> {
+    pub(crate) answer: &'a str,
+    pub(crate) taken: &'a [u8],
+    pub(crate) end: i64,
+}
+
+/// Whether this comes of a session of these bytes.
+pub(crate) fn comes<A: Allocator + Copy>(
+    alloc: A,
+    input: &[u8],
+    streams: Streams,
+    wanted: Outcome<'_>,
+) -> bool {
+    match session(alloc, alloc, input, streams) {
+        Ok((answer, taken, end)) => {
+            answer.as_str() == wanted.answer
+                && taken.as_slice() == wanted.taken
+                && end == wanted.end
+        }
+        Err(_) => false,
+    }
 }
