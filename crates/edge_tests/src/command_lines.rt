@@ -22,6 +22,27 @@ fn arguments_of(alloc: Global, line: &str) -> Result<Vec<&str>, AllocError> {
     Ok(arguments)
 }
 
+/// Runs a line, and tells whether it has this status, and this comes on standard output and on standard
+/// error.
+fn comes(
+    alloc: Global,
+    line: &str,
+    reader: &mut &[u8],
+    status: u8,
+    output: &[u8],
+    error: &[u8],
+) -> bool {
+    match arguments_of(alloc, line) {
+        Ok(arguments) => {
+            let mut out = Vec::new(alloc);
+            let mut err = Vec::new(alloc);
+            let answered = run_line(alloc, &arguments, reader, &mut out, &mut err);
+            answered == status && out.as_slice() == output && err.as_slice() == error
+        }
+        Err(_) => false,
+    }
+}
+
 #[test]
 fn sessions(rt: HostRuntime) -> Result<(), Fail> {
     // the line, the input, the status, and what comes on standard output and on standard error
@@ -52,15 +73,25 @@ fn sessions(rt: HostRuntime) -> Result<(), Fail> {
     ];
     for (line, input, status, output, error) in rows {
         let mut reader = input;
-        let mut out = Vec::new(rt.alloc());
-        let mut err = Vec::new(rt.alloc());
-        let arguments = arguments_of(rt.alloc(), line)?;
-        let answered = run_line(rt.alloc(), &arguments, &mut reader, &mut out, &mut err);
-        assert_eq!(rt; answered, status, "{line}");
-        assert_eq!(rt; out.as_slice(), output, "{line}");
-        assert_eq!(rt; err.as_slice(), error.as_bytes(), "{line}");
+        let is_right = comes(
+            rt.alloc(),
+            line,
+            &mut reader,
+            status,
+            output,
+            error.as_bytes(),
+        );
+        assert!(rt; is_right, "{line}");
     }
     Ok(())
+}
+
+/// Whether a line is refused with this name, and no byte is read.
+fn is_refused(alloc: Global, line: &str, name: &str) -> Result<bool, AllocError> {
+    let wanted = format!(in alloc; "configuration: {name}\n")?;
+    let mut reader = REQUEST;
+    let is_told = comes(alloc, line, &mut reader, 2, b"", wanted.as_bytes());
+    Ok(is_told && reader.len() == REQUEST.len())
 }
 
 #[test]
@@ -85,17 +116,33 @@ fn refused_configurations(rt: HostRuntime) -> Result<(), Fail> {
         ),
     ];
     for (line, name) in rows {
-        let mut reader = REQUEST;
-        let mut out = Vec::new(rt.alloc());
-        let mut err = Vec::new(rt.alloc());
-        let arguments = arguments_of(rt.alloc(), line)?;
-        let status = run_line(rt.alloc(), &arguments, &mut reader, &mut out, &mut err);
-        let wanted = format!(in rt.alloc(); "configuration: {name}\n")?;
-        assert_eq!(rt; status, 2, "{line}");
-        assert!(rt; out.is_empty() && reader.len() == REQUEST.len(), "{line}");
-        assert_eq!(rt; err.as_slice(), wanted.as_bytes(), "{line}");
+        assert!(rt; is_refused(rt.alloc(), line, name)?, "{line}");
     }
     Ok(())
+}
+
+/// Whether the call that a line is not for prints nothing, and leaves it to the other: `run_serve` where the
+/// line has no port.
+fn is_left(alloc: Global, listener: &TcpListener, arguments: &[&str], is_serve: bool) -> bool {
+    let mut out = Vec::new(alloc);
+    let mut err = Vec::new(alloc);
+    let status = if is_serve {
+        run_line(alloc, arguments, &mut REQUEST, &mut out, &mut err)
+    } else {
+        run_serve(alloc, listener, arguments, &mut out, &mut err)
+    };
+    status == 2 && out.is_empty() && err.is_empty()
+}
+
+/// Whether a line has this port, and the other call leaves it.
+fn has_port(alloc: Global, listener: &TcpListener, line: &str, port: Option<u16>) -> bool {
+    match arguments_of(alloc, line) {
+        Ok(arguments) => {
+            serve_port(alloc, &arguments) == Ok(port)
+                && is_left(alloc, listener, &arguments, port.is_some())
+        }
+        Err(_) => false,
+    }
 }
 
 #[test]
@@ -127,18 +174,39 @@ fn ports(rt: HostRuntime) -> Result<(), Fail> {
     ];
     let listener = TcpListener::bind(&rt, (Ipv4Addr::LOCALHOST, 0))?;
     for (line, port) in rows {
-        let arguments = arguments_of(rt.alloc(), line)?;
-        assert_eq!(rt; serve_port(rt.alloc(), &arguments)?, port, "{line}");
-        let mut out = Vec::new(rt.alloc());
-        let mut err = Vec::new(rt.alloc());
-        let status = match port {
-            Some(_) => run_line(rt.alloc(), &arguments, &mut REQUEST, &mut out, &mut err),
-            None => run_serve(rt.alloc(), &listener, &arguments, &mut out, &mut err),
-        };
-        assert_eq!(rt; status, 2, "{line}");
-        assert!(rt; out.is_empty() && err.is_empty(), "{line}");
+        assert!(rt; has_port(rt.alloc(), &listener, line, port), "{line}");
     }
     Ok(())
+}
+
+/// Sends the request, and no more.
+fn send(client: &mut TcpStream) -> std::io::Result<()> {
+    client.write_all(REQUEST)?;
+    client.shutdown(Shutdown::Write)
+}
+
+/// Lets a broker serve one connection at this port, and tells whether it says so.
+fn serves_one(alloc: Global, listener: &TcpListener, port: u16) -> Result<bool, AllocError> {
+    let wanted = format!(in alloc; "listening {port}\nconnection 0: frames 1\n")?;
+    let arguments = [
+        "kbroker",
+        "serve",
+        "--port",
+        "0",
+        "--connections",
+        "1",
+        "t:1",
+    ];
+    let mut out = Vec::new(alloc);
+    let mut err = Vec::new(alloc);
+    let status = run_serve(alloc, listener, &arguments, &mut out, &mut err);
+    Ok(status == 0 && out.as_slice() == wanted.as_bytes() && err.is_empty())
+}
+
+/// Whether the reply comes, and no more.
+fn has_reply(alloc: Global, client: &mut TcpStream) -> bool {
+    let mut reply = Vec::new(alloc);
+    client.read_to_end(&mut reply).is_ok() && reply.as_slice() == REPLY
 }
 
 #[test]
@@ -146,19 +214,8 @@ fn a_connection(rt: HostRuntime) -> Result<(), Fail> {
     let listener = TcpListener::bind(&rt, (Ipv4Addr::LOCALHOST, 0))?;
     let address = listener.local_addr()?;
     let mut client = TcpStream::connect(&rt, address)?;
-    client.write_all(REQUEST)?;
-    client.shutdown(Shutdown::Write)?;
-    let mut out = Vec::new(rt.alloc());
-    let mut err = Vec::new(rt.alloc());
-    let arguments = arguments_of(rt.alloc(), "kbroker serve --port 0 --connections 1 t:1")?;
-    let status = run_serve(rt.alloc(), &listener, &arguments, &mut out, &mut err);
-    let port = address.port();
-    let wanted = format!(in rt.alloc(); "listening {port}\nconnection 0: frames 1\n")?;
-    assert_eq!(rt; status, 0);
-    assert_eq!(rt; out.as_slice(), wanted.as_bytes());
-    assert!(rt; err.is_empty());
-    let mut reply = Vec::new(rt.alloc());
-    client.read_to_end(&mut reply)?;
-    assert_eq!(rt; reply.as_slice(), REPLY);
+    send(&mut client)?;
+    assert!(rt; serves_one(rt.alloc(), &listener, address.port())?);
+    assert!(rt; has_reply(rt.alloc(), &mut client));
     Ok(())
 }

@@ -1,5 +1,6 @@
 //! Scripts and merges under each allocation failing in turn.
 use refusing_alloc::Refusing;
+use std::alloc::Allocator;
 use std::test::Fail;
 use tcp_edge::{run_merge, run_replay};
 
@@ -64,67 +65,102 @@ fn is_told(status: u8, out: &[u8], err: &[u8], least: usize) -> bool {
     }
 }
 
+/// What came of a run in memory of which one allocation fails.
+#[derive(Clone, Copy, Debug, PartialEq, Eq)]
+enum Came {
+    /// It printed all: that allocation wasn't asked for.
+    AtOnce,
+    /// It printed all without that allocation.
+    Without,
+    /// It lacked memory, and had printed so many bytes.
+    Lacked(usize),
+    /// Something else.
+    Wrong,
+}
+
+/// What came of a run with this status that printed so many bytes, and asked for that allocation or not.
+fn came_of(status: u8, len: usize, is_asked: bool) -> Came {
+    match (status, is_asked) {
+        (0, false) => Came::AtOnce,
+        (0, true) => Came::Without,
+        (3, true) => Came::Lacked(len),
+        _ => Came::Wrong,
+    }
+}
+
+/// Runs the script in memory of which this allocation fails.
+fn replays<A: Allocator + Copy, B: Allocator + Copy>(
+    alloc: A,
+    inner: B,
+    refused: u64,
+    least: usize,
+) -> Came {
+    let heap = Refusing::new(inner, refused);
+    let mut input: &[u8] = SCRIPT.as_bytes();
+    let mut out = Vec::new(alloc);
+    let mut err = Vec::new(alloc);
+    let status = run_replay(&heap, &mut input, &mut out, &mut err);
+    if is_told(status, &out, &err, least) {
+        came_of(status, out.len(), heap.calls() >= refused)
+    } else {
+        Came::Wrong
+    }
+}
+
 #[test]
 fn a_script_stops_where_an_allocation_fails(rt: HostRuntime) -> Result<(), Fail> {
-    let mut passed = false;
+    let mut came = Came::Wrong;
     let mut printed = 0;
     for refused in 1..MOST {
-        let heap = Refusing::new(rt.alloc(), refused);
-        let mut input: &[u8] = SCRIPT.as_bytes();
-        let mut out = Vec::new(rt.alloc());
-        let mut err = Vec::new(rt.alloc());
-        let status = run_replay(&heap, &mut input, &mut out, &mut err);
-
         // What was printed before stays, and is no less where a later allocation fails. A log does without its
         // index of producers where memory lacks for that alone, and then the script goes on to its end.
-        assert!(rt;
-            is_told(status, &out, &err, printed),
-            "allocation {refused} fails"
-        );
-        passed = heap.calls() < refused;
-        if passed {
-            assert_eq!(rt; status, 0);
-            break;
-        }
-        if status == 3 {
-            printed = out.len();
+        came = replays(rt.alloc(), rt.alloc(), refused, printed);
+        assert!(rt; came != Came::Wrong, "allocation {refused} fails");
+        match came {
+            Came::Lacked(len) => printed = len,
+            Came::AtOnce => break,
+            _ => {}
         }
     }
-    assert!(rt; passed);
-    assert!(rt;
-        printed > 0,
-        "no line before the last allocation that is needed"
-    );
+    // A line was printed before the last allocation that is needed.
+    assert!(rt; came == Came::AtOnce && printed > 0, "{came:?}, {printed}");
     Ok(())
+}
+
+/// Whether a merge is printed, or nothing but that memory was wanting.
+fn is_merge_told(status: u8, out: &[u8], err: &[u8], is_asked: bool) -> bool {
+    if is_asked {
+        status == 3 && out.is_empty() && err == "kbroker: out of memory\n".as_bytes()
+    } else {
+        status == 0 && out == MERGED.as_slice() && err.is_empty()
+    }
+}
+
+/// Merges the pair in memory of which this allocation fails.
+fn merges<A: Allocator + Copy, B: Allocator + Copy>(alloc: A, inner: B, refused: u64) -> Came {
+    let heap = Refusing::new(inner, refused);
+    let mut input: &[u8] = &PAIR;
+    let mut out = Vec::new(alloc);
+    let mut err = Vec::new(alloc);
+    let status = run_merge(&heap, &mut input, &mut out, &mut err);
+    let is_asked = heap.calls() >= refused;
+    if is_merge_told(status, &out, &err, is_asked) {
+        came_of(status, out.len(), is_asked)
+    } else {
+        Came::Wrong
+    }
 }
 
 #[test]
 fn a_merge_is_printed_once_there_is_memory(rt: HostRuntime) -> Result<(), Fail> {
-    let mut passed = false;
+    let mut came = Came::Wrong;
     for refused in 1..MOST {
-        let heap = Refusing::new(rt.alloc(), refused);
-        let mut input: &[u8] = &PAIR;
-        let mut out = Vec::new(rt.alloc());
-        let mut err = Vec::new(rt.alloc());
-        let status = run_merge(&heap, &mut input, &mut out, &mut err);
-
-        passed = heap.calls() < refused;
-        let (wanted, image, line) = if passed {
-            (0, MERGED.as_slice(), "")
-        } else {
-            (3, b"".as_slice(), "kbroker: out of memory\n")
-        };
-        assert_eq!(rt; status, wanted, "allocation {refused} fails");
-        assert_eq!(rt; out.as_slice(), image, "allocation {refused} fails");
-        assert_eq!(rt;
-            err.as_slice(),
-            line.as_bytes(),
-            "allocation {refused} fails"
-        );
-        if passed {
+        came = merges(rt.alloc(), rt.alloc(), refused);
+        assert!(rt; came != Came::Wrong, "allocation {refused} fails");
+        if came == Came::AtOnce {
             break;
         }
     }
-    assert!(rt; passed);
+    assert_eq!(rt; came, Came::AtOnce);
     Ok(())
 }

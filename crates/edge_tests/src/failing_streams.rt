@@ -1,5 +1,6 @@
 //! Readers and writers that fail, at once and in mid-stream.
 use outside_batches::THREE;
+use std::alloc::{Allocator, Global};
 use std::io::{Error, ErrorKind, Read, Result, Write};
 use std::test::Fail;
 use tcp_edge::{TableError, run_line, run_table};
@@ -49,117 +50,98 @@ impl Write for Sink {
     }
 }
 
+/// How the streams of a table fail: whether the reader does at its end, how many bytes the writer takes,
+/// and whether it flushes.
+#[derive(Clone, Copy)]
+struct Streams {
+    fails: bool,
+    room: usize,
+    flushes: bool,
+}
+
+/// A writer that takes so many bytes.
+fn sink_of(streams: Streams) -> Sink {
+    Sink {
+        room: streams.room,
+        taken: 0,
+        flushes: streams.flushes,
+    }
+}
+
+/// Whether a table of these streams is answered so, and its writer takes so many bytes.
+fn is_answered<A: Allocator + Copy>(
+    alloc: A,
+    input: &[u8],
+    streams: Streams,
+    wanted: std::result::Result<(), TableError>,
+    taken: usize,
+) -> bool {
+    let mut source = Source {
+        left: input,
+        fails: streams.fails,
+    };
+    let mut sink = sink_of(streams);
+    run_table(alloc, &mut source, &mut sink) == wanted && sink.taken == taken
+}
+
+/// Whether the line for a table has this status, its writer takes so many bytes, and this comes on standard
+/// error.
+fn is_told(
+    alloc: Global,
+    input: &[u8],
+    streams: Streams,
+    wanted: (u8, &str),
+    taken: usize,
+) -> bool {
+    let mut source = Source {
+        left: input,
+        fails: streams.fails,
+    };
+    let mut sink = sink_of(streams);
+    let mut err = Vec::new(alloc);
+    let arguments = ["kbroker", "table"];
+    let status = run_line(alloc, &arguments, &mut source, &mut sink, &mut err);
+    status == wanted.0 && sink.taken == taken && err.as_slice() == wanted.1.as_bytes()
+}
+
+/// The status and the line on standard error for an answer.
+fn told_of(answer: std::result::Result<(), TableError>) -> (u8, &'static str) {
+    match answer {
+        Ok(()) => (0, ""),
+        Err(TableError::Read) => (4, "kbroker: read failed\n"),
+        Err(_) => (4, "kbroker: write failed\n"),
+    }
+}
+
 #[test]
 fn failing_streams(rt: HostRuntime) -> std::result::Result<(), Fail> {
-    let read = "kbroker: read failed\n";
-    let write = "kbroker: write failed\n";
-    // The input, whether the reader fails at its end, the writer's room, whether it flushes; the
-    // answer of the call, the bytes taken by the writer, the status and the line on standard error.
+    let read = Err(TableError::Read);
+    let write = Err(TableError::Write);
+    let three = THREE.as_slice();
+    let first = &THREE[..86];
+    // The input, whether the reader fails at its end, the writer's room, whether it flushes, the answer of
+    // the call, and the bytes taken by the writer.
     let rows = [
-        (
-            "none fails",
-            THREE.as_slice(),
-            false,
-            9,
-            true,
-            Ok(()),
-            4,
-            0,
-            "",
-        ),
-        (
-            "no read",
-            &[],
-            true,
-            9,
-            true,
-            Err(TableError::Read),
-            0,
-            4,
-            read,
-        ),
-        (
-            "a read within a batch",
-            &THREE[..86],
-            true,
-            9,
-            true,
-            Err(TableError::Read),
-            0,
-            4,
-            read,
-        ),
-        (
-            "a read after a batch",
-            &THREE,
-            true,
-            9,
-            true,
-            Err(TableError::Read),
-            0,
-            4,
-            read,
-        ),
-        (
-            "no write",
-            &THREE,
-            false,
-            0,
-            true,
-            Err(TableError::Write),
-            0,
-            4,
-            write,
-        ),
-        (
-            "a write within a line",
-            &THREE,
-            false,
-            3,
-            true,
-            Err(TableError::Write),
-            3,
-            4,
-            write,
-        ),
-        (
-            "a flush",
-            &THREE,
-            false,
-            9,
-            false,
-            Err(TableError::Write),
-            4,
-            4,
-            write,
-        ),
+        ("none fails", three, false, 9, true, Ok(()), 4),
+        ("no read", b"".as_slice(), true, 9, true, read, 0),
+        ("a read within a batch", first, true, 9, true, read, 0),
+        ("a read after a batch", three, true, 9, true, read, 0),
+        ("no write", three, false, 0, true, write, 0),
+        ("a write within a line", three, false, 3, true, write, 3),
+        ("a flush", three, false, 9, false, write, 4),
     ];
-    for (name, input, fails, room, flushes, answer, taken, status, line) in rows {
-        let mut source = Source { left: input, fails };
-        let mut sink = Sink {
+    for (name, input, fails, room, flushes, answer, taken) in rows {
+        let streams = Streams {
+            fails,
             room,
-            taken: 0,
             flushes,
         };
-        assert_eq!(rt;
-            run_table(rt.alloc(), &mut source, &mut sink),
-            answer,
+        let told = told_of(answer);
+        assert!(rt;
+            is_answered(rt.alloc(), input, streams, answer, taken),
             "{name}"
         );
-        assert_eq!(rt; sink.taken, taken, "{name}");
-
-        let mut source = Source { left: input, fails };
-        let mut sink = Sink {
-            room,
-            taken: 0,
-            flushes,
-        };
-        let mut err = Vec::new(rt.alloc());
-        let arguments = ["kbroker", "table"];
-        let answered = run_line(rt.alloc(), &arguments, &mut source, &mut sink, &mut err);
-        assert_eq!(rt; answered, status, "{name}");
-        assert_eq!(rt; sink.taken, taken, "{name}");
-        assert_eq!(rt; err.as_slice(), line.as_bytes(), "{name}");
+        assert!(rt; is_told(rt.alloc(), input, streams, told, taken), "{name}");
     }
     Ok(())
 }
