@@ -202,6 +202,17 @@ fn do_lines<S: BatchStore, R: Read, W: Write>(
     Err(ReplayError::Read)
 }
 
+/// Does the lines of a script over a cluster of its own.
+fn do_script<S: BatchStore, R: Read, W: Write>(
+    alloc: S::Alloc,
+    reader: &mut R,
+    printer: &mut Printer<'_, W, S::Alloc>,
+) -> Result<(), ReplayError> {
+    let mut stage: Stage<S> = Stage::new(alloc);
+    let mut script = Script::new(alloc, reader);
+    do_lines(&mut stage, &mut script, printer)
+}
+
 /// Reads a script to the end of the input, makes its events happen in a new cluster, and prints what
 /// comes of each line. A line is done, and its print handed on, before the next one is looked at; what is
 /// printed goes through a buffer, which is emptied and flushed at the end, also where the script stops
@@ -220,9 +231,7 @@ pub fn replay<S: BatchStore, R: Read, W: Write>(
     let Ok(mut printer) = Printer::new(alloc, writer) else {
         return Err(ReplayError::OutOfMemory);
     };
-    let mut script = Script::new(alloc, reader);
-    let mut stage: Stage<S> = Stage::new(alloc);
-    let done = do_lines(&mut stage, &mut script, &mut printer);
+    let done = do_script::<S, R, W>(alloc, reader, &mut printer);
     if done == Err(ReplayError::Write) {
         return done;
     }

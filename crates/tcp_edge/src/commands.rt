@@ -1,8 +1,8 @@
 //! The commands and arguments that the program takes.
 
 ghost use Rattle.std.specs.Prelude.{◌≡◌, IfOk, false};
-ghost use Rattle.clap.specs.Words.{app_of, rule_of};
-ghost use Rattle.tcp_edge.specs.CommandLine.{IsRoles, Roles, kbroker, role_rule, topics_rule, port_rule, connections_rule};
+ghost use Rattle.clap.specs.Words.{app_of, rule_of, with_subcommand};
+ghost use Rattle.tcp_edge.specs.CommandLine.{IsRoles, Roles, kbroker, session_app, serve_app, role_rule, topics_rule, port_rule, connections_rule};
 
 use clap::{Arg, Command, value_parser};
 use std::alloc::{AllocError, Global};
@@ -114,18 +114,32 @@ fn connections_arg<'a>(alloc: Global) -> Arg<'a>
         .value_parser(value_parser!(u32))
 }
 
-/// What the program can be asked for.
-pub(crate) fn command<'a>(alloc: Global) -> Result<Command<'a>, AllocError>
-    ensures { IfOk result (λ command. (roles : Roles) × IsRoles roles
-        × (app_of command ≡ kbroker roles)) }
+/// The command, with the subcommand `session`.
+fn with_session<'a>(
+    kbroker: Command<'a>,
+    alloc: Global,
+    roles: &'a [&'a str],
+) -> Result<Command<'a>, AllocError>
+    ensures { IfOk result (λ command.
+        app_of command ≡ with_subcommand (app_of kbroker.entry) (session_app roles.entry).top) }
 {
-    let roles = roles();
-    let table = Command::new(alloc, "table").about(ABOUT_TABLE);
     let session = Command::new(alloc, "session")
         .about(ABOUT_SESSION)
         .after_help(EXAMPLE_SESSION)
         .arg(role_arg(alloc, roles))?
         .arg(topics_arg(alloc))?;
+    kbroker.subcommand(session)
+}
+
+/// The command, with the subcommand `serve`.
+fn with_serve<'a>(
+    kbroker: Command<'a>,
+    alloc: Global,
+    roles: &'a [&'a str],
+) -> Result<Command<'a>, AllocError>
+    ensures { IfOk result (λ command.
+        app_of command ≡ with_subcommand (app_of kbroker.entry) (serve_app roles.entry).top) }
+{
     let serve = Command::new(alloc, "serve")
         .about(ABOUT_SERVE)
         .after_help(EXAMPLE_SERVE)
@@ -133,17 +147,26 @@ pub(crate) fn command<'a>(alloc: Global) -> Result<Command<'a>, AllocError>
         .arg(role_arg(alloc, roles))?
         .arg(connections_arg(alloc))?
         .arg(topics_arg(alloc))?;
+    kbroker.subcommand(serve)
+}
+
+/// What the program can be asked for.
+pub(crate) fn command<'a>(alloc: Global) -> Result<Command<'a>, AllocError>
+    ensures { IfOk result (λ command. (roles : Roles) × IsRoles roles
+        × (app_of command ≡ kbroker roles)) }
+{
+    let roles = roles();
+    let table = Command::new(alloc, "table").about(ABOUT_TABLE);
+    let first = Command::new(alloc, "kbroker")
+        .version("0.1.0")
+        .about(ABOUT)
+        .subcommand_required(true)
+        .subcommand(table)?;
+    let second = with_session(first, alloc, roles)?;
+    let third = with_serve(second, alloc, roles)?;
     let replay = Command::new(alloc, "replay")
         .about(ABOUT_REPLAY)
         .after_help(SCRIPT);
     let merge = Command::new(alloc, "merge").about(ABOUT_MERGE);
-    Command::new(alloc, "kbroker")
-        .version("0.1.0")
-        .about(ABOUT)
-        .subcommand_required(true)
-        .subcommand(table)?
-        .subcommand(session)?
-        .subcommand(serve)?
-        .subcommand(replay)?
-        .subcommand(merge)
+    third.subcommand(replay)?.subcommand(merge)
 }
