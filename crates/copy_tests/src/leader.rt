@@ -11,12 +11,14 @@ fn empty_log<A: Allocator + Copy>(alloc: A) -> Result<LeaderLog<VecStore<A>>, Al
     LeaderLog::from_copy(PartitionLog::new(alloc)).map_err(|_| AllocError)
 }
 
-/// A batch that is sent: a producer's, with its epoch and its sequence number, or one of another
-/// program.
+/// A batch that is sent: a producer's, with its epoch and its sequence number, or one of no producer.
 #[derive(Clone, Copy)]
 enum Sent {
     Of(i64, i16, i32),
-    Other(&'static [u8]),
+    Emptied,
+    WithoutKey,
+    Nine,
+    Three,
 }
 
 /// The base offset that the leader answers, and whether it had appended the batch before.
@@ -45,7 +47,10 @@ fn is_right<A: Allocator + Copy>(
 ) -> Result<bool, Fail> {
     match batch {
         Sent::Of(id, epoch, sequence) => is_answered(log, &sent(id, epoch, sequence), wanted),
-        Sent::Other(bytes) => is_answered(log, bytes, wanted),
+        Sent::Emptied => is_answered(log, &EMPTIED, wanted),
+        Sent::WithoutKey => is_answered(log, &NO_KEY, wanted),
+        Sent::Nine => is_answered(log, &NINE, wanted),
+        Sent::Three => is_answered(log, &THREE, wanted),
     }
 }
 
@@ -59,12 +64,8 @@ type Row = (&'static str, Sent, Answer);
 
 /// Batches that are sent to an empty log, five of them of a producer.
 const OF_SEVEN: [Row; 11] = [
-    (
-        "records missing",
-        Sent::Other(&EMPTIED),
-        Err(AppendError::NotWhole),
-    ),
-    ("a null key", Sent::Other(&NO_KEY), Err(AppendError::NoKey)),
+    ("records missing", Sent::Emptied, Err(AppendError::NotWhole)),
+    ("a null key", Sent::WithoutKey, Err(AppendError::NoKey)),
     (
         "an id of -2",
         Sent::Of(-2, 0, 0),
@@ -85,7 +86,7 @@ const OF_SEVEN: [Row; 11] = [
     ("the third", Sent::Of(7, 0, 2), Ok((2, false))),
     ("the fourth", Sent::Of(7, 0, 3), Ok((3, false))),
     ("the fifth", Sent::Of(7, 0, 4), Ok((4, false))),
-    ("of no producer", Sent::Other(&NINE), Ok((5, false))),
+    ("of no producer", Sent::Nine, Ok((5, false))),
 ];
 
 /// What comes next, some of it again.
@@ -104,7 +105,7 @@ const AGAIN: [Row; 7] = [
         Sent::Of(7, 0, 7),
         Err(AppendError::OutOfOrder),
     ),
-    ("three records", Sent::Other(&THREE), Ok((7, false))),
+    ("three records", Sent::Three, Ok((7, false))),
 ];
 
 /// What comes last: of another producer and of other epochs.
