@@ -109,12 +109,12 @@ fn is_said<A: Allocator + Copy>(alloc: A, buffer: &mut BytesMut<A>, wanted: &str
     }
 }
 
-/// Whether these words say what is taken of these bytes, and the bytes stay.
+/// Whether these words say what is taken of these bytes, and the bytes stay. Where there are none, the
+/// buffer is a new one.
 fn is_front<A: Allocator + Copy>(alloc: A, bytes: &[u8], wanted: &str) -> bool {
-    match BytesMut::copy_from_slice(alloc, bytes) {
-        Ok(mut buffer) => is_said(alloc, &mut buffer, wanted) && buffer.as_slice() == bytes,
-        Err(_) => false,
-    }
+    let mut buffer = BytesMut::new(alloc);
+    let is_filled = bytes.is_empty() || buffer.extend_from_slice(bytes).is_ok();
+    is_filled && is_said(alloc, &mut buffer, wanted) && buffer.as_slice() == bytes
 }
 
 #[test]

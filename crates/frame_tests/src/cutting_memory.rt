@@ -16,7 +16,7 @@ const LAST: &[u8] = b"\0\0\0\x01c";
 /// What came of a call in memory of which one allocation fails.
 #[derive(Clone, Copy, PartialEq, Eq)]
 enum Came {
-    /// It succeeded: that allocation wasn't asked for.
+    /// It succeeded when it was first made.
     AtOnce,
     /// It lacked memory and changed nothing, and it succeeded when it was made again.
     Later,

@@ -179,8 +179,8 @@ fn not_short<A: Allocator + Copy>(alloc: A, frame: &[u8]) -> Option<usize> {
     wrong
 }
 
-/// Whether the frame with a byte behind it is refused as too long.
-fn is_too_long<A: Allocator + Copy>(alloc: A, frame: &[u8]) -> bool {
+/// Whether the frame with a byte behind it is refused for its trailing bytes.
+fn has_trailing_byte<A: Allocator + Copy>(alloc: A, frame: &[u8]) -> bool {
     match frame.to_vec(alloc) {
         Ok(mut longer) => { longer.push(0).is_ok() && is_answered(alloc, &longer, "TrailingBytes") }
         Err(_) => false,
@@ -190,7 +190,10 @@ fn is_too_long<A: Allocator + Copy>(alloc: A, frame: &[u8]) -> bool {
 #[test]
 fn cut_frames_are_short(rt: HostRuntime) {
     for frame in [LIST_OFFSETS, PRODUCE, FETCH, METADATA] {
-        let wrong = (not_short(rt.alloc(), frame), is_too_long(rt.alloc(), frame));
+        let wrong = (
+            not_short(rt.alloc(), frame),
+            has_trailing_byte(rt.alloc(), frame),
+        );
         assert_eq!(rt;
             wrong,
             (None, true),

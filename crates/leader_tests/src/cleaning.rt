@@ -11,7 +11,7 @@ use std::test::Fail;
 type VecLog<A> = PartitionLog<VecStore<A>>;
 
 /// Delivers a batch, and tells whether the copy answers so.
-fn is_delivered<A: Allocator + Copy>(
+pub(crate) fn is_delivered<A: Allocator + Copy>(
     copy: &mut VecLog<A>,
     bytes: &[u8],
     wanted: Result<Delivered, DeliverError>,

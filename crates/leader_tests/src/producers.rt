@@ -1,7 +1,9 @@
-//! A leader's log of many producers: what it answers to each, with an index of producers and without.
+//! A leader's log of many producers: what it answers to each, with an index of producers and without, and
+//! where memory lacks for the index.
 use crate::answers::{Answer, VecLeader, answer};
-use outside_batches::sent;
-use partition_log::{AppendError, CleanReport, LeaderLog, PartitionLog};
+use crate::cleaning::is_delivered;
+use outside_batches::{one, sent};
+use partition_log::{AppendError, CleanReport, Delivered, LeaderLog, PartitionLog};
 use refusing_alloc::Refusing;
 use segment::VecStore;
 use std::alloc::{AllocError, Allocator};
@@ -81,15 +83,10 @@ fn is_cleaned<A: Allocator + Copy>(log: &mut VecLeader<A>) -> bool {
     }
 }
 
-/// The name of the first batch that the leader answers in another way; empty where there is none.
-fn first_wrong<A: Allocator + Copy>(log: &mut VecLeader<A>, rows: &[Row]) -> &'static str {
-    let mut wrong = "";
-    for &(name, producer, epoch, sequence, wanted) in rows {
-        if wrong.is_empty() && answer_to(log, producer, epoch, sequence) != Some(wanted) {
-            wrong = name;
-        }
-    }
-    wrong
+/// Whether the leader answers so to the batch of a row.
+fn is_answered<A: Allocator + Copy>(log: &mut VecLeader<A>, row: &Row) -> bool {
+    let &(_, producer, epoch, sequence, wanted) = row;
+    answer_to(log, producer, epoch, sequence) == Some(wanted)
 }
 
 /// A log with the batches of another, and without its index of producers.
@@ -98,13 +95,23 @@ fn without_index<A: Allocator + Copy>(log: &VecLeader<A>) -> Result<VecLeader<A>
     LeaderLog::from_copy(copy).map_err(|_| AllocError)
 }
 
-/// The first batch that a log answers in another way, and the first that it does without its index.
+/// The name of the first batch that a log answers in another way, and of the first that a log without an
+/// index does, made anew for each batch; empty where there is none.
 fn first_wrongs<A: Allocator + Copy>(
     log: &mut VecLeader<A>,
     rows: &[Row],
 ) -> Result<(&'static str, &'static str), AllocError> {
-    let mut without = without_index(log)?;
-    Ok((first_wrong(log, rows), first_wrong(&mut without, rows)))
+    let mut wrongs = ("", "");
+    for row in rows {
+        let mut without = without_index(log)?;
+        if !is_answered(log, row) && wrongs.0.is_empty() {
+            wrongs.0 = row.0;
+        }
+        if !is_answered(&mut without, row) && wrongs.1.is_empty() {
+            wrongs.1 = row.0;
+        }
+    }
+    Ok(wrongs)
 }
 
 #[test]
@@ -127,12 +134,13 @@ fn each_producer_has_its_window(rt: HostRuntime) -> Result<(), Fail> {
     let copy = PartitionLog::<VecStore<_>>::new(rt.alloc());
     let mut log = LeaderLog::from_copy(copy).map_err(|_| AllocError)?;
     assert!(rt; are_appended(&mut log) && is_cleaned(&mut log));
-    // with an index, and without
+    // each row with an index, and without
     assert_eq!(rt; first_wrongs(&mut log, &rows), Ok(("", "")));
     Ok(())
 }
 
-/// Whether a new log takes the batches, and knows each of them again before and after a cleaning.
+/// Whether a new log takes the batches and is cleaned, each call again where memory failed, and knows each
+/// of the batches before the cleaning and after it.
 fn knows_its_producers<A: Allocator + Copy>(heap: A) -> bool {
     match LeaderLog::from_copy(PartitionLog::<VecStore<_>>::new(heap)) {
         Ok(mut log) => {
@@ -146,7 +154,7 @@ fn knows_its_producers<A: Allocator + Copy>(heap: A) -> bool {
 }
 
 #[test]
-fn the_index_is_no_reason_to_fail(rt: HostRuntime) -> Result<(), Fail> {
+fn producers_are_known_after_an_allocation_that_fails(rt: HostRuntime) -> Result<(), Fail> {
     let mut passed = false;
     for refused in 1..MOST {
         let heap = Refusing::new(rt.alloc(), refused);
@@ -158,4 +166,106 @@ fn the_index_is_no_reason_to_fail(rt: HostRuntime) -> Result<(), Fail> {
     }
     assert!(rt; passed);
     Ok(())
+}
+
+/// A new log.
+fn new_log<A: Allocator + Copy>(heap: A) -> Option<VecLeader<A>> {
+    LeaderLog::from_copy(PartitionLog::<VecStore<_>>::new(heap)).ok()
+}
+
+/// Whether a new log appends a batch of no producer.
+fn appends_plain<A: Allocator + Copy>(heap: A) -> bool {
+    match new_log(heap) {
+        Some(mut log) => answer(&mut log, &one(0, 0, b'k', b'v')) == Some(Ok((0, false))),
+        None => false,
+    }
+}
+
+/// Whether a new log appends the first batch of a producer, and knows it again.
+fn appends_sent<A: Allocator + Copy>(heap: A) -> bool {
+    match new_log(heap) {
+        Some(mut log) => {
+            let is_appended = answer_to(&mut log, 7, 0, 0) == Some(Ok((0, false)));
+            is_appended && answer_to(&mut log, 7, 0, 0) == Some(Ok((0, true)))
+        }
+        None => false,
+    }
+}
+
+/// A batch of no producer asks for the copy's allocations alone. Those that one of a producer asks for
+/// behind them are the index's.
+#[test]
+fn a_batch_is_appended_without_the_index(rt: HostRuntime) {
+    let plain = Refusing::new(rt.alloc(), 0);
+    let sent = Refusing::new(rt.alloc(), 0);
+    assert!(rt; appends_plain(&plain) && appends_sent(&sent) && plain.calls() < sent.calls());
+    for before in plain.calls()..sent.calls() {
+        let heap = Refusing::new(rt.alloc(), before.saturating_add(1));
+        assert!(rt;
+            appends_sent(&heap) && before < heap.calls(),
+            "behind {before} allocations"
+        );
+    }
+}
+
+/// What goes where the first of two records of a key does, and no batch.
+const FIRST_WENT: CleanReport = CleanReport {
+    records: 1,
+    tombstones: 0,
+    batches: 0,
+};
+
+/// A copy with two batches of a producer.
+fn copy_of_two<A: Allocator + Copy>(heap: A) -> Option<PartitionLog<VecStore<A>>> {
+    let first = sent(7, 0, 0);
+    let mut second = sent(7, 0, 1);
+    // its base offset
+    second[7] = 1;
+    let mut copy = PartitionLog::<VecStore<_>>::new(heap);
+    let is_first = is_delivered(&mut copy, &first, Ok(Delivered::Added));
+    if is_first && is_delivered(&mut copy, &second, Ok(Delivered::Added)) {
+        Some(copy)
+    } else {
+        None
+    }
+}
+
+/// Whether a copy of two batches is cleaned.
+fn cleans_copy<A: Allocator + Copy>(heap: A) -> bool {
+    match copy_of_two(heap) {
+        Some(mut copy) => copy.clean(2, 0) == Ok(FIRST_WENT),
+        None => false,
+    }
+}
+
+/// A log of two batches, without an index.
+fn log_of_two<A: Allocator + Copy>(heap: A) -> Option<VecLeader<A>> {
+    LeaderLog::from_copy(copy_of_two(heap)?).ok()
+}
+
+/// Whether a log of two batches is cleaned, and knows them again.
+fn cleans_log<A: Allocator + Copy>(heap: A) -> bool {
+    match log_of_two(heap) {
+        Some(mut log) => {
+            log.clean(2, 0) == Ok(FIRST_WENT)
+                && answer_to(&mut log, 7, 0, 0) == Some(Ok((0, true)))
+                && answer_to(&mut log, 7, 0, 1) == Some(Ok((1, true)))
+        }
+        None => false,
+    }
+}
+
+/// A log asks for the allocations of its copy. Those that it asks for behind them are the index's.
+#[test]
+fn a_log_is_cleaned_without_the_index(rt: HostRuntime) {
+    let copy = Refusing::new(rt.alloc(), 0);
+    let log = Refusing::new(rt.alloc(), 0);
+    assert!(rt; cleans_copy(&copy) && cleans_log(&log) && copy.calls() < log.calls());
+    for before in copy.calls()..log.calls() {
+        let heap = Refusing::new(rt.alloc(), before.saturating_add(1));
+        assert!(rt;
+            cleans_log(&heap) && before < heap.calls(),
+            "behind {before} allocations"
+        );
+    }
 }

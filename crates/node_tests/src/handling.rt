@@ -34,7 +34,7 @@ const NOT_STORED: &[u8] =
 const MOST: u64 = 60;
 
 /// The Produce request with these acks and the batch `a` = 1.
-pub(crate) fn produce<A: Allocator + Copy>(alloc: A, acks: u8) -> Result<Vec<u8, A>, AllocError> {
+fn produce<A: Allocator + Copy>(alloc: A, acks: u8) -> Result<Vec<u8, A>, AllocError> {
     let mut frame = Vec::new(alloc);
     for (index, byte) in PRODUCE.iter().enumerate() {
         frame.push(if index == 13 { acks } else { *byte })?;
@@ -70,7 +70,7 @@ fn leader<A: Allocator + Copy>(alloc: A) -> Result<Node<VecStore<A>>, ConfigErro
 
 /// Whether a broker answers the Produce request with these acks so, and the bytes that go out are then
 /// those of one response.
-fn is_produced<S: BatchStore, A: Allocator + Copy>(
+pub(crate) fn is_produced<S: BatchStore, A: Allocator + Copy>(
     alloc: A,
     node: &mut Node<S>,
     out: &mut Vec<u8, A>,
@@ -165,9 +165,12 @@ fn a_batch_is_stored_once_there_is_memory(rt: HostRuntime) -> Result<(), Fail> {
     let mut came = Came::Wrong;
     for more in 1..MOST {
         // The broker has memory; one allocation behind it fails.
-        let heap = Refusing::new(rt.alloc(), counted.calls().saturating_add(more));
+        let refused = counted.calls().saturating_add(more);
+        let heap = Refusing::new(rt.alloc(), refused);
         came = stores_in(&heap, &frame);
-        assert!(rt; came != Came::Wrong, "allocation {more} fails");
+        let is_asked = heap.calls() >= refused;
+        let is_right = came != Came::Wrong && is_asked == (came != Came::Stored);
+        assert!(rt; is_right, "allocation {more} fails: {came:?}");
         met = [
             met[0] || came == Came::NoRoom,
             met[1] || came == Came::NoLog,

@@ -15,7 +15,7 @@ const MOST: u64 = 100;
 pub(crate) enum Came {
     /// It succeeded: that allocation wasn't asked for.
     AtOnce,
-    /// It lacked memory and changed nothing, and it succeeded when it was made again.
+    /// It lacked memory and gave nothing, and it succeeded when it was made again.
     Later,
     /// Something else.
     Wrong,

@@ -1,9 +1,9 @@
 //! Fetch and Metadata under each allocation failing in turn: they are answered once there is memory.
 
 use crate::configs::configured;
-use crate::handling::{answer, produce};
+use crate::handling::{answer, is_produced};
 use crate::memory::{Came, at_once, later};
-use broker_core::{ConfigError, Node, Role};
+use broker_core::{Answer, Node, Role};
 use outside_batches::A_IS_1;
 use refusing_alloc::Refusing;
 use segment::{BatchStore, VecStore};
@@ -28,16 +28,16 @@ const DESCRIBED: &[u8] =
 /// More allocations than a request asks for.
 const MOST: u64 = 60;
 
-/// A broker whose partition 0 of `t` has the batch `a` = 1, if the memory suffices.
-fn filled<A: Allocator + Copy>(alloc: A) -> Result<Node<VecStore<A>>, ConfigError> {
-    let config = configured(alloc, Role::Leader, 3, &[("t", 1)], 0);
-    let mut node = Node::new(alloc, config.map_err(|_| ConfigError::OutOfMemory)?)?;
+/// A broker that stored the batch `a` = 1 in partition 0 of `t`, and said so; `None` where something failed.
+fn filled<A: Allocator + Copy>(alloc: A) -> Option<Node<VecStore<A>>> {
+    let config = configured(alloc, Role::Leader, 3, &[("t", 1)], 0).ok()?;
+    let mut node = Node::new(alloc, config).ok()?;
     let mut out = Vec::new(alloc);
-    match produce(alloc, 1) {
-        Ok(frame) => answer(&mut node, &frame, &mut out),
-        Err(_) => return Err(ConfigError::OutOfMemory),
-    };
-    Ok(node)
+    if is_produced(alloc, &mut node, &mut out, 1, Answer::Reply) {
+        Some(node)
+    } else {
+        None
+    }
 }
 
 /// Sends a request to a broker, again where it isn't answered.
@@ -50,20 +50,27 @@ fn reads<S: BatchStore, A: Allocator + Copy>(
     if answer(node, request, out).is_some() {
         return at_once(out.as_slice() == response);
     }
-    let is_same = out.is_empty();
+    let is_unwritten = out.is_empty();
     let succeeds = answer(node, request, out).is_some() && out.as_slice() == response;
-    later(is_same && succeeds)
+    later(is_unwritten && succeeds)
 }
 
-/// The same to a filled broker in memory of which this allocation fails.
+/// The same to a filled broker in memory of which this allocation fails. It comes later where that allocation
+/// was asked for, and nowhere else.
 fn reads_in<A: Allocator + Copy>(inner: A, refused: u64, request: &[u8], response: &[u8]) -> Came {
     let heap = Refusing::new(inner, refused);
-    match filled(&heap) {
-        Ok(mut node) => {
+    let came = match filled(&heap) {
+        Some(mut node) => {
             let mut out = Vec::new(&heap);
             reads(&mut node, request, response, &mut out)
         }
-        Err(_) => Came::Wrong,
+        None => Came::Wrong,
+    };
+    let is_asked = heap.calls() >= refused;
+    if is_asked == (came == Came::Later) {
+        came
+    } else {
+        Came::Wrong
     }
 }
 
@@ -97,7 +104,7 @@ fn fetched<A: Allocator + Copy>(alloc: A) -> Result<Vec<u8, A>, AllocError> {
 #[test]
 fn reads_are_answered_once_there_is_memory(rt: HostRuntime) -> Result<(), Fail> {
     let counted = Refusing::new(rt.alloc(), 0);
-    filled(&counted)?;
+    assert!(rt; filled(&counted).is_some());
     let fetched = fetched(rt.alloc())?;
     for (request, response) in [(FETCH, fetched.as_slice()), (DESCRIBE, DESCRIBED)] {
         let (more, came) = first_at_once(rt.alloc(), counted.calls(), request, response);
