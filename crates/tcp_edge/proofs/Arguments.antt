@@ -1,6 +1,6 @@
 -- Lemmas on the program's arguments.
 use Rattle.std.proofs.Common.{◌≡◌, true, List, [], ◌∷◌, map, ap, refl, sym, subst, inl, inr, false, bytes_eq, ◌∙◌, codes, Option, Some, None}
-use Rattle.std.specs.Prelude.{ℕ, option_map, unwrap_or, IfSome, Result, Ok, Err}
+use Rattle.std.specs.Prelude.{ℕ, option_map, unwrap_or, MatchOption, Result, Ok, Err}
 use Rattle.std.specs.Str.Parse.{ParsesUnsigned}
 use Rattle.std.specs.Borrow.{Bor}
 use Rattle.std.proofs.lemmas.Option.{none-some, same_Some}
@@ -17,7 +17,7 @@ use Rattle.clap.specs.declared.parser.matches.Found.{Found}
 use Rattle.clap.specs.declared.parser.matches.ArgMatches.{ArgMatches}
 use Rattle.clap.proofs.OnLiterals.{clap_on_literals}
 use Rattle.clap.proofs.WalkLemmas.{first_value-rows, raw_values-rows}
-use Rattle.tcp_edge.specs.CommandLine.{kbroker, AsksForTable, AsksForMerge, Finds, Names, Roles, IsRoles, IsNumberOf, IsPort}
+use Rattle.tcp_edge.specs.CommandLine.{kbroker, AsksForTable, AsksForMerge, Finds, Names, Roles, IsRoles, HasTopics, IsNumberOf, IsPort, topic_words}
 
 -- ---- the table
 
@@ -130,18 +130,22 @@ only_memory app roles arguments error name rows are is finds kinds =
     let has : HasKind [] error = subst (λ (ks : List _). HasKind ks error) none (kinds (is_free_kbroker app roles is)) in
     elim has [ inl h ↦ h | inr bad ↦ absurd bad ]
 
-pub session_fault : (name : Text) (fault : LineFault) → name ≡ codes "session" → IsConfigFault fault → IsFaulty name fault
-session_fault name (Clap error) is h = h
-session_fault name (Topic why) is h = (
+pub session_fault : (name : Text) (rows : List Row) (fault : LineFault) → name ≡ codes "session" → IsConfigFault (topic_words rows) fault
+    → IsFaulty name rows fault
+session_fault name rows (Clap error) is h = h
+session_fault name rows (Topic why) is h = (
   λ table. let bad : true ≡ false = ap (bytes_eq (codes "session")) (sym is ∙ table) in cc,
   λ merge. let bad : true ≡ false = ap (bytes_eq (codes "session")) (sym is ∙ merge) in cc,
+  h,
 )
 
-pub serve_fault : (name : Text) (fault : LineFault) → name ≡ codes "serve" → IsConfigFault fault → IsFaulty name fault
-serve_fault name (Clap error) is h = h
-serve_fault name (Topic why) is h = (
+pub serve_fault : (name : Text) (rows : List Row) (fault : LineFault) → name ≡ codes "serve" → IsConfigFault (topic_words rows) fault
+    → IsFaulty name rows fault
+serve_fault name rows (Clap error) is h = h
+serve_fault name rows (Topic why) is h = (
   λ table. let bad : true ≡ false = ap (bytes_eq (codes "serve")) (sym is ∙ table) in cc,
   λ merge. let bad : true ≡ false = ap (bytes_eq (codes "serve")) (sym is ∙ merge) in cc,
+  h,
 )
 
 -- ---- what a parse gives, where the table is asked for
@@ -170,7 +174,7 @@ no_other arguments Merge asks is =
     let bad : true ≡ false = ap (bytes_eq (codes "table")) (is (codes "table") [] (finds_table arguments asks)) in cc
 
 pub table_fault : (arguments : List Text) (fault : LineFault) → AsksForTable arguments
-    → ((name : Text) (rows : List Row) → Finds arguments name rows → IsFaulty name fault) → IsOutOfMemory fault
+    → ((name : Text) (rows : List Row) → Finds arguments name rows → IsFaulty name rows fault) → IsOutOfMemory fault
 table_fault arguments (Clap error) asks is = is (codes "table") [] (finds_table arguments asks)
 table_fault arguments (Topic why) asks is = absurd ((is (codes "table") [] (finds_table arguments asks)).0 refl)
 
@@ -188,7 +192,7 @@ no_other_than_merge arguments Replay asks is =
     let bad : true ≡ false = ap (bytes_eq (codes "merge")) (is (codes "merge") [] (finds_merge arguments asks)) in cc
 
 pub merge_fault : (arguments : List Text) (fault : LineFault) → AsksForMerge arguments
-    → ((name : Text) (rows : List Row) → Finds arguments name rows → IsFaulty name fault) → IsOutOfMemory fault
+    → ((name : Text) (rows : List Row) → Finds arguments name rows → IsFaulty name rows fault) → IsOutOfMemory fault
 merge_fault arguments (Clap error) asks is = is (codes "merge") [] (finds_merge arguments asks)
 merge_fault arguments (Topic why) asks is = absurd ((is (codes "merge") [] (finds_merge arguments asks)).1 refl)
 
@@ -205,13 +209,24 @@ no_plan arguments Merge plan asks is of = of
 -- ---- and where one is
 
 pub plan_found : (arguments : List Text) (rows : List Row) (asked : Asked) (plan : Option Plan) → Finds arguments (codes "serve") rows
-    → ((name : Text) (rows : List Row) → Finds arguments name rows → IsAsked name rows asked) → IsPlanOf asked plan → IfSome plan (IsListener rows)
-plan_found arguments rows Table plan finds is of = subst (λ (p : Option Plan). IfSome p (IsListener rows)) (sym of) tt
-plan_found arguments rows (Session g) plan finds is of = subst (λ (p : Option Plan). IfSome p (IsListener rows)) (sym of) tt
+    → ((name : Text) (rows : List Row) → Finds arguments name rows → IsAsked name rows asked) → IsPlanOf asked plan
+    → MatchOption plan (¬ HasTopics (topic_words rows)) (IsListener rows)
+plan_found arguments rows Table plan finds is of = absurd ((is (codes "serve") rows finds).1 refl)
+plan_found arguments rows (Session g) plan finds is of =
+    let bad : true ≡ false = ap (bytes_eq (codes "serve")) (is (codes "serve") rows finds).0 in cc
 plan_found arguments rows (Serve asked) plan finds is of =
-    subst (λ (p : Option Plan). IfSome p (IsListener rows)) (sym of) (is (codes "serve") rows finds).1
-plan_found arguments rows Replay plan finds is of = subst (λ (p : Option Plan). IfSome p (IsListener rows)) (sym of) tt
-plan_found arguments rows Merge plan finds is of = subst (λ (p : Option Plan). IfSome p (IsListener rows)) (sym of) tt
+    subst (λ (p : Option Plan). MatchOption p (¬ HasTopics (topic_words rows)) (IsListener rows)) (sym of) (is (codes "serve") rows finds).1
+plan_found arguments rows Replay plan finds is of =
+    let bad : true ≡ false = ap (bytes_eq (codes "serve")) (is (codes "serve") rows finds) in cc
+plan_found arguments rows Merge plan finds is of =
+    let bad : true ≡ false = ap (bytes_eq (codes "serve")) (is (codes "serve") rows finds) in cc
 
-pub port_found : (rows : List Row) (plan : Plan) → IsListener rows plan → IsPort rows plan.config.port
-port_found rows plan is = subst (IsPort rows) (sym is.config.port_is) is.is_port
+-- where memory isn't short, only a topic is at fault
+pub topic_fault : (arguments : List Text) (rows : List Row) (fault : LineFault) → Finds arguments (codes "serve") rows
+    → ((name : Text) (rows : List Row) → Finds arguments name rows → IsFaulty name rows fault) → ¬ IsOutOfMemory fault
+    → ¬ HasTopics (topic_words rows)
+topic_fault arguments rows (Clap error) finds is enough = absurd (enough (is (codes "serve") rows finds))
+topic_fault arguments rows (Topic why) finds is enough = (is (codes "serve") rows finds).2
+
+pub port_found : (rows : List Row) (plan : Plan) → IsListener rows plan → IsPort rows plan.config.port × HasTopics (topic_words rows)
+port_found rows plan is = (subst (IsPort rows) (sym is.config.port_is) is.is_port, (_, is.config.topics))

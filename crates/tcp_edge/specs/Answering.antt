@@ -1,10 +1,17 @@
 -- What a session does, from the bytes that come in to the bytes that go out.
-use Rattle.std.specs.Prelude.{◌⊎◌, ℕ, ◌<◌, List, [], length, Option}
+use Rattle.std.specs.Prelude.{◌≡◌, ◌⊎◌, ℕ, ◌<◌, true, List, [], length, Option}
 use Rattle.std.specs.Io.KnownBytes.{Consumes, Appends, IsAtEnd}
 use Rattle.request_frames.specs.declared.error.FrameError.{FrameError}
 use Rattle.request_frames.specs.Frames.{IsIncomplete}
+use Rattle.streams.specs.State.{SourceState, SinkState}
 use Rattle.broker_core.specs.State.{State}
 use Rattle.broker_core.specs.Streams.{Answered, RefusesNext}
+use Rattle.broker_core.specs.declared.session.Ended.{Ended}
+use Rattle.broker_core.specs.declared.session.SessionError.{SessionError}
+use Rattle.broker_core.specs.declared.session.SessionError.TheVariants.{Write}
+use Rattle.broker_core.specs.Sessions.{EndsAs, StopsAs}
+use Rattle.tcp_edge.specs.declared.error.SessionFault.{SessionFault}
+use Rattle.tcp_edge.specs.declared.error.SessionFault.TheVariants.{EndsInside, Stopped}
 
 -- What was read, to the reader's end, is frames, and what was written answers them all, from a state on.
 pub record AnswersFrom (s : State) (left left' held held' : Option (List ℕ)) (after : State) : Type 0 where
@@ -31,3 +38,16 @@ pub record RefusesFrom (s : State) (left left' held held' : Option (List ℕ)) (
   pub appends : Appends held held' output
   pub answers : Answered s input output after frames rest
   pub stops : StopsAt left' rest
+
+-- the input came to its end, what was written answers its frames, and a write or a flush has failed
+abbrev pub IsUnflushed : State → (source source' : SourceState) (sink sink' : SinkState) → State → SessionError → Type 0
+IsUnflushed s source source' sink sink' after why =
+    (why ≡ Write) × (sink'.failed ≡ true) × (ended : Ended) × EndsAs s source source' sink sink' after ended
+
+-- Why a session is no success: the input ended within a frame, or it stopped before the end, or all went well but the last
+-- flush, or a write before the session.
+abbrev pub FailsAs : State → (source source' : SourceState) (sink sink' : SinkState) → State → SessionFault → Type 0
+FailsAs s source source' sink sink' after EndsInside =
+    (ended : Ended) × EndsAs s source source' sink sink' after ended × (0 < ended.rest)
+FailsAs s source source' sink sink' after (Stopped why) =
+    StopsAs s source source' sink sink' after why ⊎ IsUnflushed s source source' sink sink' after why

@@ -8,7 +8,7 @@ use Rattle.tcp_edge.specs.declared.asked.Asked.TheVariants.{Table, Session, Serv
 use Rattle.tcp_edge.specs.declared.asked.Plan.{Plan}
 use Rattle.tcp_edge.specs.declared.asked.LineFault.{LineFault}
 use Rattle.tcp_edge.specs.declared.asked.LineFault.TheVariants.{Clap, Topic}
-use Rattle.tcp_edge.specs.CommandLine.{IsConfigOf, IsPort, IsConnections, Finds}
+use Rattle.tcp_edge.specs.CommandLine.{HasTopics, IsConfigOf, IsPort, IsConnections, Finds, topic_words}
 
 -- a broker that listens: at first its configuration has the port that was asked for
 pub record IsListener (rows : List Row) (plan : Plan) : Type 0 where
@@ -42,15 +42,15 @@ abbrev pub IsOutOfMemory : LineFault → Type 0
 IsOutOfMemory (Clap error) = kind_of error ≡ kind.OutOfMemory
 IsOutOfMemory (Topic why) = ⊥
 
--- memory ran out, or an argument in the place of a topic is none
-abbrev pub IsConfigFault : LineFault → Type 0
-IsConfigFault (Clap error) = kind_of error ≡ kind.OutOfMemory
-IsConfigFault (Topic why) = ⊤
+-- memory ran out, or one of the words in the place of topics is none
+abbrev pub IsConfigFault : List Text → LineFault → Type 0
+IsConfigFault words (Clap error) = kind_of error ≡ kind.OutOfMemory
+IsConfigFault words (Topic why) = ¬ HasTopics words
 
 -- no fault of clap's: memory ran out, or an argument in the place of a topic is none
-abbrev pub IsFaulty : Text → LineFault → Type 0
-IsFaulty name (Clap error) = kind_of error ≡ kind.OutOfMemory
-IsFaulty name (Topic why) = (name ≢ codes "table") × (name ≢ codes "merge")
+abbrev pub IsFaulty : Text → List Row → LineFault → Type 0
+IsFaulty name rows (Clap error) = kind_of error ≡ kind.OutOfMemory
+IsFaulty name rows (Topic why) = (name ≢ codes "table") × (name ≢ codes "merge") × ¬ HasTopics (topic_words rows)
 
 -- the broker that listens, where one is asked for
 abbrev pub IsPlanOf : Asked → Option Plan → Type 0

@@ -104,6 +104,10 @@ AreTopics [] (t ∷ ts) = ⊥
 AreTopics (word ∷ words) [] = ⊥
 AreTopics (word ∷ words) (t ∷ ts) = IsTopic word t × AreTopics words ts
 
+-- each of the words says a topic
+abbrev pub HasTopics : List Text → Type 0
+HasTopics words = (ts : List TopicConfig) × AreTopics words ts
+
 -- decimal digits, behind a `+` or not, of a number of so many bits
 abbrev pub SaysNumber : ℕ → Text → Type 0
 SaysNumber bits word = IsNumeral 10 (without_leading_plus word) × (digits_value 10 (without_leading_plus word) < 2 ^ bits)

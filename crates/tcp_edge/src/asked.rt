@@ -5,7 +5,7 @@ ghost use Rattle.std.specs.Bool.{MatchBool};
 ghost use Rattle.broker_core.specs.ConfigValues.{config_value};
 ghost use Rattle.clap.specs.Words.{Row, Text, found_of, rows_of, subcommand_name_of, subcommand_rows_of};
 ghost use Rattle.tcp_edge.specs.Asked.{IfNamed, IsAsked, IsConfigFault, IsFaulty, IsListener, IsOutOfMemory, IsPlanOf};
-ghost use Rattle.tcp_edge.specs.CommandLine.{Finds, IsConfigOf, IsConnections, IsPort, Names, role_of};
+ghost use Rattle.tcp_edge.specs.CommandLine.{Finds, IsConfigOf, IsConnections, IsPort, Names, role_of, topic_words};
 
 use crate::commands::command;
 use crate::topics::topics_of;
@@ -110,7 +110,7 @@ fn config_of(
 ) -> Result<Config<Global>, LineFault>
     ensures config { IfOk result (λ config.
         IsConfigOf (rows_of (found_of matches.now)) port (config_value config)) }
-    ensures fault { IfErr result IsConfigFault }
+    ensures fault { IfErr result (IsConfigFault (topic_words (rows_of (found_of matches.now)))) }
 {
     let arguments = matches.get_strs("topics").unwrap_or(&[]);
     Ok(Config {
@@ -139,7 +139,7 @@ fn connections_of(matches: &ArgMatches<'_>) -> u32
 /// A broker that listens.
 fn plan_of(alloc: Global, matches: &ArgMatches<'_>) -> Result<Plan, LineFault>
     ensures plan { IfOk result (IsListener (rows_of (found_of matches.now))) }
-    ensures fault { IfErr result IsConfigFault }
+    ensures fault { IfErr result (IsConfigFault (topic_words (rows_of (found_of matches.now)))) }
 {
     let port = port_of(matches);
     let connections = connections_of(matches);
@@ -173,7 +173,7 @@ fn asked_plainly(matches: &ArgMatches<'_>) -> Asked
 fn asked_by(alloc: Global, matches: &ArgMatches<'_>) -> Result<Asked, LineFault>
     ensures asked { (name : Text) (rows : List Row)
         → subcommand_rows_of matches.now ≡ Some (name, rows)
-        → MatchResult result (IsAsked name rows) (IsFaulty name) }
+        → MatchResult result (IsAsked name rows) (IsFaulty name rows) }
     ensures named { IfOk result (λ asked.
         IfNamed asked (λ name. subcommand_name_of matches.now ≡ Some name)) }
 {
@@ -190,7 +190,7 @@ fn asked_by(alloc: Global, matches: &ArgMatches<'_>) -> Result<Asked, LineFault>
 /// Looks the arguments up, of which the first is the program's name.
 pub(crate) fn parse<S: AsStr>(alloc: Global, arguments: &[S]) -> Result<Asked, LineFault>
     ensures asked { (name : Text) (rows : List Row) → Finds (map S.text arguments.now) name rows
-        → MatchResult result (IsAsked name rows) (IsFaulty name) }
+        → MatchResult result (IsAsked name rows) (IsFaulty name rows) }
     ensures named { IfOk result (λ asked.
         IfNamed asked (λ name. Names (map S.text arguments.now) name)) }
 {

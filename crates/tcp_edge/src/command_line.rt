@@ -1,12 +1,12 @@
 //! The program's command line.
 
-ghost use Rattle.std.specs.Prelude.{◌≡◌, ◌≢◌, ◌≤◌, ◌⊎◌, ℕ, List, None, IfOk, IfSome, codes, map};
+ghost use Rattle.std.specs.Prelude.{◌≡◌, ◌≢◌, ◌≤◌, ◌⊎◌, ℕ, List, None, IfOk, MatchOption, codes, map};
 ghost use Rattle.batch_codec.specs.Values.{BatchValue};
 ghost use Rattle.clap.specs.Words.{Row, kind_of};
 ghost use Rattle.copy_tools.specs.declared.error.MergeFault.{MergeFault};
-ghost use Rattle.tcp_edge.specs.Asked.{AsksForOther, IsConfigFault, IsListener, IsOutOfMemory};
+ghost use Rattle.tcp_edge.specs.Asked.{AsksForOther, IsListener, IsOutOfMemory};
 ghost use Rattle.tcp_edge.specs.declared.error.Refusal.{Refusal};
-ghost use Rattle.tcp_edge.specs.CommandLine.{AsksForMerge, AsksForTable, Finds, IsPort, NamesReplay, NamesSession};
+ghost use Rattle.tcp_edge.specs.CommandLine.{AsksForMerge, AsksForTable, Finds, HasTopics, IsPort, NamesReplay, NamesSession, topic_words};
 ghost use Rattle.tcp_edge.specs.Merges.{PrintsMerge, RefusesImages};
 ghost use Rattle.tcp_edge.specs.Refused.{RefusesStream};
 ghost use Rattle.tcp_edge.specs.Tables.{ReadsLog, PrintsTable};
@@ -54,7 +54,6 @@ fn explain<W: Write, E: Write>(error: &Error, out: &mut W, err: &mut E) -> u8
 fn refuse_line<W: Write, E: Write>(why: &LineFault, out: &mut W, err: &mut E) -> u8
     ensures is_status { (result ≤ 4) × (result ≢ 1) }
     ensures out_of_memory { IsOutOfMemory why.now → result ≡ 3 }
-    ensures no_help { IsConfigFault why.now → result ≢ 0 }
     ensures faulty_prints_nothing { result ≡ 2 → out.new ≡ out.old }
     ensures out_of_memory_prints_nothing { result ≡ 3 → out.new ≡ out.old }
 {
@@ -129,11 +128,11 @@ pub fn run_line<S: AsStr, R: Read, W: Write, E: Write>(
 }
 
 /// What the arguments ask of a broker that listens, if they ask for one.
-#[tactic(auto, using(crate::proofs::Arguments::no_plan, crate::proofs::Arguments::plan_found))]
+#[tactic(auto, using(crate::proofs::Arguments::no_plan, crate::proofs::Arguments::plan_found, crate::proofs::Arguments::topic_fault))]
 fn plan_asked<S: AsStr>(alloc: Global, arguments: &[S]) -> Result<Option<Plan>, AllocError>
     ensures other { AsksForOther (map S.text arguments.now) → IfOk result (λ plan. plan ≡ None) }
     ensures serve { (rows : List Row) → Finds (map S.text arguments.now) (codes "serve") rows
-        → IfOk result (λ plan. IfSome plan (IsListener rows)) }
+        → IfOk result (λ plan. MatchOption plan (¬ HasTopics (topic_words rows)) (IsListener rows)) }
 {
     match parse(alloc, arguments) {
         Ok(asked) => Ok(asked.plan()),
@@ -155,8 +154,10 @@ fn plan_asked<S: AsStr>(alloc: Global, arguments: &[S]) -> Result<Option<Plan>, 
 #[tactic(auto, using(crate::proofs::Arguments::port_found))]
 pub fn serve_port<S: AsStr>(alloc: Global, arguments: &[S]) -> Result<Option<u16>, AllocError>
     ensures other_has_none { AsksForOther (map S.text arguments.now) → IfOk result (λ port. port ≡ None) }
+    // There is none only where an argument in the place of a topic isn't one.
     ensures is_asked_for { (rows : List Row) → Finds (map S.text arguments.now) (codes "serve") rows
-        → IfOk result (λ port. IfSome port (IsPort rows)) }
+        → IfOk result (λ port. MatchOption port (¬ HasTopics (topic_words rows))
+        (λ port. IsPort rows port × HasTopics (topic_words rows))) }
 {
     match plan_asked(alloc, arguments)? {
         Some(plan) => Ok(Some(plan.config.port)),

@@ -1,9 +1,9 @@
 //! A session: request frames come in, and their replies go out.
 
-ghost use Rattle.std.specs.Prelude.{◌≡◌, ◌≢◌, ◌≤◌, IfErr, OnOk};
+ghost use Rattle.std.specs.Prelude.{◌≡◌, ◌≢◌, ◌≤◌, ◌+◌, ◌^◌, true, false, IfErr, MatchBool, OnOk};
 ghost use Rattle.broker_core.specs.ConfigValues.{config_value};
 ghost use Rattle.broker_core.specs.Configs.{IsValidConfig};
-ghost use Rattle.tcp_edge.specs.Answering.{AnswersFrom, RefusesFrom};
+ghost use Rattle.tcp_edge.specs.Answering.{AnswersFrom, FailsAs, RefusesFrom};
 ghost use Rattle.std.specs.Io.KnownBytes.{Keeps};
 ghost use Rattle.tcp_edge.specs.Status.{session_status};
 
@@ -31,7 +31,9 @@ pub(crate) fn refuse<E: Write>(why: ConfigError, err: &mut E) -> u8
 
 /// Flushes a sink, unless it has failed before, and tells whether it never did.
 fn flush<W: Write>(sink: &mut Sink<W>) -> bool
-    ensures { Keeps sink.old.taken sink.new.taken }
+    ensures keeps { Keeps sink.old.taken sink.new.taken }
+    ensures tells_failure { MatchBool result (sink.new.failed ≡ false) (sink.new.failed ≡ true) }
+    ensures stays_failed { sink.old.failed ≡ true → sink.new.failed ≡ true }
 {
     if sink.failed() {
         return false;
@@ -44,7 +46,8 @@ fn flush<W: Write>(sink: &mut Sink<W>) -> bool
 ///
 /// # Errors
 ///
-/// The first thing that stops it; the end of the input within a frame.
+/// The first thing that stops it, as of `serve`; the end of the input within a frame. `Write` also where
+/// all was answered and the flush fails, or the sink had failed before.
 pub fn answer_frames<S: BatchStore, A: Allocator + Copy, R: Read, W: Write>(
     alloc: A,
     node: &mut Node<S>,
@@ -57,6 +60,10 @@ pub fn answer_frames<S: BatchStore, A: Allocator + Copy, R: Read, W: Write>(
     // What was read is frames, which were answered, and then one that is refused or incomplete.
     ensures refuses { IfErr result (λ why. session_status why ≡ 1 → RefusesFrom node.old
         source.old.left source.new.left sink.old.taken sink.new.taken node.new) }
+    // Whatever stops it: the frames before were answered, and this is why no more were.
+    ensures fails { IfErr result (FailsAs node.old source.old source.new sink.old sink.new node.new) }
+    ensures flushes { OnOk result (sink.new.failed ≡ false) }
+    ensures few_reads { source.new.reads ≤ source.old.reads + 2 ^ 32 }
 {
     let answered = serve(alloc, node, source, sink);
     let flushed = flush(sink);

@@ -1,9 +1,9 @@
 //! Topics as they stand on the command line: `TOPIC:N`.
 
-ghost use Rattle.std.specs.Prelude.{IfOk, IfErr, OnOk, map};
+ghost use Rattle.std.specs.Prelude.{IfOk, IfErr, OnOk, OnErr, [], ◌∷◌, map};
 ghost use Rattle.broker_core.specs.ConfigValues.{topic_config};
 ghost use Rattle.tcp_edge.specs.Asked.{IsConfigFault};
-ghost use Rattle.tcp_edge.specs.CommandLine.{IsTopic, AddsTopic, AreTopics};
+ghost use Rattle.tcp_edge.specs.CommandLine.{IsTopic, AddsTopic, AreTopics, HasTopics};
 
 use crate::asked::LineFault;
 use broker_core::{ConfigError, TopicConfig};
@@ -16,13 +16,14 @@ use std::string::String;
 ///
 /// `BadTopic` where there is no `:`, and `BadPartitions` where no such number stands behind it.
 fn read_topic(argument: &str) -> Result<(&str, u32), ConfigError>
-    ensures { IfOk result (λ read. IsTopic argument.now
+    ensures reads { IfOk result (λ read. IsTopic argument.now
         (record { name = read.0.now; partitions = read.1 })) }
+    ensures refuses { OnErr result (¬ HasTopics (argument.now ∷ [])) }
 {
-    let Some((name, digits)) = argument.rsplit_once(':') else {
+    let Some((name, digits)) = argument.rsplit_once(":") else {
         return Err(ConfigError::BadTopic);
     };
-    if digits.starts_with('+') {
+    if digits.starts_with("+") {
         return Err(ConfigError::BadPartitions);
     }
     match digits.parse::<u32>() {
@@ -39,7 +40,7 @@ fn add_topic(
 ) -> Result<(), LineFault>
     ensures adds { OnOk result (AddsTopic argument.now
         (map topic_config topics.old.items) (map topic_config topics.new.items)) }
-    ensures fault { IfErr result IsConfigFault }
+    ensures fault { IfErr result (IsConfigFault (argument.now ∷ [])) }
 {
     let (name, partitions) = match read_topic(argument) {
         Ok(read) => read,
@@ -64,7 +65,7 @@ pub(crate) fn topics_of(
 ) -> Result<Vec<TopicConfig<Global>>, LineFault>
     ensures reads { IfOk result (λ topics. AreTopics (map (λ word. word.now) arguments.now)
         (map topic_config topics.items)) }
-    ensures fault { IfErr result IsConfigFault }
+    ensures fault { IfErr result (IsConfigFault (map (λ word. word.now) arguments.now)) }
 {
     let mut topics = Vec::new(alloc);
     for &argument in arguments {
