@@ -43,35 +43,39 @@ fn comes(
     }
 }
 
+/// The request's first nine bytes.
+const CUT: &[u8] = b"\0\0\0\x25\0\x02\0\x01\0";
+
+/// The line, the input, the status, and what comes on standard output and on standard error.
+const SESSIONS: [(&str, &[u8], u8, &[u8], &str); 5] = [
+    ("kbroker session t:1", b"", 0, b"", ""),
+    ("kbroker session t:1", REQUEST, 0, REPLY, ""),
+    (
+        "kbroker session --role leader t:01 u:2",
+        REQUEST,
+        0,
+        REPLY,
+        "",
+    ),
+    (
+        "kbroker session t:1",
+        CUT,
+        1,
+        b"",
+        "kbroker: input ends inside a frame\n",
+    ),
+    (
+        "kbroker session t:1",
+        b"\xff\xff\xff\xff",
+        1,
+        b"",
+        "kbroker: frame 0: NegativeSize\n",
+    ),
+];
+
 #[test]
 fn sessions(rt: HostRuntime) -> Result<(), Fail> {
-    // the line, the input, the status, and what comes on standard output and on standard error
-    let rows = [
-        ("kbroker session t:1", b"".as_slice(), 0, b"".as_slice(), ""),
-        ("kbroker session t:1", REQUEST, 0, REPLY, ""),
-        (
-            "kbroker session --role leader t:01 u:2",
-            REQUEST,
-            0,
-            REPLY,
-            "",
-        ),
-        (
-            "kbroker session t:1",
-            &REQUEST[..9],
-            1,
-            b"".as_slice(),
-            "kbroker: input ends inside a frame\n",
-        ),
-        (
-            "kbroker session t:1",
-            b"\xff\xff\xff\xff".as_slice(),
-            1,
-            b"".as_slice(),
-            "kbroker: frame 0: NegativeSize\n",
-        ),
-    ];
-    for (line, input, status, output, error) in rows {
+    for (line, input, status, output, error) in SESSIONS {
         let mut reader = input;
         let is_right = comes(
             rt.alloc(),
@@ -86,37 +90,45 @@ fn sessions(rt: HostRuntime) -> Result<(), Fail> {
     Ok(())
 }
 
-/// Whether a line is refused with this name, and no byte is read.
-fn is_refused(alloc: Global, line: &str, name: &str) -> Result<bool, AllocError> {
-    let wanted = format!(in alloc; "configuration: {name}\n")?;
+/// Whether a line has status 2, this on standard error, nothing on standard output, and no byte is read.
+fn is_unread(alloc: Global, line: &str, error: &[u8]) -> bool {
     let mut reader = REQUEST;
-    let is_told = comes(alloc, line, &mut reader, 2, b"", wanted.as_bytes());
-    Ok(is_told && reader.len() == REQUEST.len())
+    comes(alloc, line, &mut reader, 2, b"", error) && reader.len() == REQUEST.len()
 }
+
+/// Whether a line is refused with this name, and no byte is read.
+fn is_refused(alloc: Global, line: &str, name: &str) -> bool {
+    match format!(in alloc; "configuration: {name}\n") {
+        Ok(wanted) => is_unread(alloc, line, wanted.as_bytes()),
+        Err(_) => false,
+    }
+}
+
+/// Lines, and the names that refuse them.
+const REFUSED: [(&str, &str); 14] = [
+    ("kbroker session t", "BadTopic"),
+    ("kbroker session :1", "BadTopic"),
+    ("kbroker session a:b:1", "BadTopic"),
+    ("kbroker session t:", "BadPartitions"),
+    ("kbroker session t:+1", "BadPartitions"),
+    ("kbroker session t:1x", "BadPartitions"),
+    ("kbroker session t:4294967296", "BadPartitions"),
+    ("kbroker session t:0", "BadPartitions"),
+    ("kbroker session t: u", "BadPartitions"),
+    ("kbroker session t:0 u", "BadTopic"),
+    ("kbroker session t:1 t:1", "TopicTwice"),
+    ("kbroker session __consumer_offsets:1", "TopicTwice"),
+    ("kbroker serve --port 0 --connections 0 t", "BadTopic"),
+    (
+        "kbroker serve --port 0 --connections 0 t:-1",
+        "BadPartitions",
+    ),
+];
 
 #[test]
 fn refused_configurations(rt: HostRuntime) -> Result<(), Fail> {
-    let rows = [
-        ("kbroker session t", "BadTopic"),
-        ("kbroker session :1", "BadTopic"),
-        ("kbroker session a:b:1", "BadTopic"),
-        ("kbroker session t:", "BadPartitions"),
-        ("kbroker session t:+1", "BadPartitions"),
-        ("kbroker session t:1x", "BadPartitions"),
-        ("kbroker session t:4294967296", "BadPartitions"),
-        ("kbroker session t:0", "BadPartitions"),
-        ("kbroker session t: u", "BadPartitions"),
-        ("kbroker session t:0 u", "BadTopic"),
-        ("kbroker session t:1 t:1", "TopicTwice"),
-        ("kbroker session __consumer_offsets:1", "TopicTwice"),
-        ("kbroker serve --port 0 --connections 0 t", "BadTopic"),
-        (
-            "kbroker serve --port 0 --connections 0 t:-1",
-            "BadPartitions",
-        ),
-    ];
-    for (line, name) in rows {
-        assert!(rt; is_refused(rt.alloc(), line, name)?, "{line}");
+    for (line, name) in REFUSED {
+        assert!(rt; is_refused(rt.alloc(), line, name), "{line}");
     }
     Ok(())
 }
@@ -145,37 +157,49 @@ fn has_port(alloc: Global, listener: &TcpListener, line: &str, port: Option<u16>
     }
 }
 
+/// Lines, and their ports.
+const PORTS: [(&str, Option<u16>); 14] = [
+    ("kbroker serve --port 0 --connections 2 t:1", Some(0)),
+    (
+        "kbroker serve --connections=4294967295 --port=65535 t:1 u:0",
+        Some(65535),
+    ),
+    (
+        "kbroker serve --port 9092 --connections 0 --role follower t:1",
+        Some(9092),
+    ),
+    ("kbroker serve --port 65536 --connections 2 t:1", None),
+    ("kbroker serve --port 1 --connections 4294967296 t:1", None),
+    (
+        "kbroker serve --port 1 --connections 1 --role boss t:1",
+        None,
+    ),
+    ("kbroker serve --port 1 t:1", None),
+    ("kbroker serve --connections 1 t:1", None),
+    ("kbroker serve --port 1 --connections 1", None),
+    ("kbroker serve --port 1 --connections 1 t", None),
+    ("kbroker serve --help", None),
+    ("kbroker session t:1", None),
+    ("kbroker table", None),
+    ("kbroker", None),
+];
+
+/// The first line whose port is another.
+fn first_wrong(alloc: Global, listener: &TcpListener) -> Option<&'static str> {
+    let mut wrong = None;
+    for (line, port) in PORTS {
+        if wrong.is_none() && !has_port(alloc, listener, line, port) {
+            wrong = Some(line);
+        }
+    }
+    wrong
+}
+
 #[test]
 fn ports(rt: HostRuntime) -> Result<(), Fail> {
-    let rows = [
-        ("kbroker serve --port 0 --connections 2 t:1", Some(0)),
-        (
-            "kbroker serve --connections=4294967295 --port=65535 t:1 u:0",
-            Some(65535),
-        ),
-        (
-            "kbroker serve --port 9092 --connections 0 --role follower t:1",
-            Some(9092),
-        ),
-        ("kbroker serve --port 65536 --connections 2 t:1", None),
-        ("kbroker serve --port 1 --connections 4294967296 t:1", None),
-        (
-            "kbroker serve --port 1 --connections 1 --role boss t:1",
-            None,
-        ),
-        ("kbroker serve --port 1 t:1", None),
-        ("kbroker serve --connections 1 t:1", None),
-        ("kbroker serve --port 1 --connections 1", None),
-        ("kbroker serve --port 1 --connections 1 t", None),
-        ("kbroker serve --help", None),
-        ("kbroker session t:1", None),
-        ("kbroker table", None),
-        ("kbroker", None),
-    ];
     let listener = TcpListener::bind(&rt, (Ipv4Addr::LOCALHOST, 0))?;
-    for (line, port) in rows {
-        assert!(rt; has_port(rt.alloc(), &listener, line, port), "{line}");
-    }
+    let wrong = first_wrong(rt.alloc(), &listener);
+    assert!(rt; wrong.is_none(), "{wrong:?}");
     Ok(())
 }
 
@@ -185,22 +209,31 @@ fn send(client: &mut TcpStream) -> std::io::Result<()> {
     client.shutdown(Shutdown::Write)
 }
 
-/// Lets a broker serve one connection at this port, and tells whether it says so.
-fn serves_one(alloc: Global, listener: &TcpListener, port: u16) -> Result<bool, AllocError> {
-    let wanted = format!(in alloc; "listening {port}\nconnection 0: frames 1\n")?;
-    let arguments = [
-        "kbroker",
-        "serve",
-        "--port",
-        "0",
-        "--connections",
-        "1",
-        "t:1",
-    ];
+/// The arguments for one connection.
+const SERVE: [&str; 7] = [
+    "kbroker",
+    "serve",
+    "--port",
+    "0",
+    "--connections",
+    "1",
+    "t:1",
+];
+
+/// Lets a broker serve one connection, and tells whether it says this.
+fn serves(alloc: Global, listener: &TcpListener, wanted: &[u8]) -> bool {
     let mut out = Vec::new(alloc);
     let mut err = Vec::new(alloc);
-    let status = run_serve(alloc, listener, &arguments, &mut out, &mut err);
-    Ok(status == 0 && out.as_slice() == wanted.as_bytes() && err.is_empty())
+    let status = run_serve(alloc, listener, &SERVE, &mut out, &mut err);
+    status == 0 && out.as_slice() == wanted && err.is_empty()
+}
+
+/// The same with what it says at this port.
+fn serves_one(alloc: Global, listener: &TcpListener, port: u16) -> bool {
+    match format!(in alloc; "listening {port}\nconnection 0: frames 1\n") {
+        Ok(wanted) => serves(alloc, listener, wanted.as_bytes()),
+        Err(_) => false,
+    }
 }
 
 /// Whether the reply comes, and no more.
@@ -209,13 +242,16 @@ fn has_reply(alloc: Global, client: &mut TcpStream) -> bool {
     client.read_to_end(&mut reply).is_ok() && reply.as_slice() == REPLY
 }
 
+/// Whether the request is sent and served at this port, and the reply comes.
+fn is_served(alloc: Global, listener: &TcpListener, client: &mut TcpStream, port: u16) -> bool {
+    send(client).is_ok() && serves_one(alloc, listener, port) && has_reply(alloc, client)
+}
+
 #[test]
 fn a_connection(rt: HostRuntime) -> Result<(), Fail> {
     let listener = TcpListener::bind(&rt, (Ipv4Addr::LOCALHOST, 0))?;
     let address = listener.local_addr()?;
     let mut client = TcpStream::connect(&rt, address)?;
-    send(&mut client)?;
-    assert!(rt; serves_one(rt.alloc(), &listener, address.port())?);
-    assert!(rt; has_reply(rt.alloc(), &mut client));
+    assert!(rt; is_served(rt.alloc(), &listener, &mut client, address.port()));
     Ok(())
 }

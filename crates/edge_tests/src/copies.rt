@@ -89,13 +89,8 @@ fn came_of(status: u8, len: usize, is_asked: bool) -> Came {
 }
 
 /// Runs the script in memory of which this allocation fails.
-fn replays<A: Allocator + Copy, B: Allocator + Copy>(
-    alloc: A,
-    inner: B,
-    refused: u64,
-    least: usize,
-) -> Came {
-    let heap = Refusing::new(inner, refused);
+fn replays<A: Allocator + Copy>(alloc: A, refused: u64, least: usize) -> Came {
+    let heap = Refusing::new(alloc, refused);
     let mut input: &[u8] = SCRIPT.as_bytes();
     let mut out = Vec::new(alloc);
     let mut err = Vec::new(alloc);
@@ -118,7 +113,7 @@ fn a_script_does_without_the_index_alone(rt: HostRuntime) -> Result<(), Fail> {
     let mut without = 0_u64;
     for refused in 1..MOST {
         // What was printed before stays, and is no less where a later allocation fails.
-        came = replays(rt.alloc(), rt.alloc(), refused, printed);
+        came = replays(rt.alloc(), refused, printed);
         assert!(rt; came != Came::Wrong, "allocation {refused} fails");
         match came {
             Came::Lacked(len) => printed = len,
@@ -142,8 +137,8 @@ fn is_merge_told(status: u8, out: &[u8], err: &[u8], is_asked: bool) -> bool {
 }
 
 /// Merges the pair in memory of which this allocation fails.
-fn merges<A: Allocator + Copy, B: Allocator + Copy>(alloc: A, inner: B, refused: u64) -> Came {
-    let heap = Refusing::new(inner, refused);
+fn merges<A: Allocator + Copy>(alloc: A, refused: u64) -> Came {
+    let heap = Refusing::new(alloc, refused);
     let mut input: &[u8] = &PAIR;
     let mut out = Vec::new(alloc);
     let mut err = Vec::new(alloc);
@@ -160,7 +155,7 @@ fn merges<A: Allocator + Copy, B: Allocator + Copy>(alloc: A, inner: B, refused:
 fn a_merge_is_printed_once_there_is_memory(rt: HostRuntime) -> Result<(), Fail> {
     let mut came = Came::Wrong;
     for refused in 1..MOST {
-        came = merges(rt.alloc(), rt.alloc(), refused);
+        came = merges(rt.alloc(), refused);
         assert!(rt; came != Came::Wrong, "allocation {refused} fails");
         if came == Came::AtOnce {
             break;

@@ -113,6 +113,18 @@ fn told_of(answer: std::result::Result<(), TableError>) -> (u8, &'static str) {
     }
 }
 
+/// Whether both a table and the line for it do so.
+fn is_right(
+    alloc: Global,
+    input: &[u8],
+    streams: Streams,
+    answer: std::result::Result<(), TableError>,
+    taken: usize,
+) -> bool {
+    is_answered(alloc, input, streams, answer, taken)
+        && is_told(alloc, input, streams, told_of(answer), taken)
+}
+
 #[test]
 fn failing_streams(rt: HostRuntime) -> std::result::Result<(), Fail> {
     let read = Err(TableError::Read);
@@ -136,12 +148,10 @@ fn failing_streams(rt: HostRuntime) -> std::result::Result<(), Fail> {
             room,
             flushes,
         };
-        let told = told_of(answer);
         assert!(rt;
-            is_answered(rt.alloc(), input, streams, answer, taken),
+            is_right(rt.alloc(), input, streams, answer, taken),
             "{name}"
         );
-        assert!(rt; is_told(rt.alloc(), input, streams, told, taken), "{name}");
     }
     Ok(())
 }

@@ -99,10 +99,17 @@ fn are_answered<S: BatchStore, A: Allocator + Copy>(alloc: A, node: &mut Node<S>
         && end_of(node) == 2
 }
 
+/// The same of a new leader with one partition of `t`.
+fn is_led<A: Allocator + Copy>(alloc: A) -> bool {
+    match leader(alloc) {
+        Ok(mut node) => are_answered(alloc, &mut node),
+        Err(_) => false,
+    }
+}
+
 #[test]
 fn two_requests_and_one_without_answer(rt: HostRuntime) -> Result<(), Fail> {
-    let mut node = leader(rt.alloc())?;
-    assert!(rt; are_answered(rt.alloc(), &mut node));
+    assert!(rt; is_led(rt.alloc()));
     Ok(())
 }
 
@@ -156,32 +163,67 @@ fn stores_in<A: Allocator + Copy>(heap: A, frame: &[u8]) -> Came {
     }
 }
 
-#[test]
-fn a_batch_is_stored_once_there_is_memory(rt: HostRuntime) -> Result<(), Fail> {
-    let frame = produce(rt.alloc(), 1)?;
-    let counted = Refusing::new(rt.alloc(), 0);
-    leader(&counted)?;
-    let mut met = [false; 2];
-    let mut came = Came::Wrong;
+/// The same where this allocation fails. The batch is stored at once where that allocation isn't asked for,
+/// and nowhere else.
+fn stores_without<A: Allocator + Copy>(inner: A, refused: u64, frame: &[u8]) -> Came {
+    let heap = Refusing::new(inner, refused);
+    let came = stores_in(&heap, frame);
+    let is_asked = heap.calls() >= refused;
+    if is_asked == (came != Came::Stored) {
+        came
+    } else {
+        Came::Wrong
+    }
+}
+
+/// Lets each allocation behind those of the broker fail in turn, until the batch is stored at once or
+/// something is wrong: the last of them, what came of it, and whether there was no room, and no log, before.
+fn last_of<A: Allocator + Copy>(inner: A, made: u64, frame: &[u8]) -> (u64, Came, bool, bool) {
+    let mut last = (0, Came::Wrong, false, false);
     for more in 1..MOST {
-        // The broker has memory; one allocation behind it fails.
-        let refused = counted.calls().saturating_add(more);
-        let heap = Refusing::new(rt.alloc(), refused);
-        came = stores_in(&heap, &frame);
-        let is_asked = heap.calls() >= refused;
-        let is_right = came != Came::Wrong && is_asked == (came != Came::Stored);
-        assert!(rt; is_right, "allocation {more} fails: {came:?}");
-        met = [
-            met[0] || came == Came::NoRoom,
-            met[1] || came == Came::NoLog,
-        ];
-        if came == Came::Stored {
+        let came = stores_without(inner, made.saturating_add(more), frame);
+        let no_room = last.2 || came == Came::NoRoom;
+        let no_log = last.3 || came == Came::NoLog;
+        last = (more, came, no_room, no_log);
+        if came == Came::Stored || came == Came::Wrong {
             break;
         }
     }
+    last
+}
+
+/// The same with the Produce request; wrong where there is no memory for its frame.
+fn last_produced<A: Allocator + Copy>(inner: A, made: u64) -> (u64, Came, bool, bool) {
+    match produce(inner, 1) {
+        Ok(frame) => last_of(inner, made, &frame),
+        Err(_) => (0, Came::Wrong, false, false),
+    }
+}
+
+/// Whether a new leader is made.
+fn is_made<A: Allocator + Copy>(alloc: A) -> bool {
+    leader(alloc).is_ok()
+}
+
+/// How many allocations a new leader asks for; 0 where it isn't made.
+fn calls_of_leader<A: Allocator + Copy>(inner: A) -> u64 {
+    let counted = Refusing::new(inner, 0);
+    if is_made(&counted) {
+        counted.calls()
+    } else {
+        0
+    }
+}
+
+#[test]
+fn a_batch_is_stored_once_there_is_memory(rt: HostRuntime) -> Result<(), Fail> {
+    // The broker has memory; one allocation behind it fails.
+    let made = calls_of_leader(rt.alloc());
+    assert!(rt; made > 0);
+    let (more, came, no_room, no_log) = last_produced(rt.alloc(), made);
     assert!(rt;
-        came == Came::Stored && met == [true; 2],
-        "{came:?}, {met:?}"
+        came == Came::Stored && no_room && no_log,
+        "allocation {more} fails: {came:?}, {no_room}, {no_log}"
     );
     Ok(())
 }

@@ -31,6 +31,16 @@ pub(crate) fn later(is_right: bool) -> Came {
     if is_right { Came::Later } else { Came::Wrong }
 }
 
+/// What came of a call that asked for the failing allocation or not: it comes later where it asked, and
+/// nowhere else.
+pub(crate) fn came_of(came: Came, is_asked: bool) -> Came {
+    if is_asked == (came == Came::Later) {
+        came
+    } else {
+        Came::Wrong
+    }
+}
+
 /// The same configuration twice.
 fn twice<A: Allocator + Copy>(alloc: A) -> Result<(Config<A>, Config<A>), AllocError> {
     let topics = [("t", 2), ("u", 9)];
@@ -82,26 +92,50 @@ fn tries<A: Allocator + Copy, B: Allocator + Copy>(inner: B, heap: A) -> Came {
     }
 }
 
-#[test]
-fn a_node_comes_once_there_is_memory(rt: HostRuntime) -> Result<(), Fail> {
-    let counted = Refusing::new(rt.alloc(), 0);
-    twice(&counted)?;
-    let mut came = Came::Wrong;
+/// The same in memory of which this allocation fails.
+fn tries_without<A: Allocator + Copy>(inner: A, refused: u64) -> Came {
+    let heap = Refusing::new(inner, refused);
+    let came = tries(inner, &heap);
+    came_of(came, heap.calls() >= refused)
+}
+
+/// The first allocation behind those of the configurations with which a broker isn't made later, and what
+/// came of it.
+fn first_at_once<A: Allocator + Copy>(inner: A, made: u64) -> (u64, Came) {
+    let mut last = (0, Came::Later);
     for more in 1..MOST {
-        // The configurations have memory; one allocation behind them fails.
-        let refused = counted.calls().saturating_add(more);
-        let heap = Refusing::new(rt.alloc(), refused);
-        came = tries(rt.alloc(), &heap);
-        let is_last = more > 1 && heap.calls() < refused;
-        assert_eq!(rt;
-            came,
-            if is_last { Came::AtOnce } else { Came::Later },
-            "allocation {more} fails"
-        );
-        if is_last {
-            break;
+        if last.1 == Came::Later {
+            last = (more, tries_without(inner, made.saturating_add(more)));
         }
     }
-    assert_eq!(rt; came, Came::AtOnce);
+    last
+}
+
+/// Whether two configurations are made.
+fn are_made<A: Allocator + Copy>(alloc: A) -> bool {
+    twice(alloc).is_ok()
+}
+
+/// How many allocations two configurations ask for; 0 where they aren't made.
+fn calls_of_both<A: Allocator + Copy>(inner: A) -> u64 {
+    let counted = Refusing::new(inner, 0);
+    if are_made(&counted) {
+        counted.calls()
+    } else {
+        0
+    }
+}
+
+#[test]
+fn a_node_comes_once_there_is_memory(rt: HostRuntime) -> Result<(), Fail> {
+    // The configurations have memory; one allocation behind them fails.
+    let made = calls_of_both(rt.alloc());
+    assert!(rt; made > 0);
+    let (more, came) = first_at_once(rt.alloc(), made);
+    // At the first allocation it would take no memory.
+    assert!(rt;
+        came == Came::AtOnce && more > 1,
+        "allocation {more} fails: {came:?}"
+    );
     Ok(())
 }

@@ -2,7 +2,7 @@
 
 use crate::configs::configured;
 use crate::handling::{answer, is_produced};
-use crate::memory::{Came, at_once, later};
+use crate::memory::{Came, at_once, came_of, later};
 use broker_core::{Answer, Node, Role};
 use outside_batches::A_IS_1;
 use refusing_alloc::Refusing;
@@ -55,23 +55,27 @@ fn reads<S: BatchStore, A: Allocator + Copy>(
     later(is_unwritten && succeeds)
 }
 
-/// The same to a filled broker in memory of which this allocation fails. It comes later where that allocation
-/// was asked for, and nowhere else.
-fn reads_in<A: Allocator + Copy>(inner: A, refused: u64, request: &[u8], response: &[u8]) -> Came {
-    let heap = Refusing::new(inner, refused);
-    let came = match filled(&heap) {
+/// The same to a filled broker in this memory.
+fn reads_in<A: Allocator + Copy>(heap: A, request: &[u8], response: &[u8]) -> Came {
+    match filled(heap) {
         Some(mut node) => {
-            let mut out = Vec::new(&heap);
+            let mut out = Vec::new(heap);
             reads(&mut node, request, response, &mut out)
         }
         None => Came::Wrong,
-    };
-    let is_asked = heap.calls() >= refused;
-    if is_asked == (came == Came::Later) {
-        came
-    } else {
-        Came::Wrong
     }
+}
+
+/// The same where this allocation fails.
+fn reads_without<A: Allocator + Copy>(
+    inner: A,
+    refused: u64,
+    request: &[u8],
+    response: &[u8],
+) -> Came {
+    let heap = Refusing::new(inner, refused);
+    let came = reads_in(&heap, request, response);
+    came_of(came, heap.calls() >= refused)
 }
 
 /// The first allocation behind those of the broker with which a request isn't answered later, and what came
@@ -87,7 +91,7 @@ fn first_at_once<A: Allocator + Copy>(
         if last.1 == Came::Later {
             last = (
                 more,
-                reads_in(inner, made.saturating_add(more), request, response),
+                reads_without(inner, made.saturating_add(more), request, response),
             );
         }
     }
@@ -101,15 +105,43 @@ fn fetched<A: Allocator + Copy>(alloc: A) -> Result<Vec<u8, A>, AllocError> {
     Ok(bytes)
 }
 
+/// The same of Fetch; wrong where there is no memory for its response.
+fn first_fetched<A: Allocator + Copy>(inner: A, made: u64) -> (u64, Came) {
+    match fetched(inner) {
+        Ok(response) => first_at_once(inner, made, FETCH, &response),
+        Err(_) => (0, Came::Wrong),
+    }
+}
+
+/// Whether a filled broker is made.
+fn is_filled<A: Allocator + Copy>(alloc: A) -> bool {
+    filled(alloc).is_some()
+}
+
+/// How many allocations a filled broker asks for; 0 where it isn't made.
+fn calls_of_filled<A: Allocator + Copy>(inner: A) -> u64 {
+    let counted = Refusing::new(inner, 0);
+    if is_filled(&counted) {
+        counted.calls()
+    } else {
+        0
+    }
+}
+
 #[test]
 fn reads_are_answered_once_there_is_memory(rt: HostRuntime) -> Result<(), Fail> {
-    let counted = Refusing::new(rt.alloc(), 0);
-    assert!(rt; filled(&counted).is_some());
-    let fetched = fetched(rt.alloc())?;
-    for (request, response) in [(FETCH, fetched.as_slice()), (DESCRIBE, DESCRIBED)] {
-        let (more, came) = first_at_once(rt.alloc(), counted.calls(), request, response);
-        // At the first allocation it would take no memory.
-        assert!(rt; came == Came::AtOnce && more > 1, "allocation {more} fails");
-    }
+    let made = calls_of_filled(rt.alloc());
+    assert!(rt; made > 0);
+    let (more, came) = first_fetched(rt.alloc(), made);
+    // At the first allocation it would take no memory.
+    assert!(rt;
+        came == Came::AtOnce && more > 1,
+        "Fetch, allocation {more} fails"
+    );
+    let (more, came) = first_at_once(rt.alloc(), made, DESCRIBE, DESCRIBED);
+    assert!(rt;
+        came == Came::AtOnce && more > 1,
+        "Metadata, allocation {more} fails"
+    );
     Ok(())
 }
