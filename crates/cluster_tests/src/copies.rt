@@ -17,14 +17,13 @@ fn is_added<A: Allocator + Copy>(copy: &mut VecLog<A>, bytes: &[u8]) -> bool {
     }
 }
 
-/// A copy to which these batches were delivered; `None` unless each of them is new.
-pub(crate) fn copy_of<A: Allocator + Copy>(alloc: A, batches: &[&[u8]]) -> Option<VecLog<A>> {
-    let mut copy = PartitionLog::new(alloc);
+/// Whether these batches are delivered to a copy, each of them as a new one.
+pub(crate) fn are_added<A: Allocator + Copy>(copy: &mut VecLog<A>, batches: &[&[u8]]) -> bool {
     let mut are_added = true;
     for bytes in batches {
-        are_added = are_added && is_added(&mut copy, bytes);
+        are_added = are_added && is_added(copy, bytes);
     }
-    if are_added { Some(copy) } else { None }
+    are_added
 }
 
 /// Whether a cleaning of a copy has this report.
@@ -39,19 +38,14 @@ fn is_cleaned<A: Allocator + Copy>(
     }
 }
 
-/// A copy to which batches were delivered, and which was then cleaned; `None` with another report.
-pub(crate) fn cleaned<A: Allocator + Copy>(
-    alloc: A,
+/// Whether these batches are delivered to a copy, and a cleaning of it has this report then.
+pub(crate) fn are_cleaned<A: Allocator + Copy>(
+    copy: &mut VecLog<A>,
     batches: &[&[u8]],
     limits: (i64, i64),
     report: CleanReport,
-) -> Option<VecLog<A>> {
-    let mut copy = copy_of(alloc, batches)?;
-    if is_cleaned(&mut copy, limits, report) {
-        Some(copy)
-    } else {
-        None
-    }
+) -> bool {
+    are_added(copy, batches) && is_cleaned(copy, limits, report)
 }
 
 /// Whether a copy shows these rows and has seen these offsets.

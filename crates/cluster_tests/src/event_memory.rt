@@ -66,30 +66,6 @@ fn is_filled<A: Allocator + Copy>(alloc: A, cluster: &mut Cluster<VecStore<A>>) 
     is_filled && cluster.step(&image).is_ok()
 }
 
-/// A cluster of four copies, whose leader appended three batches and sent an image.
-fn cluster<A: Allocator + Copy>(alloc: A) -> Option<Cluster<VecStore<A>>> {
-    match Cluster::new(alloc, 4) {
-        Ok(mut cluster) => {
-            if is_filled(alloc, &mut cluster) {
-                Some(cluster)
-            } else {
-                None
-            }
-        }
-        Err(_) => None,
-    }
-}
-
-/// How many allocations that cluster asks for.
-fn calls_of_cluster(alloc: Global) -> Option<u64> {
-    let counted = Refusing::new(alloc, 0);
-    if cluster(&counted).is_some() {
-        Some(counted.calls())
-    } else {
-        None
-    }
-}
-
 /// Adds the image of a copy, where there is such a copy.
 fn add_copy<A: Allocator + Copy, B: Allocator + Copy>(
     alloc: B,
@@ -146,23 +122,29 @@ fn does_show<A: Allocator + Copy, B: Allocator + Copy>(
     }
 }
 
-/// What the cluster shows after an event, in memory that suffices.
-fn shown_after<A: Allocator + Copy>(alloc: A, event: &Event<A>) -> Option<Vec<u8, A>> {
-    let mut cluster = cluster(alloc)?;
-    if cluster.step(event).is_ok() {
-        shown(alloc, &cluster).ok()
+/// What the cluster shows once events happened in it, in memory that suffices.
+fn shown_then<A: Allocator + Copy>(
+    alloc: A,
+    cluster: &mut Cluster<VecStore<A>>,
+    happening: &Happening<'_, A>,
+) -> Option<Vec<u8, A>> {
+    let is_done = is_filled(alloc, cluster)
+        && match happening {
+            Happening::One(event, _) => cluster.step(event).is_ok(),
+            Happening::All(events) => cluster.run(events).is_ok(),
+        };
+    if is_done {
+        shown(alloc, cluster).ok()
     } else {
         None
     }
 }
 
-/// What it shows after all of these, likewise.
-fn shown_after_all<A: Allocator + Copy>(alloc: A, events: &[Event<A>]) -> Option<Vec<u8, A>> {
-    let mut cluster = cluster(alloc)?;
-    if cluster.run(events).is_ok() {
-        shown(alloc, &cluster).ok()
-    } else {
-        None
+/// What a cluster of its own shows after events, likewise.
+fn shown_after<A: Allocator + Copy>(alloc: A, happening: &Happening<'_, A>) -> Option<Vec<u8, A>> {
+    match Cluster::new(alloc, 4) {
+        Ok(mut cluster) => shown_then(alloc, &mut cluster, happening),
+        Err(_) => None,
     }
 }
 
@@ -176,19 +158,77 @@ fn is_empty<A: Allocator + Copy>(cluster: &Cluster<VecStore<A>>) -> bool {
     is_empty
 }
 
-/// Whether a new cluster of three copies is empty.
-fn made<A: Allocator + Copy>(heap: A) -> Result<bool, ClusterError> {
-    match Cluster::<VecStore<A>>::new(heap, 3) {
-        Ok(cluster) => Ok(is_empty(&cluster)),
+/// What happens in a cluster.
+#[derive(Drop)]
+enum Happening<'a, B: Allocator + Copy> {
+    /// This event, which has this answer.
+    One(&'a Event<B>, Answer),
+    /// All these events, which have the answers `ANSWERS`.
+    All(&'a [Event<B>]),
+}
+
+/// What is asked of a cluster.
+#[derive(Drop)]
+enum Asked<'a, B: Allocator + Copy> {
+    /// That it is empty, of three copies.
+    Empty,
+    /// That it is filled.
+    Filled,
+    /// That it is filled, and shows these bytes after what happens in it then.
+    Happens(&'a Happening<'a, B>, &'a [u8]),
+}
+
+/// Makes a cluster do what is asked.
+fn does<A: Allocator + Copy, B: Allocator + Copy>(
+    heap: A,
+    inner: B,
+    cluster: &mut Cluster<VecStore<A>>,
+    asked: &Asked<'_, B>,
+) -> Came {
+    match asked {
+        Asked::Empty => at_once(is_empty(cluster)),
+        Asked::Filled => at_once(is_filled(heap, cluster)),
+        Asked::Happens(happening, after) => {
+            if is_filled(heap, cluster) {
+                happens_in(inner, cluster, happening, after)
+            } else {
+                Came::Wrong
+            }
+        }
+    }
+}
+
+/// Makes a new cluster of this many copies do what is asked.
+fn made<A: Allocator + Copy, B: Allocator + Copy>(
+    heap: A,
+    inner: B,
+    copies: usize,
+    asked: &Asked<'_, B>,
+) -> Result<Came, ClusterError> {
+    match Cluster::<VecStore<A>>::new(heap, copies) {
+        Ok(mut cluster) => Ok(does(heap, inner, &mut cluster, asked)),
         Err(why) => Err(why),
     }
 }
 
 /// Makes a new cluster.
-fn makes<A: Allocator + Copy>(heap: A) -> Came {
-    match made(heap) {
-        Ok(is_right) => at_once(is_right),
-        Err(why) => later(why == ClusterError::OutOfMemory && made(heap) == Ok(true)),
+fn makes<A: Allocator + Copy, B: Allocator + Copy>(heap: A, inner: B) -> Came {
+    match made(heap, inner, 3, &Asked::Empty) {
+        Ok(came) => came,
+        Err(why) => {
+            let again = made(heap, inner, 3, &Asked::Empty);
+            later(why == ClusterError::OutOfMemory && again == Ok(Came::AtOnce))
+        }
+    }
+}
+
+/// How many allocations a filled cluster of four copies asks for.
+fn calls_of_cluster(alloc: Global) -> Option<u64> {
+    let counted = Refusing::new(alloc, 0);
+    if made(&counted, alloc, 4, &Asked::Filled) == Ok(Came::AtOnce) {
+        Some(counted.calls())
+    } else {
+        None
     }
 }
 
@@ -198,7 +238,7 @@ fn clusters_come_later(rt: HostRuntime) {
     for number in 1..MOST {
         if came == Came::Later {
             let heap = Refusing::new(rt.alloc(), number);
-            came = makes(&heap).at(number);
+            came = makes(&heap, rt.alloc()).at(number);
         }
     }
     assert_eq!(rt; came, Came::AtOnce);
@@ -221,64 +261,40 @@ fn happens<A: Allocator + Copy, B: Allocator + Copy>(
     later(is_same && succeeds && does_show(alloc, cluster, after))
 }
 
-/// Makes an event happen in a cluster, which shows `after` then.
-fn steps_in<A: Allocator + Copy, B: Allocator + Copy>(
-    inner: B,
-    cluster: &mut Cluster<VecStore<A>>,
-    event: &Event<B>,
-    answer: Answer,
-    after: &[u8],
-) -> Came {
-    match shown(inner, cluster) {
-        Ok(before) => happens(inner, cluster, event, answer, (&before, after)),
-        Err(_) => Came::Wrong,
-    }
-}
-
-/// Makes an event happen in a cluster of its own.
-fn steps<A: Allocator + Copy, B: Allocator + Copy>(
-    heap: A,
-    inner: B,
-    event: &Event<B>,
-    answer: Answer,
-    after: &[u8],
-) -> Came {
-    match cluster(heap) {
-        Some(mut cluster) => steps_in(inner, &mut cluster, event, answer, after),
-        None => Came::Wrong,
-    }
-}
-
-/// Makes an event happen, while each allocation behind those of the cluster fails in turn.
-fn steps_later(
+/// Makes it happen in a filled cluster of its own, while each allocation behind those of the cluster
+/// fails in turn.
+fn happens_later(
     alloc: Global,
     calls: u64,
-    event: &Event<Global>,
-    answer: Answer,
+    happening: &Happening<'_, Global>,
     after: &[u8],
 ) -> Came {
     let mut came = Came::Later;
+    let asked = Asked::Happens(happening, after);
     for number in 1..MOST {
         if came == Came::Later {
             let heap = Refusing::new(alloc, calls.saturating_add(number));
-            came = steps(&heap, alloc, event, answer, after).at(number);
+            came = match made(&heap, alloc, 4, &asked) {
+                Ok(came) => came.at(number),
+                Err(_) => Came::Wrong,
+            };
         }
     }
     came
 }
 
-/// What comes of an event in the end.
-fn event_comes(alloc: Global, event: &Event<Global>, answer: Answer) -> Option<Came> {
+/// What comes of it in the end.
+fn comes(alloc: Global, happening: &Happening<'_, Global>) -> Option<Came> {
     let calls = calls_of_cluster(alloc)?;
-    let after = shown_after(alloc, event)?;
-    Some(steps_later(alloc, calls, event, answer, &after))
+    let after = shown_after(alloc, happening)?;
+    Some(happens_later(alloc, calls, happening, &after))
 }
 
 #[test]
 fn events_happen_later(rt: HostRuntime) -> Result<(), Fail> {
     let events = events(rt.alloc())?;
     for (event, answer) in events.iter().zip(&ANSWERS) {
-        let came = event_comes(rt.alloc(), event, *answer);
+        let came = comes(rt.alloc(), &Happening::One(event, *answer));
         assert_eq!(rt; came, Some(Came::AtOnce), "{answer:?}");
     }
     Ok(())
@@ -341,54 +357,28 @@ fn all_happen<A: Allocator + Copy, B: Allocator + Copy>(
     }
 }
 
-/// Makes all events happen in a cluster, which shows `after` then.
-fn runs_in<A: Allocator + Copy, B: Allocator + Copy>(
+/// Makes it happen in a cluster, which shows `after` then.
+fn happens_in<A: Allocator + Copy, B: Allocator + Copy>(
     inner: B,
     cluster: &mut Cluster<VecStore<A>>,
-    events: &[Event<B>],
+    happening: &Happening<'_, B>,
     after: &[u8],
 ) -> Came {
     match shown(inner, cluster) {
-        Ok(before) => all_happen(inner, cluster, events, (&before, after)),
+        Ok(before) => match happening {
+            Happening::One(event, answer) => {
+                happens(inner, cluster, event, *answer, (&before, after))
+            }
+            Happening::All(events) => all_happen(inner, cluster, events, (&before, after)),
+        },
         Err(_) => Came::Wrong,
     }
-}
-
-/// Makes all events happen in a cluster of its own.
-fn runs<A: Allocator + Copy, B: Allocator + Copy>(
-    heap: A,
-    inner: B,
-    events: &[Event<B>],
-    after: &[u8],
-) -> Came {
-    match cluster(heap) {
-        Some(mut cluster) => runs_in(inner, &mut cluster, events, after),
-        None => Came::Wrong,
-    }
-}
-
-/// Makes all events happen, while each allocation behind those of the cluster fails in turn.
-fn runs_later(alloc: Global, calls: u64, events: &[Event<Global>], after: &[u8]) -> Came {
-    let mut came = Came::Later;
-    for number in 1..MOST {
-        if came == Came::Later {
-            let heap = Refusing::new(alloc, calls.saturating_add(number));
-            came = runs(&heap, alloc, events, after).at(number);
-        }
-    }
-    came
-}
-
-/// What comes of all events in the end.
-fn all_come(alloc: Global, events: &[Event<Global>]) -> Option<Came> {
-    let calls = calls_of_cluster(alloc)?;
-    let after = shown_after_all(alloc, events)?;
-    Some(runs_later(alloc, calls, events, &after))
 }
 
 #[test]
 fn lists_of_events_happen_later(rt: HostRuntime) -> Result<(), Fail> {
     let events = events(rt.alloc())?;
-    assert_eq!(rt; all_come(rt.alloc(), &events), Some(Came::AtOnce));
+    let came = comes(rt.alloc(), &Happening::All(&events));
+    assert_eq!(rt; came, Some(Came::AtOnce));
     Ok(())
 }

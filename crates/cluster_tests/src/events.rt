@@ -64,11 +64,56 @@ const ANSWERS: [Answer; 10] = [
     Ok(Outcome::Delivered(Delivered::Repeat)),
 ];
 
+/// What is asked of a cluster.
+#[derive(Drop)]
+enum Asked<'a, A: Allocator + Copy> {
+    /// That it has this many copies, the last one empty, and neither batches nor images.
+    Copies(usize),
+    /// That it answers the list of events, and shows what it should.
+    Events(&'a [Event<A>]),
+    /// That it answers batches that are sent, one after the other.
+    Batches,
+    /// That it refuses numbers that nothing has.
+    Numbers,
+}
+
+/// What is wrong of a cluster; `None` where it does what is asked.
+fn wrong_of<A: Allocator + Copy>(
+    alloc: A,
+    cluster: &mut Cluster<VecStore<A>>,
+    asked: &Asked<'_, A>,
+) -> Option<&'static str> {
+    match asked {
+        Asked::Copies(copies) => {
+            if has_copies(cluster, *copies) {
+                None
+            } else {
+                Some("the copies")
+            }
+        }
+        Asked::Events(events) => first_wrong(&facts(cluster, events)),
+        Asked::Batches => first_wrong(&sent_batches(alloc, cluster)),
+        Asked::Numbers => wrong_refusal(alloc, cluster),
+    }
+}
+
+/// The same of a new cluster of this many copies.
+fn wrong_of_new<A: Allocator + Copy>(
+    alloc: A,
+    copies: usize,
+    asked: &Asked<'_, A>,
+) -> Result<Option<&'static str>, ClusterError> {
+    match Cluster::<VecStore<A>>::new(alloc, copies) {
+        Ok(mut cluster) => Ok(wrong_of(alloc, &mut cluster, asked)),
+        Err(why) => Err(why),
+    }
+}
+
 #[test]
 fn clusters_of_other_numbers_of_copies(rt: HostRuntime) {
     for copies in &[0, 9, usize::MAX] {
-        let refusal = Cluster::<VecStore<_>>::new(rt.alloc(), *copies).err();
-        assert_eq!(rt; refusal, Some(ClusterError::BadCopies), "{copies} copies");
+        let made = wrong_of_new(rt.alloc(), *copies, &Asked::Copies(*copies));
+        assert_eq!(rt; made, Err(ClusterError::BadCopies), "{copies} copies");
     }
 }
 
@@ -81,18 +126,11 @@ fn has_copies<A: Allocator + Copy>(cluster: &Cluster<VecStore<A>>, copies: usize
         && cluster.image(0).is_none()
 }
 
-/// Whether a new cluster of this many copies is such a one.
-fn is_made<A: Allocator + Copy>(alloc: A, copies: usize) -> bool {
-    match Cluster::<VecStore<A>>::new(alloc, copies) {
-        Ok(cluster) => has_copies(&cluster, copies),
-        Err(_) => false,
-    }
-}
-
 #[test]
 fn clusters_have_one_to_eight_copies(rt: HostRuntime) {
     for copies in 1..9 {
-        assert!(rt; is_made(rt.alloc(), copies), "{copies} copies");
+        let made = wrong_of_new(rt.alloc(), copies, &Asked::Copies(copies));
+        assert_eq!(rt; made, Ok(None), "{copies} copies");
     }
 }
 
@@ -161,18 +199,11 @@ fn facts<A: Allocator + Copy>(
     ]
 }
 
-/// The first of them that is wrong, of a new cluster of two copies.
-fn wrong_after<A: Allocator + Copy>(alloc: A, events: &[Event<A>]) -> Option<&'static str> {
-    match Cluster::new(alloc, 2) {
-        Ok(mut cluster) => first_wrong(&facts(&mut cluster, events)),
-        Err(_) => Some("no cluster"),
-    }
-}
-
 #[test]
 fn a_list_of_events(rt: HostRuntime) -> Result<(), Fail> {
     let events = events(rt.alloc())?;
-    assert_eq!(rt; wrong_after(rt.alloc(), &events), None);
+    let wrong = wrong_of_new(rt.alloc(), 2, &Asked::Events(&events));
+    assert_eq!(rt; wrong, Ok(None));
     Ok(())
 }
 
@@ -209,49 +240,38 @@ fn answers_to<A: Allocator + Copy>(
     }
 }
 
-/// The first of these batches that a cluster answers wrong.
-fn wrong_answer<A: Allocator + Copy>(
+/// Batches that are sent to a new cluster one after the other, by name, and whether it answers them right.
+fn sent_batches<A: Allocator + Copy>(
     alloc: A,
     cluster: &mut Cluster<VecStore<A>>,
-    rows: &[(&'static str, &[u8], Answer)],
-) -> Option<&'static str> {
-    let mut wrong = None;
-    for (name, bytes, wanted) in rows {
-        if wrong.is_none() && !answers_to(alloc, cluster, bytes, *wanted) {
-            wrong = Some(*name);
-        }
-    }
-    wrong
-}
-
-/// The same of a new cluster of two copies.
-fn wrong_when_new<A: Allocator + Copy>(
-    alloc: A,
-    rows: &[(&'static str, &[u8], Answer)],
-) -> Option<&'static str> {
-    match Cluster::new(alloc, 2) {
-        Ok(mut cluster) => wrong_answer(alloc, &mut cluster, rows),
-        Err(_) => Some("no cluster"),
-    }
+) -> [(&'static str, bool); 7] {
+    let first = misplaced();
+    let cut = &first[..69];
+    let gap = sent(7, 0, 2);
+    let mut extra = [0; 71];
+    extra[..70].copy_from_slice(&first);
+    let out_of_order = refused(AppendError::OutOfOrder);
+    let no_key = refused(AppendError::NoKey);
+    let long = Err(EventError::Extra);
+    let short = Err(EventError::BadBatch(BatchError::Short));
+    [
+        ("a batch", answers_to(alloc, cluster, &first, based(0))),
+        ("it again", answers_to(alloc, cluster, &first, repeat(0))),
+        (
+            "one left out",
+            answers_to(alloc, cluster, &gap, out_of_order),
+        ),
+        ("a null key", answers_to(alloc, cluster, &NO_KEY, no_key)),
+        ("a byte more", answers_to(alloc, cluster, &extra, long)),
+        ("a byte less", answers_to(alloc, cluster, cut, short)),
+        ("no byte", answers_to(alloc, cluster, &[], short)),
+    ]
 }
 
 #[test]
 fn batches_that_are_sent(rt: HostRuntime) {
-    let first = misplaced();
-    let gap = sent(7, 0, 2);
-    let mut extra = [0; 71];
-    extra[..70].copy_from_slice(&first);
-    let short = Err(EventError::BadBatch(BatchError::Short));
-    let rows = [
-        ("a batch", first.as_slice(), based(0)),
-        ("it again", &first, repeat(0)),
-        ("one left out", &gap, refused(AppendError::OutOfOrder)),
-        ("a null key", &NO_KEY, refused(AppendError::NoKey)),
-        ("a byte more", &extra, Err(EventError::Extra)),
-        ("a byte less", &first[..69], short),
-        ("no byte", &[], short),
-    ];
-    assert_eq!(rt; wrong_when_new(rt.alloc(), &rows), None);
+    let wrong = wrong_of_new(rt.alloc(), 2, &Asked::Batches);
+    assert_eq!(rt; wrong, Ok(None));
 }
 
 /// Whether the delivery of a batch is answered so.
@@ -327,8 +347,7 @@ fn wrong_refusal<A: Allocator + Copy>(
 }
 
 #[test]
-fn numbers_that_nothing_has(rt: HostRuntime) -> Result<(), Fail> {
-    let mut cluster = Cluster::<VecStore<_>>::new(rt.alloc(), 2)?;
-    assert_eq!(rt; wrong_refusal(rt.alloc(), &mut cluster), None);
-    Ok(())
+fn numbers_that_nothing_has(rt: HostRuntime) {
+    let wrong = wrong_of_new(rt.alloc(), 2, &Asked::Numbers);
+    assert_eq!(rt; wrong, Ok(None));
 }

@@ -1,72 +1,107 @@
 //! `write_image` and `read_image`: images against bytes of another program, and copies made of them.
 
-use crate::copies::{VecLog, cleaned, first_wrong, has_image, shows};
+use crate::copies::{VecLog, are_cleaned, first_wrong, has_image, shows};
 use crate::outside::{B_IS_2, EMPTY, SECOND_OF_TWO, TWO};
+use crate::parts::is_made_of_parts;
 use copy_images::{ImageError, read_image};
 use copy_merge::merge_into;
 use partition_log::{CleanReport, PartitionLog};
 use segment::VecStore;
 use std::alloc::Allocator;
 
+/// What is asked of a copy that was read from an image.
+#[derive(Clone, Copy)]
+pub(crate) enum Asked {
+    /// Nothing more.
+    Nothing,
+    /// That it has the same image.
+    Image,
+    /// That the copies made of its parts have the same image.
+    Parts,
+    /// That an empty copy receives its second record.
+    Merge,
+}
+
+/// Whether a copy that was read from an image does what is asked.
+fn does<A: Allocator + Copy, B: Allocator + Copy>(
+    inner: B,
+    copy: &VecLog<A>,
+    image: &[u8],
+    asked: Asked,
+) -> bool {
+    match asked {
+        Asked::Nothing => true,
+        Asked::Image => has_image(inner, copy, image),
+        Asked::Parts => is_made_of_parts(copy, image),
+        Asked::Merge => is_received(copy),
+    }
+}
+
+/// Whether the copy that is read from an image does what is asked.
+pub(crate) fn read<A: Allocator + Copy, B: Allocator + Copy>(
+    heap: A,
+    inner: B,
+    image: &[u8],
+    asked: Asked,
+) -> Result<bool, ImageError> {
+    match read_image::<VecStore<A>>(heap, image) {
+        Ok(copy) => Ok(does(inner, &copy, image, asked)),
+        Err(why) => Err(why),
+    }
+}
+
 /// The refusal of bytes as an image, in memory that suffices.
-fn refusal<A: Allocator + Copy>(alloc: A, bytes: &[u8]) -> Option<ImageError> {
-    read_image::<VecStore<A>>(alloc, bytes).err()
+pub(crate) fn refusal<A: Allocator + Copy>(alloc: A, bytes: &[u8]) -> Option<ImageError> {
+    read(alloc, alloc, bytes, Asked::Nothing).err()
 }
 
-/// Whether bytes are read as an image, and the copy has this image.
-fn is_kept<A: Allocator + Copy>(alloc: A, bytes: &[u8]) -> bool {
-    match read_image::<VecStore<A>>(alloc, bytes) {
-        Ok(copy) => has_image(alloc, &copy, bytes),
-        Err(_) => false,
-    }
+/// Whether the copy that is read from an image does what is asked, in memory that suffices.
+pub(crate) fn is_read<A: Allocator + Copy>(alloc: A, image: &[u8], asked: Asked) -> bool {
+    read(alloc, alloc, image, asked) == Ok(true)
 }
 
-/// Whether a new copy has the empty image.
-fn is_empty_written<A: Allocator + Copy>(alloc: A) -> bool {
-    let empty: VecLog<A> = PartitionLog::new(alloc);
-    has_image(alloc, &empty, &EMPTY)
-}
+/// What goes where a cleaning leaves the second record of two.
+const ONE_RECORD: CleanReport = CleanReport {
+    records: 1,
+    tombstones: 0,
+    batches: 0,
+};
 
-/// Whether a copy of two records, of which a cleaning leaves the second, has its image.
-fn is_cleaned_written<A: Allocator + Copy>(alloc: A) -> bool {
-    let report = CleanReport {
-        records: 1,
-        tombstones: 0,
-        batches: 0,
-    };
-    match cleaned(alloc, &[&TWO], (2, 0), report) {
-        Some(copy) => has_image(alloc, &copy, &SECOND_OF_TWO),
-        None => false,
-    }
+/// Whether a new copy has this image, after a cleaning of the two records of `TWO` or without them.
+fn is_written<A: Allocator + Copy>(alloc: A, has_two: bool, image: &[u8]) -> bool {
+    let mut copy = PartitionLog::new(alloc);
+    let is_made = !has_two || are_cleaned(&mut copy, &[&TWO], (2, 0), ONE_RECORD);
+    is_made && has_image(alloc, &copy, image)
 }
 
 /// Whether an empty copy shows the second record once the copy that has it is merged into it.
-fn is_received<A: Allocator + Copy>(alloc: A, sent: &VecLog<A>) -> bool {
-    let mut copy = PartitionLog::new(alloc);
+fn is_received<A: Allocator + Copy>(sent: &VecLog<A>) -> bool {
+    let mut copy = PartitionLog::new(sent.allocator());
     merge_into(&mut copy, sent).is_ok() && shows(&copy, &[(b"a", b"2")], &[(0, 1)])
-}
-
-/// The same of a copy that is read.
-fn is_read_received<A: Allocator + Copy>(alloc: A) -> bool {
-    match read_image::<VecStore<A>>(alloc, &SECOND_OF_TWO) {
-        Ok(sent) => is_received(alloc, &sent),
-        Err(_) => false,
-    }
 }
 
 #[test]
 fn images_are_read_and_written(rt: HostRuntime) {
     let alloc = rt.alloc();
     let rows = [
-        ("an empty copy", is_empty_written(alloc)),
-        ("a cleaned copy", is_cleaned_written(alloc)),
-        ("the image of an empty copy", is_kept(alloc, &EMPTY)),
-        ("the image of one record", is_kept(alloc, &B_IS_2)),
+        ("an empty copy", is_written(alloc, false, &EMPTY)),
+        ("a cleaned copy", is_written(alloc, true, &SECOND_OF_TWO)),
+        (
+            "the image of an empty copy",
+            is_read(alloc, &EMPTY, Asked::Image),
+        ),
+        (
+            "the image of one record",
+            is_read(alloc, &B_IS_2, Asked::Image),
+        ),
         (
             "the image of a second record",
-            is_kept(alloc, &SECOND_OF_TWO),
+            is_read(alloc, &SECOND_OF_TWO, Asked::Image),
         ),
-        ("an image that is merged", is_read_received(alloc)),
+        (
+            "an image that is merged",
+            is_read(alloc, &SECOND_OF_TWO, Asked::Merge),
+        ),
     ];
     assert_eq!(rt; first_wrong(&rows), None);
 }

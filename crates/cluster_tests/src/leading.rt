@@ -28,11 +28,6 @@ fn answers<A: Allocator + Copy>(
     }
 }
 
-/// A log of which this copy is the leader's; `None` where the copy has a gap.
-fn led<A: Allocator + Copy>(copy: VecLog<A>) -> Option<LeaderLog<VecStore<A>>> {
-    LeaderLog::from_copy(copy).ok()
-}
-
 /// Whether six batches are appended to a new log, five of them of a producer.
 fn has_six<A: Allocator + Copy>(log: &mut LeaderLog<VecStore<A>>) -> bool {
     let mut are_appended = true;
@@ -56,13 +51,23 @@ fn is_cleaned<A: Allocator + Copy>(log: &mut LeaderLog<VecStore<A>>) -> bool {
     }
 }
 
-/// The image of the six batches once they were cleaned; `None` where the log did otherwise.
-fn image_of_six<A: Allocator + Copy>(alloc: A) -> Option<Vec<u8, A>> {
-    let mut log = led(PartitionLog::new(alloc))?;
-    if has_six(&mut log) && is_cleaned(&mut log) {
+/// The image of the six batches once a log took them and was cleaned; `None` where it did otherwise.
+fn image_of_log<A: Allocator + Copy>(
+    alloc: A,
+    log: &mut LeaderLog<VecStore<A>>,
+) -> Option<Vec<u8, A>> {
+    if has_six(log) && is_cleaned(log) {
         write_image(alloc, log.copy()).ok()
     } else {
         None
+    }
+}
+
+/// The same of a new log.
+fn image_of_six<A: Allocator + Copy>(alloc: A) -> Option<Vec<u8, A>> {
+    match LeaderLog::from_copy(PartitionLog::new(alloc)) {
+        Ok(mut log) => image_of_log(alloc, &mut log),
+        Err(_) => None,
     }
 }
 
@@ -78,11 +83,67 @@ fn facts<A: Allocator + Copy>(log: &mut LeaderLog<VecStore<A>>) -> [(&'static st
     ]
 }
 
-/// The first of them that is wrong, of a log that is read from an image.
-fn wrong_of<A: Allocator + Copy>(copy: VecLog<A>) -> Option<&'static str> {
-    match led(copy) {
-        Some(mut log) => first_wrong(&facts(&mut log)),
-        None => Some("a gap"),
+/// What is asked of a copy that was read from an image.
+#[derive(Clone, Copy)]
+enum Asked {
+    /// That it leads, and knows the producer of the six batches.
+    Producer,
+    /// That it leads, and takes no batch, for it has all offsets.
+    Full,
+    /// That it has a gap, and is handed back with its image.
+    Gap,
+}
+
+/// The first fact that is wrong of a log; `None` where it does what is asked.
+fn wrong_of_log<A: Allocator + Copy>(
+    log: &mut LeaderLog<VecStore<A>>,
+    asked: Asked,
+) -> Option<&'static str> {
+    match asked {
+        Asked::Producer => first_wrong(&facts(log)),
+        Asked::Full => {
+            let is_full = answers(log, &A_IS_1, Err(AppendError::OffsetsFull));
+            first_wrong(&[("a batch", is_full)])
+        }
+        Asked::Gap => Some("no gap"),
+    }
+}
+
+/// What is wrong of a copy that has a gap; `None` where one is asked for, and the copy has its image.
+fn wrong_of_gapped<A: Allocator + Copy>(
+    alloc: A,
+    copy: &VecLog<A>,
+    image: &[u8],
+    asked: Asked,
+) -> Option<&'static str> {
+    match asked {
+        Asked::Gap => first_wrong(&[("its image", has_image(alloc, copy, image))]),
+        _ => Some("a gap"),
+    }
+}
+
+/// What is wrong of a copy that was read from an image, where it leads or is handed back.
+fn wrong_of<A: Allocator + Copy>(
+    alloc: A,
+    copy: VecLog<A>,
+    image: &[u8],
+    asked: Asked,
+) -> Option<&'static str> {
+    match LeaderLog::from_copy(copy) {
+        Ok(mut log) => wrong_of_log(&mut log, asked),
+        Err(gapped) => wrong_of_gapped(alloc, &gapped.copy, image, asked),
+    }
+}
+
+/// The same of an image.
+fn wrong_of_image<A: Allocator + Copy>(
+    alloc: A,
+    image: &[u8],
+    asked: Asked,
+) -> Option<&'static str> {
+    match read_image(alloc, image) {
+        Ok(copy) => wrong_of(alloc, copy, image, asked),
+        Err(_) => Some("no image"),
     }
 }
 
@@ -91,38 +152,23 @@ fn a_producer_is_known_from_an_image(rt: HostRuntime) -> Result<(), Fail> {
     let Some(image) = image_of_six(rt.alloc()) else {
         return Err(Fail::new("there is no image"));
     };
-    let wrong = wrong_of(read_image(rt.alloc(), &image)?);
+    let wrong = wrong_of_image(rt.alloc(), &image, Asked::Producer);
     assert_eq!(rt; wrong, None);
     Ok(())
-}
-
-/// Whether a copy with a gap is handed back with its image.
-fn is_handed_back<A: Allocator + Copy>(alloc: A, image: &[u8], copy: VecLog<A>) -> bool {
-    match LeaderLog::from_copy(copy) {
-        Ok(_) => false,
-        Err(gapped) => has_image(alloc, &gapped.copy, image),
-    }
-}
-
-/// Whether a log of this copy takes no batch, for it has all offsets.
-fn is_full<A: Allocator + Copy>(copy: VecLog<A>) -> bool {
-    match led(copy) {
-        Some(mut log) => answers(&mut log, &A_IS_1, Err(AppendError::OffsetsFull)),
-        None => false,
-    }
 }
 
 #[test]
 fn an_image_of_all_offsets(rt: HostRuntime) -> Result<(), Fail> {
     let image = image_with(rt.alloc(), 1, &[(0, 0x3fff_ffff_ffff_ffff)], 0, b"")?;
-    assert!(rt; is_full(read_image(rt.alloc(), &image)?));
+    let wrong = wrong_of_image(rt.alloc(), &image, Asked::Full);
+    assert_eq!(rt; wrong, None);
     Ok(())
 }
 
 #[test]
 fn an_image_with_a_gap(rt: HostRuntime) -> Result<(), Fail> {
     let image = image_with(rt.alloc(), 1, &[(1, 1)], 0, b"")?;
-    let copy = read_image(rt.alloc(), &image)?;
-    assert!(rt; is_handed_back(rt.alloc(), &image, copy));
+    let wrong = wrong_of_image(rt.alloc(), &image, Asked::Gap);
+    assert_eq!(rt; wrong, None);
     Ok(())
 }

@@ -2,12 +2,13 @@
 //! same call then succeeds.
 
 use crate::copies::{VecLog, has_image};
-use crate::merging::without_one;
+use crate::images::{Asked, read};
+use crate::merging::drop_one_each;
 use crate::outside::NONE_OF_TWO;
-use crate::parts::rebuilt;
+use crate::parts::{Kept, remade};
 use copy_images::{ImageError, read_image, write_image};
 use copy_merge::{MergeError, merge, merge_into};
-use outside_batches::one;
+use partition_log::PartitionLog;
 use refusing_alloc::Refusing;
 use segment::VecStore;
 use std::alloc::{Allocator, Global};
@@ -56,17 +57,10 @@ pub(crate) fn later(is_right: bool) -> Came {
     if is_right { Came::Later } else { Came::Wrong }
 }
 
-/// Two copies of one log, whose merge is `NONE_OF_TWO`.
-fn pair<A: Allocator + Copy>(alloc: A) -> Option<(VecLog<A>, VecLog<A>)> {
-    let left = without_one(alloc, &one(2, 0, b'a', b'5'))?;
-    let right = without_one(alloc, &one(3, 0, b'b', b'6'))?;
-    Some((left, right))
-}
-
 /// How many allocations the two copies ask for.
 fn calls_of_pair(alloc: Global) -> Option<u64> {
     let counted = Refusing::new(alloc, 0);
-    if pair(&counted).is_some() {
+    if tries(Call::Nothing, &counted, alloc) == Came::AtOnce {
         Some(counted.calls())
     } else {
         None
@@ -115,27 +109,15 @@ fn merges_into<A: Allocator + Copy, B: Allocator + Copy>(
     }
 }
 
-/// Whether a copy that is made of this one's parts has this image; `None` where memory lacks.
-fn remade<A: Allocator + Copy, B: Allocator + Copy>(
-    inner: B,
-    copy: &VecLog<A>,
-    image: &[u8],
-) -> Option<bool> {
-    match rebuilt(copy.allocator(), copy) {
-        Ok(made) => Some(has_image(inner, &made, image)),
-        Err(_) => None,
-    }
-}
-
 /// Makes a copy of the parts of this one.
 fn rebuilds<A: Allocator + Copy, B: Allocator + Copy>(
     inner: B,
     copy: &VecLog<A>,
     image: &[u8],
 ) -> Came {
-    match remade(inner, copy, image) {
+    match remade(inner, copy, Kept::Image(image)) {
         Some(is_right) => at_once(is_right),
-        None => later(remade(inner, copy, image) == Some(true)),
+        None => later(remade(inner, copy, Kept::Image(image)) == Some(true)),
     }
 }
 
@@ -156,22 +138,25 @@ fn writes<A: Allocator + Copy, B: Allocator + Copy>(heap: A, copy: &VecLog<B>) -
 }
 
 /// Whether an image is read right.
-fn read<A: Allocator + Copy, B: Allocator + Copy>(heap: A, inner: B) -> Result<bool, ImageError> {
-    let copy = read_image::<VecStore<A>>(heap, &NONE_OF_TWO)?;
-    Ok(has_image(inner, &copy, &NONE_OF_TWO))
+fn is_read<A: Allocator + Copy, B: Allocator + Copy>(
+    heap: A,
+    inner: B,
+) -> Result<bool, ImageError> {
+    read(heap, inner, &NONE_OF_TWO, Asked::Image)
 }
 
 /// Reads an image.
 fn reads<A: Allocator + Copy, B: Allocator + Copy>(heap: A, inner: B) -> Came {
-    match read(heap, inner) {
+    match is_read(heap, inner) {
         Ok(is_right) => at_once(is_right),
-        Err(why) => later(why == ImageError::OutOfMemory && read(heap, inner) == Ok(true)),
+        Err(why) => later(why == ImageError::OutOfMemory && is_read(heap, inner) == Ok(true)),
     }
 }
 
 /// The calls on two copies.
 #[derive(Clone, Copy, Debug)]
 enum Call {
+    Nothing,
     Merge,
     MergeInto,
     Rebuild,
@@ -185,6 +170,7 @@ fn makes<A: Allocator + Copy, B: Allocator + Copy>(
     image: &[u8],
 ) -> Came {
     match call {
+        Call::Nothing => Came::AtOnce,
         Call::Merge => merges(inner, left, right),
         Call::MergeInto => merges_into(inner, left, right, image),
         Call::Rebuild => rebuilds(inner, left, image),
@@ -204,11 +190,14 @@ fn tries_on<A: Allocator + Copy, B: Allocator + Copy>(
     }
 }
 
-/// Makes a call on two copies of its own.
+/// Makes a call on two copies of its own: two copies of one log, whose merge is `NONE_OF_TWO`.
 fn tries<A: Allocator + Copy, B: Allocator + Copy>(call: Call, heap: A, inner: B) -> Came {
-    match pair(heap) {
-        Some((mut left, right)) => tries_on(call, inner, &mut left, &right),
-        None => Came::Wrong,
+    let mut left = PartitionLog::new(heap);
+    let mut right = PartitionLog::new(heap);
+    if drop_one_each(&mut left, &mut right) {
+        tries_on(call, inner, &mut left, &right)
+    } else {
+        Came::Wrong
     }
 }
 

@@ -1,12 +1,12 @@
 //! `merge` and `merge_into`: merges worked by hand, with the bytes of their images, and copies that
 //! disagree.
 
-use crate::copies::{VecLog, cleaned, copy_of, has_image, shows};
+use crate::copies::{VecLog, are_added, are_cleaned, has_image, shows};
 use crate::outside::{A_AND_B, B_IS_2, NONE_OF_TWO, TWO};
 use copy_images::write_image;
 use copy_merge::{MergeError, merge, merge_into};
 use outside_batches::{nine_at, null_at, one, three_at};
-use partition_log::CleanReport;
+use partition_log::{CleanReport, PartitionLog};
 use std::alloc::Allocator;
 
 /// What a merge gives: the image, the rows that it shows, and the offsets that it has seen.
@@ -67,10 +67,11 @@ const TWO_BATCHES: CleanReport = CleanReport {
     batches: 2,
 };
 
-/// A copy whose record `a` = 1 went, and then its tombstone.
-fn without_a<A: Allocator + Copy>(alloc: A, first: &[u8]) -> Option<VecLog<A>> {
+/// Whether the record `a` = 1 of a copy goes, and then its tombstone.
+fn drops_a<A: Allocator + Copy>(copy: &mut VecLog<A>, first: &[u8]) -> bool {
     let second = one(1, 0, b'b', b'2');
-    cleaned(alloc, &[first, &second, &null_at(2)], (3, 3), TWO_BATCHES)
+    let batches: &[&[u8]] = &[first, &second, &null_at(2)];
+    are_cleaned(copy, batches, (3, 3), TWO_BATCHES)
 }
 
 /// Whether the record that the first copy dropped isn't in its merges with the second, which has it.
@@ -85,25 +86,11 @@ fn stays_gone<A: Allocator + Copy>(alloc: A, cleaned: &VecLog<A>, other: &VecLog
         && merges_to(alloc, cleaned, cleaned, &wanted)
 }
 
-/// The same of a copy of this batch.
-fn stays_gone_beside<A: Allocator + Copy>(alloc: A, cleaned: &VecLog<A>, batch: &[u8]) -> bool {
-    match copy_of(alloc, &[batch]) {
-        Some(other) => stays_gone(alloc, cleaned, &other),
-        None => false,
-    }
-}
-
-/// The same of a copy that dropped the record of this batch.
-fn drops_for_good<A: Allocator + Copy>(alloc: A, first: &[u8]) -> bool {
-    match without_a(alloc, first) {
-        Some(cleaned) => stays_gone_beside(alloc, &cleaned, first),
-        None => false,
-    }
-}
-
 #[test]
 fn a_dropped_record_stays_gone(rt: HostRuntime) {
-    assert!(rt; drops_for_good(rt.alloc(), &one(0, 0, b'a', b'1')));
+    let batch = one(0, 0, b'a', b'1');
+    let pair = Pair::Dropped { batch: &batch };
+    assert!(rt; is_right(rt.alloc(), &pair));
 }
 
 /// What goes where one record of a batch is cleaned away.
@@ -113,9 +100,17 @@ const ONE_RECORD: CleanReport = CleanReport {
     batches: 0,
 };
 
-/// A copy of the batch `a` = 1, `b` = 2 without the record that this batch supersedes.
-pub(crate) fn without_one<A: Allocator + Copy>(alloc: A, last: &[u8]) -> Option<VecLog<A>> {
-    cleaned(alloc, &[&A_AND_B, last], (4, 0), ONE_RECORD)
+/// Whether a copy loses the record of the batch `a` = 1, `b` = 2 that this batch supersedes.
+fn drops_one<A: Allocator + Copy>(copy: &mut VecLog<A>, last: &[u8]) -> bool {
+    are_cleaned(copy, &[&A_AND_B, last], (4, 0), ONE_RECORD)
+}
+
+/// Whether two new copies become ones of one log that superseded another record each.
+pub(crate) fn drop_one_each<A: Allocator + Copy>(
+    left: &mut VecLog<A>,
+    right: &mut VecLog<A>,
+) -> bool {
+    drops_one(left, &one(2, 0, b'a', b'5')) && drops_one(right, &one(3, 0, b'b', b'6'))
 }
 
 /// What the merge of two copies gives that lost another record each: it has neither.
@@ -133,27 +128,14 @@ fn merges_again<A: Allocator + Copy>(alloc: A, left: &VecLog<A>, right: &VecLog<
     }
 }
 
-/// Whether both records go in the merges of this copy with one that superseded the other record.
-fn both_go<A: Allocator + Copy>(alloc: A, left: &VecLog<A>) -> bool {
-    match without_one(alloc, &one(3, 0, b'b', b'6')) {
-        Some(right) => {
-            merges_to(alloc, left, &right, &NEITHER) && merges_again(alloc, left, &right)
-        }
-        None => false,
-    }
-}
-
-/// The same of two copies that superseded another record each.
-fn both_go_in_merges<A: Allocator + Copy>(alloc: A) -> bool {
-    match without_one(alloc, &one(2, 0, b'a', b'5')) {
-        Some(left) => both_go(alloc, &left),
-        None => false,
-    }
+/// Whether both records go in the merges of two copies that superseded another record each.
+fn both_go<A: Allocator + Copy>(alloc: A, left: &VecLog<A>, right: &VecLog<A>) -> bool {
+    merges_to(alloc, left, right, &NEITHER) && merges_again(alloc, left, right)
 }
 
 #[test]
 fn records_stay_that_both_have(rt: HostRuntime) {
-    assert!(rt; both_go_in_merges(rt.alloc()));
+    assert!(rt; is_right(rt.alloc(), &Pair::Superseded));
 }
 
 /// Whether both calls refuse the second copy at this base beside the first, which keeps this image.
@@ -192,25 +174,60 @@ fn disagree<A: Allocator + Copy>(alloc: A, left: &VecLog<A>, right: &VecLog<A>, 
     refuse_in_order(alloc, left, right, base) && refuse_in_order(alloc, right, left, base)
 }
 
-/// Whether a copy and one of these batches disagree so.
-fn disagrees_with<A: Allocator + Copy>(
-    alloc: A,
-    left: &VecLog<A>,
-    right: &[&[u8]],
-    base: i64,
+/// Two copies that merge, or don't.
+#[derive(Clone, Copy)]
+enum Pair<'a> {
+    /// The first dropped the record of this batch, and the second has it.
+    Dropped {
+        batch: &'a [u8],
+    },
+    /// Each superseded another record of one batch.
+    Superseded,
+    /// They have these batches, and disagree at this base.
+    Apart {
+        left: &'a [&'a [u8]],
+        right: &'a [&'a [u8]],
+        base: i64,
+    },
+}
+
+/// Whether two new copies become such a pair.
+fn become_pair<A: Allocator + Copy>(
+    first: &mut VecLog<A>,
+    second: &mut VecLog<A>,
+    pair: &Pair<'_>,
 ) -> bool {
-    match copy_of(alloc, right) {
-        Some(right) => disagree(alloc, left, &right, base),
-        None => false,
+    match pair {
+        Pair::Dropped { batch } => drops_a(first, batch) && are_added(second, &[batch]),
+        Pair::Superseded => drop_one_each(first, second),
+        Pair::Apart { left, right, .. } => are_added(first, left) && are_added(second, right),
     }
+}
+
+/// Whether the two copies of such a pair merge, or don't, as they should.
+fn merge_as_pair<A: Allocator + Copy>(
+    alloc: A,
+    first: &VecLog<A>,
+    second: &VecLog<A>,
+    pair: &Pair<'_>,
+) -> bool {
+    match pair {
+        Pair::Dropped { .. } => stays_gone(alloc, first, second),
+        Pair::Superseded => both_go(alloc, first, second),
+        Pair::Apart { base, .. } => disagree(alloc, first, second, *base),
+    }
+}
+
+/// Whether two new copies become such a pair, and merge, or don't, as they should.
+fn is_right<A: Allocator + Copy>(alloc: A, pair: &Pair<'_>) -> bool {
+    let mut first = PartitionLog::new(alloc);
+    let mut second = PartitionLog::new(alloc);
+    become_pair(&mut first, &mut second, pair) && merge_as_pair(alloc, &first, &second, pair)
 }
 
 /// Whether copies of these batches disagree so.
 fn apart<A: Allocator + Copy>(alloc: A, left: &[&[u8]], right: &[&[u8]], base: i64) -> bool {
-    match copy_of(alloc, left) {
-        Some(left) => disagrees_with(alloc, &left, right, base),
-        None => false,
-    }
+    is_right(alloc, &Pair::Apart { left, right, base })
 }
 
 #[test]

@@ -3,13 +3,13 @@
 ghost use Rattle.std.specs.Prelude.{◌≡◌, pos, IfOk};
 ghost use Rattle.content.specs.Content.{IsContent};
 
-use crate::copies::{VecLog, copy_of, first_wrong, has_image, shows};
+use crate::copies::{VecLog, are_added, first_wrong, has_image, shows};
+use crate::images::{Asked, is_read};
 use crate::outside::{A_AND_B, B_IS_2, EMPTY, SECOND_OF_TWO};
 use batch_codec::Batch;
-use copy_images::read_image;
 use outside_batches::one;
 use partition_log::PartitionLog;
-use segment::{BatchStore, VecStore};
+use segment::BatchStore;
 use std::alloc::{AllocError, Allocator};
 
 /// A copy's content is a valid one from 0 on: this is known behind the call, which does nothing.
@@ -36,7 +36,7 @@ fn batches_of<S: BatchStore>(
 }
 
 /// A copy made of the parts of another one.
-pub(crate) fn rebuilt<S: BatchStore>(
+fn rebuilt<S: BatchStore>(
     alloc: S::Alloc,
     copy: &PartitionLog<S>,
 ) -> Result<PartitionLog<S>, AllocError> {
@@ -57,38 +57,13 @@ fn restored<S: BatchStore>(
     Ok(PartitionLog::from_store(alloc, copy.cover().try_clone()?, store))
 }
 
-/// Whether a copy made of the parts of this one has this image.
-fn is_rebuilt<A: Allocator + Copy>(alloc: A, copy: &VecLog<A>, image: &[u8]) -> bool {
-    match rebuilt(alloc, copy) {
-        Ok(made) => has_image(alloc, &made, image),
-        Err(_) => false,
-    }
-}
-
-/// Whether a copy made of this one's store has this image.
-fn is_restored<A: Allocator + Copy>(alloc: A, copy: &VecLog<A>, image: &[u8]) -> bool {
-    match restored(alloc, copy) {
-        Ok(made) => has_image(alloc, &made, image),
-        Err(_) => false,
-    }
-}
-
-/// Whether the copy of an image has it too, when it is put together again in either way.
-fn is_kept<A: Allocator + Copy>(alloc: A, image: &[u8]) -> bool {
-    match read_image::<VecStore<A>>(alloc, image) {
-        Ok(copy) => is_rebuilt(alloc, &copy, image) && is_restored(alloc, &copy, image),
-        Err(_) => false,
-    }
-}
-
-#[test]
-fn copies_are_made_of_their_parts(rt: HostRuntime) {
-    let rows = [
-        ("an empty copy", is_kept(rt.alloc(), &EMPTY)),
-        ("one record", is_kept(rt.alloc(), &B_IS_2)),
-        ("a second record", is_kept(rt.alloc(), &SECOND_OF_TWO)),
-    ];
-    assert_eq!(rt; first_wrong(&rows), None);
+/// What a copy should have that is made of another one's parts.
+#[derive(Clone, Copy)]
+pub(crate) enum Kept<'a> {
+    /// This image.
+    Image(&'a [u8]),
+    /// The three rows that stand around the gap.
+    Gap,
 }
 
 /// Whether a copy shows the three rows that stand around the gap.
@@ -97,31 +72,71 @@ fn shows_gap<A: Allocator + Copy>(copy: &VecLog<A>) -> bool {
     shows(copy, rows, &[(0, 1), (9, 9)])
 }
 
-/// Whether a copy made of the parts of this one shows them.
-fn is_rebuilt_with_gap<A: Allocator + Copy>(alloc: A, copy: &VecLog<A>) -> bool {
-    match rebuilt(alloc, copy) {
-        Ok(made) => shows_gap(&made),
-        Err(_) => false,
+/// Whether a copy has what it should have.
+fn has_kept<A: Allocator + Copy, B: Allocator + Copy>(
+    inner: B,
+    copy: &VecLog<A>,
+    kept: Kept<'_>,
+) -> bool {
+    match kept {
+        Kept::Image(image) => has_image(inner, copy, image),
+        Kept::Gap => shows_gap(copy),
     }
 }
 
-/// Whether a copy made of this one's store shows them.
-fn is_restored_with_gap<A: Allocator + Copy>(alloc: A, copy: &VecLog<A>) -> bool {
+/// Whether a copy that is made of this one's parts has what it should have; `None` where memory lacks.
+pub(crate) fn remade<A: Allocator + Copy, B: Allocator + Copy>(
+    inner: B,
+    copy: &VecLog<A>,
+    kept: Kept<'_>,
+) -> Option<bool> {
+    match rebuilt(copy.allocator(), copy) {
+        Ok(made) => Some(has_kept(inner, &made, kept)),
+        Err(_) => None,
+    }
+}
+
+/// Whether a copy made of the parts of this one has what it should have.
+fn is_rebuilt<A: Allocator + Copy>(copy: &VecLog<A>, kept: Kept<'_>) -> bool {
+    remade(copy.allocator(), copy, kept) == Some(true)
+}
+
+/// Whether a copy made of this one's store has what it should have.
+fn is_restored<A: Allocator + Copy>(copy: &VecLog<A>, kept: Kept<'_>) -> bool {
+    let alloc = copy.allocator();
     match restored(alloc, copy) {
-        Ok(made) => shows_gap(&made),
+        Ok(made) => has_kept(alloc, &made, kept),
         Err(_) => false,
     }
 }
 
-/// Whether a copy made of this one in either way shows them.
-fn keeps_gap<A: Allocator + Copy>(alloc: A, batches: &[&[u8]]) -> (bool, bool) {
-    match copy_of(alloc, batches) {
-        Some(copy) => (
-            is_rebuilt_with_gap(alloc, &copy),
-            is_restored_with_gap(alloc, &copy),
+/// Whether the copies have this image that are put together of the parts of this one in either way.
+pub(crate) fn is_made_of_parts<A: Allocator + Copy>(copy: &VecLog<A>, image: &[u8]) -> bool {
+    is_rebuilt(copy, Kept::Image(image)) && is_restored(copy, Kept::Image(image))
+}
+
+#[test]
+fn copies_are_made_of_their_parts(rt: HostRuntime) {
+    let rows = [
+        ("an empty copy", is_read(rt.alloc(), &EMPTY, Asked::Parts)),
+        ("one record", is_read(rt.alloc(), &B_IS_2, Asked::Parts)),
+        (
+            "a second record",
+            is_read(rt.alloc(), &SECOND_OF_TWO, Asked::Parts),
         ),
-        None => (false, false),
-    }
+    ];
+    assert_eq!(rt; first_wrong(&rows), None);
+}
+
+/// Whether the copies show the rows around the gap that are made of a copy of these batches: of its parts,
+/// and of its store.
+fn keeps_gap<A: Allocator + Copy>(alloc: A, batches: &[&[u8]]) -> (bool, bool) {
+    let mut copy = PartitionLog::new(alloc);
+    let are_added = are_added(&mut copy, batches);
+    (
+        are_added && is_rebuilt(&copy, Kept::Gap),
+        are_added && is_restored(&copy, Kept::Gap),
+    )
 }
 
 #[test]

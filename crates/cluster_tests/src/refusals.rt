@@ -1,9 +1,9 @@
 //! `read_image` on bytes with a right crc: the first fault of each, and what is accepted at the limits.
 
+use crate::images::refusal;
 use checksum::crc32c;
-use copy_images::{ImageError, read_image};
+use copy_images::ImageError;
 use outside_batches::{NO_KEY, nine_at, one, three_at};
-use segment::VecStore;
 use std::alloc::{AllocError, Allocator};
 use std::test::Fail;
 
@@ -32,7 +32,7 @@ pub(crate) fn image_with<A: Allocator>(
 }
 
 /// The refusal of such bytes as an image, in memory that suffices.
-fn refusal<A: Allocator + Copy>(
+fn refusal_with<A: Allocator + Copy>(
     alloc: A,
     range_count: i32,
     ranges: &[(i64, i64)],
@@ -40,7 +40,7 @@ fn refusal<A: Allocator + Copy>(
     batches: &[u8],
 ) -> Option<ImageError> {
     match image_with(alloc, range_count, ranges, batch_count, batches) {
-        Ok(bytes) => read_image::<VecStore<A>>(alloc, &bytes).err(),
+        Ok(bytes) => refusal(alloc, &bytes),
         Err(_) => Some(ImageError::OutOfMemory),
     }
 }
@@ -90,7 +90,7 @@ fn counts_and_ranges(rt: HostRuntime) {
         ),
     ];
     for (name, range_count, ranges, batch_count, wanted) in &rows {
-        let found = refusal(rt.alloc(), *range_count, ranges, *batch_count, b"");
+        let found = refusal_with(rt.alloc(), *range_count, ranges, *batch_count, b"");
         assert_eq!(rt; found, *wanted, "{name}");
     }
 }
@@ -129,7 +129,7 @@ fn two_batches_in_ranges(rt: HostRuntime) {
     ];
     for (name, ranges, count, batches, wanted) in &rows {
         let range_count = ranges.len() as i32;
-        let found = refusal(rt.alloc(), range_count, ranges, *count, batches);
+        let found = refusal_with(rt.alloc(), range_count, ranges, *count, batches);
         assert_eq!(rt; found, *wanted, "{name}");
     }
 }
@@ -167,7 +167,7 @@ fn one_batch_in_ranges(rt: HostRuntime) {
     ];
     for (name, ranges, count, batches, wanted) in &rows {
         let range_count = ranges.len() as i32;
-        let found = refusal(rt.alloc(), range_count, ranges, *count, batches);
+        let found = refusal_with(rt.alloc(), range_count, ranges, *count, batches);
         assert_eq!(rt; found, *wanted, "{name}");
     }
 }
