@@ -21,9 +21,12 @@ const MOST: u64 = 400;
 /// A key and a value, each of one byte; the value 0 stands for null.
 type Pair = (u8, u8);
 
+/// The records of a batch, one at each offset, up to `NO`.
+type Pairs = (Pair, Pair, Pair, Pair);
+
 /// A batch: its base offset, its producer with epoch and first sequence number, and its records, one
 /// at each offset, up to `NO`.
-type Written = (i64, (i64, i16, i32), [Pair; 4]);
+type Written = (i64, (i64, i16, i32), Pairs);
 
 /// What is left of a batch: its base offset, its last offset delta, and its records as bits, bit `d`
 /// for the record of the offset delta `d`.
@@ -31,13 +34,13 @@ type Left = (i64, i32, u32);
 
 /// A row: its name, the batches, the first and last offset seen, both bounds, the report and what is
 /// left.
-type Row<'a> = (
-    &'a str,
-    &'a [Written],
+type Row = (
+    &'static str,
+    &'static [Written],
     (i64, i64),
     (i64, i64),
     (u64, u64, u64),
-    &'a [Left],
+    &'static [Left],
 );
 
 const NONE: (i64, i16, i32) = (-1, -1, -1);
@@ -48,45 +51,73 @@ const A2: Pair = (b'a', b'2');
 
 const A3: Pair = (b'a', b'3');
 
-const A_NULL: Pair = (b'a', 0);
-
 const B2: Pair = (b'b', b'2');
-
-const B3: Pair = (b'b', b'3');
 
 const B4: Pair = (b'b', b'4');
 
-const K: Pair = (b'k', b'v');
-
 const NO: Pair = (0, 0);
 
-/// What is left below 6 of five batches of one producer and one batch more: its window stays, though
-/// the batches are empty.
-const FIVE_LEFT: [Left; 6] = [
-    (0, 0, 0),
-    (1, 0, 0),
-    (2, 0, 0),
-    (3, 0, 0),
-    (4, 0, 0),
-    (5, 0, 1),
-];
+/// The records of a batch of one record.
+const K: Pairs = ((b'k', b'v'), NO, NO, NO);
 
-/// A batch of one record.
-fn one(base: i64, producer: (i64, i16, i32), pair: Pair) -> Written {
-    (base, producer, [pair, NO, NO, NO])
-}
+/// a=1, b=2, a=null, b=3, one record a batch.
+const A_IS_1: Written = (0, NONE, (A1, NO, NO, NO));
 
-/// Five batches of one producer, then one without a producer, all with one key.
-fn five() -> [Written; 6] {
-    [
-        one(0, (7, 0, 0), K),
-        one(1, (7, 0, 1), K),
-        one(2, (7, 0, 2), K),
-        one(3, (7, 0, 3), K),
-        one(4, (7, 0, 4), K),
-        one(5, NONE, K),
-    ]
-}
+const B_IS_2: Written = (1, NONE, (B2, NO, NO, NO));
+
+const A_IS_NULL: Written = (2, NONE, ((b'a', 0), NO, NO, NO));
+
+const B_IS_3: Written = (3, NONE, ((b'b', b'3'), NO, NO, NO));
+
+/// Five batches of one producer, then one without a producer, all with one key: the window of the producer
+/// stays, though its batches are left empty.
+const FIVE: Row = (
+    "five batches of a producer",
+    &[
+        (0, (7, 0, 0), K),
+        (1, (7, 0, 1), K),
+        (2, (7, 0, 2), K),
+        (3, (7, 0, 3), K),
+        (4, (7, 0, 4), K),
+        (5, NONE, K),
+    ],
+    (0, 5),
+    (6, 0),
+    (5, 0, 0),
+    &[
+        (0, 0, 0),
+        (1, 0, 0),
+        (2, 0, 0),
+        (3, 0, 0),
+        (4, 0, 0),
+        (5, 0, 1),
+    ],
+);
+
+/// A batch more of the producer: its first one goes.
+const SIX: Row = (
+    "six batches of a producer",
+    &[
+        (0, (7, 0, 0), K),
+        (1, (7, 0, 1), K),
+        (2, (7, 0, 2), K),
+        (3, (7, 0, 3), K),
+        (4, (7, 0, 4), K),
+        (5, (7, 0, 5), K),
+        (6, NONE, K),
+    ],
+    (0, 6),
+    (7, 0),
+    (6, 0, 1),
+    &[
+        (1, 0, 0),
+        (2, 0, 0),
+        (3, 0, 0),
+        (4, 0, 0),
+        (5, 0, 0),
+        (6, 0, 1),
+    ],
+);
 
 fn has_key<A: Allocator + Copy>(rec: &Rec<A>) -> bool
     ensures { result ≡ is_some rec.now.key }
@@ -166,21 +197,6 @@ fn is_content<A: Allocator + Copy, B: Allocator + Copy>(
     true
 }
 
-/// The cleaning of a content; none where the batches and the offsets are not one. The second
-/// allocator is for finding out.
-fn clean<A: Allocator + Copy, B: Allocator + Copy>(
-    alloc: A,
-    other: B,
-    batches: &[Batch<A>],
-    cover: &Cover<A>,
-    bounds: (i64, i64),
-) -> Result<Option<(Vec<Batch<A>, A>, CleanReport)>, AllocError> {
-    if !is_content(other, batches, cover) {
-        return Ok(None);
-    }
-    Ok(Some(clean_list(alloc, batches, cover, bounds.0, bounds.1)?))
-}
-
 /// A record without headers.
 fn record_of<A: Allocator + Copy>(alloc: A, delta: i32, pair: Pair) -> Result<Rec<A>, AllocError> {
     let value = match pair.1 {
@@ -197,23 +213,37 @@ fn record_of<A: Allocator + Copy>(alloc: A, delta: i32, pair: Pair) -> Result<Re
     })
 }
 
-/// A whole batch.
-fn batch_of<A: Allocator + Copy>(alloc: A, written: &Written) -> Result<Batch<A>, AllocError> {
-    let (base, (producer, producer_epoch, base_seq), pairs) = *written;
+/// The records of a batch, one at each offset.
+fn recs_of<A: Allocator + Copy>(alloc: A, pairs: &[Pair]) -> Result<Vec<Rec<A>, A>, AllocError> {
     let mut recs = Vec::new(alloc);
-    let mut last_delta = -1i32;
+    let mut delta = 0i32;
     for pair in pairs {
-        if pair == NO {
+        if *pair == NO {
             break;
         }
-        last_delta = last_delta.saturating_add(1);
-        recs.push(record_of(alloc, last_delta, pair)?)?;
+        recs.push(record_of(alloc, delta, *pair)?)?;
+        delta = delta.saturating_add(1);
     }
+    Ok(recs)
+}
+
+/// The offset delta of the last record; -1 where there is none.
+fn last_delta_of<A: Allocator + Copy>(recs: &[Rec<A>]) -> i32 {
+    match recs.last() {
+        Some(rec) => rec.delta,
+        None => -1,
+    }
+}
+
+/// A whole batch.
+fn batch_of<A: Allocator + Copy>(alloc: A, written: &Written) -> Result<Batch<A>, AllocError> {
+    let (base, (producer, producer_epoch, base_seq), (first, second, third, fourth)) = *written;
+    let recs = recs_of(alloc, &[first, second, third, fourth])?;
     let head = BatchHead {
         base,
         leader_epoch: 0,
         attrs: 0,
-        last_delta,
+        last_delta: last_delta_of(&recs),
         base_time: 0,
         max_time: 0,
         producer,
@@ -250,166 +280,193 @@ fn bits_of<A: Allocator + Copy>(batch: &Batch<A>) -> u32 {
     bits
 }
 
+/// Whether this is left of a batch.
+fn is_one_left<A: Allocator + Copy>(batch: &Batch<A>, wanted: Left) -> bool {
+    (batch.head.base, batch.head.last_delta, bits_of(batch)) == wanted
+}
+
 /// Whether these batches are left.
 fn is_left<A: Allocator + Copy>(batches: &[Batch<A>], left: &[Left]) -> bool {
     if batches.len() != left.len() {
         return false;
     }
     for (batch, wanted) in batches.iter().zip(left) {
-        if (batch.head.base, batch.head.last_delta, bits_of(batch)) != *wanted {
+        if !is_one_left(batch, *wanted) {
             return false;
         }
     }
     true
 }
 
-#[test]
-fn a_cleaning_is_as_worked_by_hand(rt: HostRuntime) -> Result<(), Fail> {
-    // a=1, b=2, a=null, b=3, one record a batch
-    let four = [
-        one(0, NONE, A1),
-        one(1, NONE, B2),
-        one(2, NONE, A_NULL),
-        one(3, NONE, B3),
-    ];
-    let six = [
-        one(0, (7, 0, 0), K),
-        one(1, (7, 0, 1), K),
-        one(2, (7, 0, 2), K),
-        one(3, (7, 0, 3), K),
-        one(4, (7, 0, 4), K),
-        one(5, (7, 0, 5), K),
-        one(6, NONE, K),
-    ];
-    let rows: [Row<'_>; 12] = [
+/// Whether the batches are cleaned as worked by hand; not where they and the offsets are not a content.
+/// `None` where the first allocator lacks memory; the second is for finding out whether they are a content.
+fn clean<A: Allocator + Copy, B: Allocator + Copy>(
+    alloc: A,
+    other: B,
+    batches: &[Batch<A>],
+    cover: &Cover<A>,
+    (_, _, _, bounds, counts, wanted): Row,
+) -> Option<bool> {
+    if !is_content(other, batches, cover) {
+        return Some(false);
+    }
+    match clean_list(alloc, batches, cover, bounds.0, bounds.1) {
+        Ok((left, report)) => Some(counts_of(&report) == counts && is_left(&left, wanted)),
+        Err(_) => None,
+    }
+}
+
+/// Whether the batches of a row are cleaned as worked by hand, at once or, where that may be, when the call
+/// is made again after it ran out of memory. The error is that the batches or the offsets were not made.
+fn cleans<A: Allocator + Copy, B: Allocator + Copy>(
+    alloc: A,
+    other: B,
+    row: Row,
+    may_lack: bool,
+) -> Result<bool, AllocError> {
+    let batches = batches_of(alloc, row.1)?;
+    let Ok(cover) = Cover::from_ranges(alloc, &[row.2]) else {
+        return Err(AllocError);
+    };
+    let mut cleaned = clean(alloc, other, &batches, &cover, row);
+    if may_lack && cleaned.is_none() {
+        cleaned = clean(alloc, other, &batches, &cover, row);
+    }
+    Ok(cleaned == Some(true))
+}
+
+/// Cleans the batches of a row, which must come out as worked by hand.
+fn must_clean<A: Allocator + Copy>(alloc: A, row: Row) -> Result<(), Fail> {
+    if cleans(alloc, alloc, row, false)? {
+        return Ok(());
+    }
+    Err(Fail::new(row.0))
+}
+
+/// Tombstones behind a gap, with all before them, and at the bound.
+fn tombstones<A: Allocator + Copy>(alloc: A) -> Result<(), Fail> {
+    must_clean(
+        alloc,
         (
             "a tombstone behind a gap",
-            &four[2..3],
+            &[A_IS_NULL],
             (2, 2),
             (4, 4),
             (0, 0, 0),
             &[(2, 0, 1)],
         ),
+    )?;
+    must_clean(
+        alloc,
         (
             "a tombstone with all before it",
-            &four[..3],
+            &[A_IS_1, B_IS_2, A_IS_NULL],
             (0, 2),
             (3, 3),
             (1, 1, 2),
             &[(1, 0, 1)],
         ),
+    )?;
+    must_clean(
+        alloc,
         (
             "a tombstone at the bound",
-            &four[..3],
+            &[A_IS_1, B_IS_2, A_IS_NULL],
             (0, 2),
             (3, 2),
             (1, 0, 1),
             &[(1, 0, 1), (2, 0, 1)],
         ),
+    )
+}
+
+/// Batches of several records, at a bound and below it.
+fn in_batches<A: Allocator + Copy>(alloc: A) -> Result<(), Fail> {
+    must_clean(
+        alloc,
         (
             "a later record in the batch",
-            &[(0, NONE, [A1, A2, NO, NO])],
+            &[(0, NONE, (A1, A2, NO, NO))],
             (0, 1),
             (2, 0),
             (1, 0, 0),
             &[(0, 1, 0b10)],
         ),
+    )?;
+    must_clean(
+        alloc,
         (
             "a batch that ends at the bound",
-            &[(0, NONE, [A1, B2, A3, B4])],
+            &[(0, NONE, (A1, B2, A3, B4))],
             (0, 3),
             (3, 0),
             (0, 0, 0),
             &[(0, 3, 0b1111)],
         ),
+    )?;
+    must_clean(
+        alloc,
         (
             "a batch below the bound",
-            &[(0, NONE, [A1, B2, A3, B4])],
+            &[(0, NONE, (A1, B2, A3, B4))],
             (0, 3),
             (4, 0),
             (2, 0, 0),
             &[(0, 3, 0b1100)],
         ),
-        (
-            "five batches of a producer",
-            &five(),
-            (0, 5),
-            (6, 0),
-            (5, 0, 0),
-            &FIVE_LEFT,
-        ),
-        (
-            "six batches of a producer",
-            &six,
-            (0, 6),
-            (7, 0),
-            (6, 0, 1),
-            &[
-                (1, 0, 0),
-                (2, 0, 0),
-                (3, 0, 0),
-                (4, 0, 0),
-                (5, 0, 0),
-                (6, 0, 1),
-            ],
-        ),
+    )
+}
+
+/// Batches of a producer, in its window, gone from there, and of an earlier epoch.
+fn windows<A: Allocator + Copy>(alloc: A) -> Result<(), Fail> {
+    must_clean(alloc, FIVE)?;
+    must_clean(alloc, SIX)?;
+    must_clean(
+        alloc,
         (
             "a later epoch",
-            &[one(0, (7, 0, 0), K), one(1, (7, 1, 0), K), one(2, NONE, K)],
+            &[(0, (7, 0, 0), K), (1, (7, 1, 0), K), (2, NONE, K)],
             (0, 2),
             (3, 0),
             (2, 0, 1),
             &[(1, 0, 0), (2, 0, 1)],
         ),
+    )
+}
+
+/// The least and the greatest bounds, and no batch.
+fn extremes<A: Allocator + Copy>(alloc: A) -> Result<(), Fail> {
+    must_clean(
+        alloc,
         (
             "the least bounds",
-            &four,
+            &[A_IS_1, B_IS_2, A_IS_NULL, B_IS_3],
             (0, 3),
             (i64::MIN, i64::MIN),
             (0, 0, 0),
             &[(0, 0, 1), (1, 0, 1), (2, 0, 1), (3, 0, 1)],
         ),
+    )?;
+    must_clean(
+        alloc,
         (
             "the greatest bounds",
-            &four,
+            &[A_IS_1, B_IS_2, A_IS_NULL, B_IS_3],
             (0, 3),
             (i64::MAX, i64::MAX),
             (2, 1, 3),
             &[(3, 0, 1)],
         ),
-        ("no batch", &[], (0, 3), (4, 4), (0, 0, 0), &[]),
-    ];
-    for (name, written, seen, bounds, wanted, wanted_left) in rows {
-        let alloc = rt.alloc();
-        let batches = batches_of(alloc, written)?;
-        let cover = Cover::from_ranges(alloc, &[seen])?;
-        let cleaned = clean(alloc, alloc, &batches, &cover, bounds)?;
-        let is_as_wanted = cleaned.is_some_and(|(left, report)| {
-            counts_of(&report) == wanted && is_left(&left, wanted_left)
-        });
-        assert!(rt; is_as_wanted, "{name}");
-    }
-    Ok(())
+    )?;
+    must_clean(alloc, ("no batch", &[], (0, 3), (4, 4), (0, 0, 0), &[]))
 }
 
-/// Whether five batches of a producer are cleaned as worked by hand, at once or where the call is
-/// made again after it ran out of memory. The error is that the batches were not made.
-fn cleans_five<A: Allocator + Copy, B: Allocator + Copy>(
-    alloc: A,
-    other: B,
-) -> Result<bool, AllocError> {
-    let batches = batches_of(alloc, &five())?;
-    let Ok(cover) = Cover::from_ranges(alloc, &[(0, 5)]) else {
-        return Err(AllocError);
-    };
-    let mut cleaned = clean(alloc, other, &batches, &cover, (6, 0));
-    if cleaned.is_err() {
-        cleaned = clean(alloc, other, &batches, &cover, (6, 0));
-    }
-    let Ok(Some((left, report))) = cleaned else {
-        return Ok(false);
-    };
-    Ok(counts_of(&report) == (5, 0, 0) && is_left(&left, &FIVE_LEFT))
+#[test]
+fn a_cleaning_is_as_worked_by_hand(rt: HostRuntime) -> Result<(), Fail> {
+    tombstones(rt.alloc())?;
+    in_batches(rt.alloc())?;
+    windows(rt.alloc())?;
+    extremes(rt.alloc())
 }
 
 #[test]
@@ -417,7 +474,7 @@ fn a_cleaning_succeeds_after_an_allocation_that_fails(rt: HostRuntime) -> Result
     let mut passed = false;
     for refused in 1..MOST {
         let heap = Refusing::new(rt.alloc(), refused);
-        let is_cleaned = cleans_five(&heap, rt.alloc()).unwrap_or(true);
+        let is_cleaned = cleans(&heap, rt.alloc(), FIVE, true).unwrap_or(true);
         assert!(rt; is_cleaned, "allocation {refused}");
         passed = heap.calls() < refused;
         if passed {

@@ -26,58 +26,91 @@ fn insert_all<A: Allocator + Copy>(
     Ok(())
 }
 
+/// Ranges as offsets, each its first and its last one.
+type Ranges = &'static [(i64, i64)];
+
+/// What a row is of, the ranges that are inserted, and those of the set then.
+const INSERTIONS: [(&str, Ranges, Ranges); 8] = [
+    ("nothing", &[], &[]),
+    (
+        "apart",
+        &[(10, 12), (20, 25), (0, 4)],
+        &[(0, 4), (10, 12), (20, 25)],
+    ),
+    ("touching the one behind", &[(10, 12), (5, 9)], &[(5, 12)]),
+    ("touching the one before", &[(5, 9), (10, 12)], &[(5, 12)]),
+    ("closing a gap", &[(0, 8), (10, 13), (9, 9)], &[(0, 13)]),
+    (
+        "over several",
+        &[(0, 1), (4, 5), (8, 9), (12, 13), (3, 8)],
+        &[(0, 1), (3, 9), (12, 13)],
+    ),
+    ("inside one", &[(0, 25), (3, 7)], &[(0, 25)]),
+    (
+        "to the greatest offset",
+        &[(0, 25), (27, GREATEST)],
+        &[(0, 25), (27, GREATEST)],
+    ),
+];
+
+/// Whether a set has these ranges after those were inserted.
+fn inserts_to<A: Allocator + Copy>(
+    alloc: A,
+    ranges: &[(i64, i64)],
+    wanted: &[(i64, i64)],
+) -> Result<bool, Fail> {
+    let mut cover = Cover::new(alloc);
+    insert_all(&mut cover, ranges)?;
+    Ok(cover.ranges() == wanted)
+}
+
 #[test]
 fn insertions(rt: HostRuntime) -> Result<(), Fail> {
-    let rows: [(&str, &[(i64, i64)], &[(i64, i64)]); 8] = [
-        ("nothing", &[], &[]),
-        (
-            "apart",
-            &[(10, 12), (20, 25), (0, 4)],
-            &[(0, 4), (10, 12), (20, 25)],
-        ),
-        ("touching the one behind", &[(10, 12), (5, 9)], &[(5, 12)]),
-        ("touching the one before", &[(5, 9), (10, 12)], &[(5, 12)]),
-        ("closing a gap", &[(0, 8), (10, 13), (9, 9)], &[(0, 13)]),
-        (
-            "over several",
-            &[(0, 1), (4, 5), (8, 9), (12, 13), (3, 8)],
-            &[(0, 1), (3, 9), (12, 13)],
-        ),
-        ("inside one", &[(0, 25), (3, 7)], &[(0, 25)]),
-        (
-            "to the greatest offset",
-            &[(0, 25), (27, GREATEST)],
-            &[(0, 25), (27, GREATEST)],
-        ),
-    ];
-    for (name, ranges, wanted) in rows {
-        let mut cover = Cover::new(rt.alloc());
-        insert_all(&mut cover, ranges)?;
-        assert_eq!(rt; cover.ranges(), wanted, "{name}");
+    for (name, ranges, wanted) in INSERTIONS {
+        assert!(rt; inserts_to(rt.alloc(), ranges, wanted)?, "{name}");
     }
     Ok(())
 }
 
+/// Ranges, and the text of the refusal to make a set of them.
+const REFUSALS: [(Ranges, &str); 10] = [
+    (&[(0, 4), (6, GREATEST)], "none"),
+    (&[(0, 4), (6, 5), (6, 6)], "EmptyRange"),
+    (&[(-1, -2)], "EmptyRange"),
+    (&[(0, 4), (5, 9)], "NotRising"),
+    (&[(0, 4), (2, 3), (1, 0)], "NotRising"),
+    (&[(0, 4), (-3, -3)], "NotRising"),
+    (&[(-1, 3)], "OutOfBounds"),
+    (&[(0, 1), (3, OFFSETS_END)], "OutOfBounds"),
+    (&[(i64::MIN, i64::MAX), (1, 0)], "OutOfBounds"),
+    (&[(0, 4), (6, OFFSETS_END), (5, 1)], "OutOfBounds"),
+];
+
+/// The refusal to make a set of these ranges; `None` where there is a set.
+fn refusal<A: Allocator + Copy>(alloc: A, ranges: &[(i64, i64)]) -> Option<CoverError> {
+    match Cover::from_ranges(alloc, ranges) {
+        Ok(_) => None,
+        Err(error) => Some(error),
+    }
+}
+
+/// Whether a refusal, or none, has this text.
+fn has_text<A: Allocator + Copy>(
+    alloc: A,
+    refusal: Option<CoverError>,
+    wanted: &str,
+) -> Result<bool, AllocError> {
+    match refusal {
+        None => Ok(wanted == "none"),
+        Some(error) => Ok(format!(in alloc; "{error}")?.as_str() == wanted),
+    }
+}
+
 #[test]
 fn the_first_range_at_fault_decides(rt: HostRuntime) -> Result<(), Fail> {
-    let rows: [(&[(i64, i64)], &str); 10] = [
-        (&[(0, 4), (6, GREATEST)], "none"),
-        (&[(0, 4), (6, 5), (6, 6)], "EmptyRange"),
-        (&[(-1, -2)], "EmptyRange"),
-        (&[(0, 4), (5, 9)], "NotRising"),
-        (&[(0, 4), (2, 3), (1, 0)], "NotRising"),
-        (&[(0, 4), (-3, -3)], "NotRising"),
-        (&[(-1, 3)], "OutOfBounds"),
-        (&[(0, 1), (3, OFFSETS_END)], "OutOfBounds"),
-        (&[(i64::MIN, i64::MAX), (1, 0)], "OutOfBounds"),
-        (&[(0, 4), (6, OFFSETS_END), (5, 1)], "OutOfBounds"),
-    ];
-    for (ranges, wanted) in rows {
-        let refusal = match Cover::from_ranges(rt.alloc(), ranges) {
-            Ok(_) => format!(in rt.alloc(); "none")?,
-            Err(error) => format!(in rt.alloc(); "{error}")?,
-        };
-        assert_eq!(rt; refusal.as_str(), wanted);
+    for (ranges, wanted) in REFUSALS {
+        let refusal = refusal(rt.alloc(), ranges);
+        assert!(rt; has_text(rt.alloc(), refusal, wanted)?, "{wanted}");
     }
     Ok(())
 }
@@ -107,16 +140,16 @@ const QUESTIONS: [(i64, i64, Answers); 11] = [
     (i64::MAX, i64::MAX, (false, false, i64::MAX)),
 ];
 
+/// Whether a set gives these answers, and has the first offset where that is no gap.
+fn answers<A: Allocator + Copy>(cover: &Cover<A>, first: i64, last: i64, wanted: Answers) -> bool {
+    answers_of(cover, first, last) == wanted && cover.contains(first) == (wanted.2 != first)
+}
+
 #[test]
 fn questions_take_any_numbers(rt: HostRuntime) -> Result<(), Fail> {
     let cover = Cover::from_ranges(rt.alloc(), &[(0, 4), (10, 12), (20, GREATEST)])?;
     for (first, last, wanted) in QUESTIONS {
-        assert_eq!(rt;
-            answers_of(&cover, first, last),
-            wanted,
-            "{first} to {last}"
-        );
-        assert_eq!(rt; cover.contains(first), wanted.2 != first, "{first}");
+        assert!(rt; answers(&cover, first, last, wanted), "{first} to {last}");
     }
     Ok(())
 }
@@ -143,14 +176,18 @@ fn unites_to<A: Allocator + Copy>(
     Ok(both.ranges() == wanted && is_more(left, &both) && is_more(right, &both))
 }
 
+/// Whether each of two sets is within itself and what is more, and the right one not within the left.
+fn compares<A: Allocator + Copy>(left: &Cover<A>, right: &Cover<A>) -> Result<bool, AllocError> {
+    let is_within = left.is_subset(left) && !right.is_subset(left);
+    Ok(is_within && is_more(left, &with_hundred(left)?))
+}
+
 #[test]
 fn two_sets(rt: HostRuntime) -> Result<(), Fail> {
     let left = Cover::from_ranges(rt.alloc(), &[(0, 4), (10, 12), (30, 31)])?;
     let right = Cover::from_ranges(rt.alloc(), &[(3, 6), (13, 15), (40, 40)])?;
     let wanted = [(0, 6), (10, 15), (30, 31), (40, 40)];
-    assert!(rt; unites_to(&left, &right, &wanted)?);
-    assert!(rt; left.is_subset(&left) && !right.is_subset(&left));
-    assert!(rt; is_more(&left, &with_hundred(&left)?));
+    assert!(rt; unites_to(&left, &right, &wanted)? && compares(&left, &right)?);
     Ok(())
 }
 
@@ -174,7 +211,28 @@ fn reserve<A: Allocator + Copy>(cover: &mut Cover<A>) -> Result<u8, AllocError> 
 }
 
 /// Inserts the five offsets from this one on, which touch no range, again where memory lacked; tells how
-/// often it lacked, or `None` where the set wasn't as it had been then, or hasn't one range more now.
+/// often it lacked, or `None` where the set wasn't as before then, or hasn't one range more now.
+fn inserts_after<A: Allocator + Copy>(
+    cover: &mut Cover<A>,
+    first: i64,
+    before: &[(i64, i64)],
+) -> Result<Option<u8>, AllocError>
+    requires at_least { pos 0 ≤ℤ first }
+    requires at_most { first ≤ℤ pos 1400 }
+{
+    let failures = u8::from(cover.insert(first, first + 4).is_err());
+    let mut is_right = true;
+    if failures > 0 {
+        is_right = cover.ranges() == before;
+        cover.insert(first, first + 4)?;
+    }
+    is_right = is_right
+        && cover.has_all(first, first + 4)
+        && cover.ranges().len() == before.len().saturating_add(1);
+    Ok(if is_right { Some(failures) } else { None })
+}
+
+/// Inserts those five offsets.
 fn inserts<A: Allocator + Copy, B: Allocator + Copy>(
     inner: B,
     cover: &mut Cover<A>,
@@ -184,32 +242,23 @@ fn inserts<A: Allocator + Copy, B: Allocator + Copy>(
     requires at_most { first ≤ℤ pos 1400 }
 {
     let before = cover.ranges().to_vec(inner)?;
-    let failures = u8::from(cover.insert(first, first + 4).is_err());
-    let mut is_right = true;
-    if failures > 0 {
-        is_right = cover.ranges() == before.as_slice();
-        cover.insert(first, first + 4)?;
-    }
-    is_right = is_right
-        && cover.has_all(first, first + 4)
-        && cover.ranges().len() == before.len().saturating_add(1);
-    Ok(if is_right { Some(failures) } else { None })
+    inserts_after(cover, first, &before)
 }
 
 /// Inserts 40 ranges, and tells how often memory lacked; `None` where something was wrong.
-fn inserts_forty<B: Allocator + Copy>(
+fn insert_forty<A: Allocator + Copy, B: Allocator + Copy>(
     inner: B,
     heap: &Refusing<B>,
+    cover: &mut Cover<A>,
     reserving: bool,
 ) -> Result<Option<u8>, AllocError> {
-    let mut cover = Cover::new(heap);
     let mut failures = 0u8;
     for n in 0..40u8 {
         if reserving {
-            failures = failures.saturating_add(reserve(&mut cover)?);
+            failures = failures.saturating_add(reserve(cover)?);
         }
         let calls = heap.calls();
-        let Some(more) = inserts(inner, &mut cover, start_of(n))? else {
+        let Some(more) = inserts(inner, cover, start_of(n))? else {
             return Ok(None);
         };
         if reserving && heap.calls() != calls {
@@ -220,6 +269,16 @@ fn inserts_forty<B: Allocator + Copy>(
     Ok(Some(failures))
 }
 
+/// Inserts 40 ranges into a set of this memory.
+fn inserts_forty<B: Allocator + Copy>(
+    inner: B,
+    heap: &Refusing<B>,
+    reserving: bool,
+) -> Result<Option<u8>, AllocError> {
+    let mut cover = Cover::new(heap);
+    insert_forty(inner, heap, &mut cover, reserving)
+}
+
 #[test]
 fn each_allocation_of_insertions_fails(rt: HostRuntime) -> Result<(), Fail> {
     for reserving in [false, true] {
@@ -228,7 +287,7 @@ fn each_allocation_of_insertions_fails(rt: HostRuntime) -> Result<(), Fail> {
             let heap = Refusing::new(rt.alloc(), failing);
             let failures = inserts_forty(rt.alloc(), &heap, reserving)?;
             passed = heap.calls() < failing;
-            assert_eq!(rt; failures, Some(u8::from(!passed)), "{failing}");
+            assert!(rt; failures == Some(u8::from(!passed)), "{failing}");
             if passed {
                 break;
             }
@@ -264,17 +323,25 @@ fn united<A: Allocator + Copy>(mine: &Cover<A>, theirs: &Cover<A>) -> Option<boo
 
 /// Unites two sets, again where memory lacked, and tells whether it lacked; `None` where the union is wrong,
 /// or a set is not as it was.
-fn unites<A: Allocator + Copy>(heap: A) -> Result<Option<bool>, CoverError> {
-    let mine = Cover::from_ranges(heap, &MINE)?;
-    let theirs = Cover::from_ranges(heap, &THEIRS)?;
-    let first = united(&mine, &theirs);
-    let is_right = first.or_else(|| united(&mine, &theirs)) == Some(true);
+fn unites_later<A: Allocator + Copy>(mine: &Cover<A>, theirs: &Cover<A>) -> Option<bool> {
+    let first = united(mine, theirs);
+    let is_right = match first {
+        Some(is_right) => is_right,
+        None => united(mine, theirs) == Some(true),
+    };
     let is_same = mine.ranges() == MINE.as_slice() && theirs.ranges() == THEIRS.as_slice();
-    Ok(if is_right && is_same {
+    if is_right && is_same {
         Some(first.is_none())
     } else {
         None
-    })
+    }
+}
+
+/// Unites two sets of this memory.
+fn unites<A: Allocator + Copy>(heap: A) -> Result<Option<bool>, CoverError> {
+    let mine = Cover::from_ranges(heap, &MINE)?;
+    let theirs = Cover::from_ranges(heap, &THEIRS)?;
+    Ok(unites_later(&mine, &theirs))
 }
 
 #[test]
@@ -285,7 +352,7 @@ fn each_allocation_of_a_union_fails(rt: HostRuntime) -> Result<(), Fail> {
         let heap = Refusing::new(rt.alloc(), failing);
         let lacked = unites(&heap)?;
         passed = heap.calls() < failing;
-        assert_eq!(rt; lacked, Some(!passed), "{failing}");
+        assert!(rt; lacked == Some(!passed), "{failing}");
         if passed {
             break;
         }
@@ -319,11 +386,18 @@ fn out_of_memory_comes_after_every_fault(rt: HostRuntime) -> Result<(), Fail> {
     Ok(())
 }
 
+/// Whether a copy of the set lacks memory at the second allocation, and comes after it.
+fn comes_later<A: Allocator + Copy, B: Allocator + Copy>(
+    heap: &Refusing<B>,
+    cover: &Cover<A>,
+) -> bool {
+    copied(cover).is_none() && heap.calls() == 2 && copied(cover) == Some(true)
+}
+
 #[test]
 fn a_copy_of_a_set_comes_later(rt: HostRuntime) -> Result<(), Fail> {
     let heap = Refusing::new(rt.alloc(), 2);
     let cover = Cover::from_ranges(&heap, &[(0, 4), (6, 9)])?;
-    assert!(rt; copied(&cover).is_none() && heap.calls() == 2);
-    assert_eq!(rt; copied(&cover), Some(true));
+    assert!(rt; comes_later(&heap, &cover));
     Ok(())
 }

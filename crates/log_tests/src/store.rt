@@ -127,53 +127,81 @@ fn read_all<S: BatchStore, A: Allocator + Copy>(
     Ok(list)
 }
 
-/// Inserts a batch, and tells whether it went there, and the batches then have these base offsets.
-fn goes<S: BatchStore>(
-    store: &mut S,
-    bytes: &[u8],
-    wanted: Option<usize>,
-    bases: &[i64],
-) -> Result<bool, Fail> {
-    let found = insert(store, &view(bytes)?)?;
-    Ok(found == wanted && has_bases(store, bases))
+/// A batch of one record at this offset, or one of three offsets at 0, with its records or without.
+#[derive(Clone, Copy)]
+enum Sent {
+    NineAt(i64),
+    Three,
+    Emptied,
+}
+
+/// What a batch is, the batch, where it goes, and how many batches there are then.
+type Going = (&'static str, Sent, Option<usize>, usize);
+
+/// Batches that are inserted one after another.
+const GOINGS: [Going; 11] = [
+    ("the first", Sent::NineAt(5), Some(0), 1),
+    ("after all", Sent::NineAt(9), Some(1), 2),
+    ("before all", Sent::Three, Some(0), 3),
+    ("between", Sent::NineAt(3), Some(1), 4),
+    ("a base that is taken", Sent::NineAt(5), None, 4),
+    ("inside a span", Sent::NineAt(2), None, 4),
+    ("a span over two", Sent::Emptied, None, 4),
+    ("below 0", Sent::NineAt(-1), None, 4),
+    ("the last offset", Sent::NineAt(GREATEST), Some(4), 5),
+    ("past the last offset", Sent::NineAt(GREATEST + 1), None, 5),
+    ("the greatest number", Sent::NineAt(i64::MAX), None, 5),
+];
+
+/// Whether there are so many batches of the table, with their base offsets.
+fn has_so_many<S: BatchStore>(store: &S, count: usize) -> bool {
+    match count {
+        1 => has_bases(store, &[5]),
+        2 => has_bases(store, &[5, 9]),
+        3 => has_bases(store, &[0, 5, 9]),
+        4 => has_bases(store, &[0, 3, 5, 9]),
+        _ => has_bases(store, &FIVE_BASES),
+    }
+}
+
+/// Inserts the bytes of a batch.
+fn insert_bytes<S: BatchStore>(store: &mut S, bytes: &[u8]) -> Result<Option<usize>, Fail> {
+    Ok(insert(store, &view(bytes)?)?)
+}
+
+/// Inserts a batch of the table.
+fn send<S: BatchStore>(store: &mut S, batch: Sent) -> Result<Option<usize>, Fail> {
+    match batch {
+        Sent::NineAt(base) => insert_bytes(store, &nine_at(base)),
+        Sent::Three => insert_bytes(store, &THREE),
+        Sent::Emptied => insert_bytes(store, &EMPTIED),
+    }
+}
+
+/// Inserts the batches of the table, each of which must go where it should.
+fn insert_all<S: BatchStore>(store: &mut S) -> Result<(), Fail> {
+    for (name, batch, wanted, count) in GOINGS {
+        if send(store, batch)? != wanted || !has_so_many(store, count) {
+            return Err(Fail::new(name));
+        }
+    }
+    Ok(())
 }
 
 #[test]
 fn batches_go_in_order(rt: HostRuntime) -> Result<(), Fail> {
     let mut store = VecStore::new(rt.alloc());
     assert!(rt; has_bases(&store, &[]) && store.first_from(0) == 0);
-    let rows: [(&str, &[u8], Option<usize>, &[i64]); 11] = [
-        ("the first", &nine_at(5), Some(0), &[5]),
-        ("after all", &nine_at(9), Some(1), &[5, 9]),
-        ("before all", &THREE, Some(0), &[0, 5, 9]),
-        ("between", &nine_at(3), Some(1), &[0, 3, 5, 9]),
-        ("a base that is taken", &nine_at(5), None, &[0, 3, 5, 9]),
-        ("inside a span", &nine_at(2), None, &[0, 3, 5, 9]),
-        ("a span over two", &EMPTIED, None, &[0, 3, 5, 9]),
-        ("below 0", &nine_at(-1), None, &[0, 3, 5, 9]),
-        ("the last offset", &nine_at(GREATEST), Some(4), &FIVE_BASES),
-        (
-            "past the last offset",
-            &nine_at(GREATEST + 1),
-            None,
-            &FIVE_BASES,
-        ),
-        ("the greatest number", &nine_at(i64::MAX), None, &FIVE_BASES),
-    ];
-    for (name, bytes, wanted, bases) in rows {
-        assert!(rt; goes(&mut store, bytes, wanted, bases)?, "{name}");
-    }
-    Ok(())
+    insert_all(&mut store)
 }
 
-/// Five batches at those offsets.
-fn five_batches<A: Allocator + Copy>(alloc: A) -> Result<VecStore<A>, Fail> {
-    let mut store = VecStore::new(alloc);
-    insert(&mut store, &view(&THREE)?)?;
+/// Inserts five batches at those offsets.
+fn insert_five<S: BatchStore>(store: &mut S) -> Result<(), Fail> {
+    insert(store, &view(&THREE)?)?;
     for base in [3, 5, 9, GREATEST] {
-        insert(&mut store, &view(&nine_at(base))?)?;
+        insert(store, &view(&nine_at(base))?)?;
     }
-    Ok(store)
+    Ok(())
 }
 
 /// An offset, and the place of the first of the five batches from there on.
@@ -194,7 +222,8 @@ const SEARCHES: [(i64, usize); 12] = [
 
 #[test]
 fn batches_are_found(rt: HostRuntime) -> Result<(), Fail> {
-    let store = five_batches(rt.alloc())?;
+    let mut store = VecStore::new(rt.alloc());
+    insert_five(&mut store)?;
     assert!(rt; has_bases(&store, &FIVE_BASES));
     for (offset, wanted) in SEARCHES {
         assert_eq!(rt; store.first_from(offset), wanted, "from {offset}");
@@ -202,43 +231,64 @@ fn batches_are_found(rt: HostRuntime) -> Result<(), Fail> {
     Ok(())
 }
 
-/// Inserts a batch at another base offset, and tells whether it went there, with its bytes, and the batches
-/// then have these base offsets.
-fn takes<A: Allocator + Copy>(
-    store: &mut VecStore<A>,
+/// Whether a batch that went there has these bytes.
+fn has_bytes<S: BatchStore>(store: &S, place: Option<usize>, bytes: &[u8]) -> bool {
+    match place {
+        Some(i) => i < store.len() && store.bytes_of(i) == bytes,
+        None => true,
+    }
+}
+
+/// Inserts a batch at another base offset and leader epoch, and tells whether it went there, with its bytes.
+fn takes<S: BatchStore, A: Allocator + Copy>(
     alloc: A,
+    store: &mut S,
     (base, epoch): (i64, i32),
     wanted: Option<usize>,
-    bases: &[i64],
 ) -> Result<bool, Fail> {
     let batch = view(&THREE)?;
     let found = insert_rebased(alloc, store, &batch, base, epoch)?;
     let bytes = rebased(alloc, &batch, base, epoch)?;
-    let has_bytes = match found {
-        Some(i) => i < store.len() && store.bytes_of(i) == bytes.as_slice(),
-        None => true,
-    };
-    Ok(found == wanted && has_bytes && has_bases(store, bases))
+    Ok(found == wanted && has_bytes(store, found, &bytes))
+}
+
+/// What a place is, the base offset and the leader epoch, the index there, and how many batches there are then.
+type Taking = (&'static str, (i64, i32), Option<usize>, usize);
+
+/// A batch that takes one base offset after another.
+const TAKINGS: [Taking; 6] = [
+    ("the first", (5, 7), Some(0), 1),
+    ("after all", (11, -1), Some(1), 2),
+    ("between", (8, i32::MAX), Some(1), 3),
+    ("its own base", (0, 0), Some(0), 4),
+    ("inside a span", (3, 7), None, 4),
+    ("below 0", (-1, 7), None, 4),
+];
+
+/// Whether there are so many batches of the table, with their base offsets.
+fn took_so_many<S: BatchStore>(store: &S, count: usize) -> bool {
+    match count {
+        1 => has_bases(store, &[5]),
+        2 => has_bases(store, &[5, 11]),
+        3 => has_bases(store, &[5, 8, 11]),
+        _ => has_bases(store, &[0, 5, 8, 11]),
+    }
+}
+
+/// Inserts the batch at each place of the table, where it must go as it should.
+fn take_all<S: BatchStore, A: Allocator + Copy>(alloc: A, store: &mut S) -> Result<(), Fail> {
+    for (name, place, wanted, count) in TAKINGS {
+        if !takes(alloc, store, place, wanted)? || !took_so_many(store, count) {
+            return Err(Fail::new(name));
+        }
+    }
+    Ok(())
 }
 
 #[test]
 fn a_batch_takes_another_base(rt: HostRuntime) -> Result<(), Fail> {
     let mut store = VecStore::new(rt.alloc());
-    let rows: [(&str, (i64, i32), Option<usize>, &[i64]); 6] = [
-        ("the first", (5, 7), Some(0), &[5]),
-        ("after all", (11, -1), Some(1), &[5, 11]),
-        ("between", (8, i32::MAX), Some(1), &[5, 8, 11]),
-        ("its own base", (0, 0), Some(0), &[0, 5, 8, 11]),
-        ("inside a span", (3, 7), None, &[0, 5, 8, 11]),
-        ("below 0", (-1, 7), None, &[0, 5, 8, 11]),
-    ];
-    for (name, place, wanted, bases) in rows {
-        assert!(rt;
-            takes(&mut store, rt.alloc(), place, wanted, bases)?,
-            "{name}"
-        );
-    }
-    Ok(())
+    take_all(rt.alloc(), &mut store)
 }
 
 /// Inserts a batch, again where memory lacked, and tells whether the batches had these base offsets then, and
@@ -301,16 +351,24 @@ fn is_replaced_later<S: BatchStore, T: BatchStore, A: Allocator + Copy>(
     Ok(is_right && has_bases(store, &FOUR_BASES))
 }
 
+/// Makes each call on this store and on others of its memory, again where that lacked.
+fn all_succeed_later<A: Allocator + Copy, B: Allocator + Copy>(
+    alloc: B,
+    store: &mut VecStore<A>,
+    other: &mut VecStore<A>,
+) -> Result<bool, Fail> {
+    let went = four_go_later(alloc, store)? && is_copied_later(store)?;
+    Ok(went && is_replaced_later(alloc, other, store)? && has_bases(store, &FOUR_BASES))
+}
+
 /// Makes each call on stores of this memory, again where it lacked.
 fn succeeds_later<A: Allocator + Copy, B: Allocator + Copy>(
     heap: A,
     alloc: B,
 ) -> Result<bool, Fail> {
     let mut store = VecStore::new(heap);
-    let went = four_go_later(alloc, &mut store)? && is_copied_later(&store)?;
     let mut other = VecStore::new(heap);
-    let replaced = is_replaced_later(alloc, &mut other, &store)?;
-    Ok(went && replaced && has_bases(&store, &FOUR_BASES))
+    all_succeed_later(alloc, &mut store, &mut other)
 }
 
 #[test]
@@ -392,23 +450,35 @@ fn insert_many<S: BatchStore>(rt: &HostRuntime, store: &mut S, order: Order) -> 
     Ok(has_bases(store, &first_bases(rt.alloc(), order, MANY)?))
 }
 
+/// Inserts many batches into a store of this memory.
+fn many_go_later<A: Allocator + Copy>(
+    rt: &HostRuntime,
+    heap: A,
+    order: Order,
+) -> Result<bool, Fail> {
+    let mut store = VecStore::new(heap);
+    insert_many(rt, &mut store, order)
+}
+
+/// Inserts many batches, each allocation that they ask for failing in turn, and tells whether the store was
+/// right each time, and a run asked for no more than the last one.
+fn each_succeeds_later(rt: &HostRuntime, order: Order) -> Result<bool, Fail> {
+    for refused in FIRST_FOR_MANY..MOST_FOR_MANY {
+        let heap = Refusing::new(rt.alloc(), refused);
+        if !many_go_later(rt, &heap, order)? {
+            return Ok(false);
+        }
+        if heap.calls() < refused {
+            return Ok(true);
+        }
+    }
+    Ok(false)
+}
+
 #[test]
 fn many_batches_are_as_before_an_allocation_that_fails(rt: HostRuntime) -> Result<(), Fail> {
     for order in [Order::Rising, Order::Falling, Order::FromTheMiddle] {
-        let mut passed = false;
-        for refused in FIRST_FOR_MANY..MOST_FOR_MANY {
-            let heap = Refusing::new(rt.alloc(), refused);
-            let mut store = VecStore::new(&heap);
-            assert!(rt;
-                insert_many(&rt, &mut store, order)?,
-                "{order:?}, {refused}"
-            );
-            passed = heap.calls() < refused;
-            if passed {
-                break;
-            }
-        }
-        assert!(rt; passed, "{order:?}");
+        assert!(rt; each_succeeds_later(&rt, order)?, "{order:?}");
     }
     Ok(())
 }
