@@ -122,7 +122,7 @@ fn does_show<A: Allocator + Copy, B: Allocator + Copy>(
     }
 }
 
-/// What the cluster shows once events happened in it, in memory that suffices.
+/// What the cluster shows once it was filled and events happened in it, in memory that suffices.
 fn shown_then<A: Allocator + Copy>(
     alloc: A,
     cluster: &mut Cluster<VecStore<A>>,

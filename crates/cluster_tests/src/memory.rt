@@ -156,6 +156,7 @@ fn reads<A: Allocator + Copy, B: Allocator + Copy>(heap: A, inner: B) -> Came {
 /// The calls on two copies.
 #[derive(Clone, Copy, Debug)]
 enum Call {
+    /// None: only to count what comes before.
     Nothing,
     Merge,
     MergeInto,

@@ -60,7 +60,7 @@ const NO: Pair = (0, 0);
 /// The records of a batch of one record.
 const K: Pairs = ((b'k', b'v'), NO, NO, NO);
 
-/// a=1, b=2, a=null, b=3, one record a batch.
+/// The first of a=1, b=2, a=null, b=3, one record a batch.
 const A_IS_1: Written = (0, NONE, (A1, NO, NO, NO));
 
 const B_IS_2: Written = (1, NONE, (B2, NO, NO, NO));
@@ -474,9 +474,9 @@ fn a_cleaning_succeeds_after_an_allocation_that_fails(rt: HostRuntime) -> Result
     let mut passed = false;
     for refused in 1..MOST {
         let heap = Refusing::new(rt.alloc(), refused);
-        let is_cleaned = cleans(&heap, rt.alloc(), FIVE, true).unwrap_or(true);
-        assert!(rt; is_cleaned, "allocation {refused}");
+        let cleaned = cleans(&heap, rt.alloc(), FIVE, true);
         passed = heap.calls() < refused;
+        assert!(rt; cleaned.unwrap_or(!passed), "allocation {refused}");
         if passed {
             break;
         }

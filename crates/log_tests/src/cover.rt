@@ -110,7 +110,10 @@ fn has_text<A: Allocator + Copy>(
 fn the_first_range_at_fault_decides(rt: HostRuntime) -> Result<(), Fail> {
     for (ranges, wanted) in REFUSALS {
         let refusal = refusal(rt.alloc(), ranges);
-        assert!(rt; has_text(rt.alloc(), refusal, wanted)?, "{wanted}");
+        assert!(rt;
+            has_text(rt.alloc(), refusal, wanted)?,
+            "{wanted}: {ranges:?}"
+        );
     }
     Ok(())
 }
@@ -176,9 +179,10 @@ fn unites_to<A: Allocator + Copy>(
     Ok(both.ranges() == wanted && is_more(left, &both) && is_more(right, &both))
 }
 
-/// Whether each of two sets is within itself and what is more, and the right one not within the left.
+/// Whether each of two sets is within itself, the left one within what is more, and the right one not within
+/// the left.
 fn compares<A: Allocator + Copy>(left: &Cover<A>, right: &Cover<A>) -> Result<bool, AllocError> {
-    let is_within = left.is_subset(left) && !right.is_subset(left);
+    let is_within = left.is_subset(left) && right.is_subset(right) && !right.is_subset(left);
     Ok(is_within && is_more(left, &with_hundred(left)?))
 }
 

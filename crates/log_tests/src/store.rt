@@ -160,7 +160,8 @@ fn has_so_many<S: BatchStore>(store: &S, count: usize) -> bool {
         2 => has_bases(store, &[5, 9]),
         3 => has_bases(store, &[0, 5, 9]),
         4 => has_bases(store, &[0, 3, 5, 9]),
-        _ => has_bases(store, &FIVE_BASES),
+        5 => has_bases(store, &FIVE_BASES),
+        _ => false,
     }
 }
 
@@ -271,7 +272,8 @@ fn took_so_many<S: BatchStore>(store: &S, count: usize) -> bool {
         1 => has_bases(store, &[5]),
         2 => has_bases(store, &[5, 11]),
         3 => has_bases(store, &[5, 8, 11]),
-        _ => has_bases(store, &[0, 5, 8, 11]),
+        4 => has_bases(store, &[0, 5, 8, 11]),
+        _ => false,
     }
 }
 
@@ -460,8 +462,8 @@ fn many_go_later<A: Allocator + Copy>(
     insert_many(rt, &mut store, order)
 }
 
-/// Inserts many batches, each allocation that they ask for failing in turn, and tells whether the store was
-/// right each time, and a run asked for no more than the last one.
+/// Inserts many batches, each allocation from `FIRST_FOR_MANY` on failing in turn, until a run doesn't ask
+/// for the one that would fail, and tells whether the store was right each time, and one failed at all.
 fn each_succeeds_later(rt: &HostRuntime, order: Order) -> Result<bool, Fail> {
     for refused in FIRST_FOR_MANY..MOST_FOR_MANY {
         let heap = Refusing::new(rt.alloc(), refused);
@@ -469,7 +471,7 @@ fn each_succeeds_later(rt: &HostRuntime, order: Order) -> Result<bool, Fail> {
             return Ok(false);
         }
         if heap.calls() < refused {
-            return Ok(true);
+            return Ok(refused > FIRST_FOR_MANY);
         }
     }
     Ok(false)
