@@ -49,29 +49,33 @@ fn is_added<A: Allocator + Copy>(
     Ok(is_same && answer == Ok(Delivered::Added))
 }
 
-/// Delivers two batches to a new copy, and tells whether it took each, and showed it at the first or the
-/// second time of asking.
-fn takes_both<A: Allocator + Copy>(heap: A, rows: &[(&[u8], Rows<'_>)]) -> Result<bool, Fail> {
+/// Delivers a batch, and tells whether the copy took it, and showed it at the first or the second time of
+/// asking.
+fn takes<A: Allocator + Copy>(
+    log: &mut PartitionLog<VecStore<A>>,
+    bytes: &[u8],
+    rows: Rows<'_>,
+) -> Result<bool, Fail> {
+    Ok(is_added(log, bytes)? && (shows(log, rows) || shows(log, rows)))
+}
+
+/// Delivers two batches, and tells whether the copy took and showed each.
+fn takes_both<A: Allocator + Copy>(log: &mut PartitionLog<VecStore<A>>) -> Result<bool, Fail> {
+    Ok(takes(log, &THREE, &[(b"b", b"2")])? && takes(log, &NINE, &[(b"a", b"9"), (b"b", b"2")])?)
+}
+
+/// Delivers two batches to a new copy, and tells the same.
+fn new_takes_both<A: Allocator + Copy>(heap: A) -> Result<bool, Fail> {
     let mut log = PartitionLog::new(heap);
-    let mut is_right = true;
-    for (bytes, wanted) in rows {
-        is_right = is_right
-            && is_added(&mut log, bytes)?
-            && (shows(&log, wanted) || shows(&log, wanted));
-    }
-    Ok(is_right)
+    takes_both(&mut log)
 }
 
 #[test]
 fn a_copy_is_as_before_an_allocation_that_fails(rt: HostRuntime) -> Result<(), Fail> {
-    let rows: [(&[u8], Rows<'_>); 2] = [
-        (&THREE, &[(b"b", b"2")]),
-        (&NINE, &[(b"a", b"9"), (b"b", b"2")]),
-    ];
     let mut passed = false;
     for refused in 1..MOST {
         let heap = Refusing::new(rt.alloc(), refused);
-        assert!(rt; takes_both(&heap, &rows)?, "allocation {refused} fails");
+        assert!(rt; new_takes_both(&heap)?, "allocation {refused} fails");
         passed = heap.calls() < refused;
         if passed {
             break;

@@ -5,7 +5,7 @@ use cover_ranges::Cover;
 use outside_batches::{A_IS_1, A_IS_NULL, NINE, THREE, set_producer};
 use partition_log::{AppendError, Appended, Delivered, LeaderLog, PartitionLog};
 use segment::VecStore;
-use std::alloc::{AllocError, Allocator};
+use std::alloc::{AllocError, Allocator, Global};
 use std::test::Fail;
 
 /// The place of no record.
@@ -293,19 +293,44 @@ fn empty_world<A: Allocator + Copy>(alloc: A) -> Result<World<A>, AllocError> {
     })
 }
 
+/// Makes the steps, and tells how many there were before the first that went wrong, or after which a table
+/// was wrong.
+fn make_steps<A: Allocator + Copy>(
+    world: &mut World<A>,
+    producers: &mut [Producer<A>],
+) -> Result<u32, Fail> {
+    let mut numbers = Numbers { x: 1 };
+    for step in 0..STEPS {
+        if !world.step(&mut numbers, producers)? || !world.is_right()? {
+            return Ok(step);
+        }
+    }
+    Ok(STEPS)
+}
+
+/// Makes the steps with three producers, one of them without an id.
+fn make_all(world: &mut World<Global>) -> Result<u32, Fail> {
+    let mut producers = [
+        silent(world.alloc, 7, 1, 0),
+        silent(world.alloc, 8, 1, i32::MAX),
+        silent(world.alloc, -1, -1, -1),
+    ];
+    make_steps(world, &mut producers)
+}
+
+/// Whether many batches were sent, and the leader keeps fewer.
+fn is_cleaned<A: Allocator + Copy>(world: &World<A>) -> bool {
+    world.sent.len() > 60 && world.leader.copy().len() < world.sent.len()
+}
+
 #[test]
 fn generated_steps(rt: HostRuntime) -> Result<(), Fail> {
     let mut world = empty_world(rt.alloc())?;
-    let mut numbers = Numbers { x: 1 };
-    let mut producers = [
-        silent(rt.alloc(), 7, 1, 0),
-        silent(rt.alloc(), 8, 1, i32::MAX),
-        silent(rt.alloc(), -1, -1, -1),
-    ];
-    for step in 0..STEPS {
-        assert!(rt; world.step(&mut numbers, &mut producers)?, "step {step}");
-        assert!(rt; world.is_right()?, "after step {step}");
-    }
-    assert!(rt; world.sent.len() > 60 && world.leader.copy().len() < world.sent.len());
+    let right = make_all(&mut world)?;
+    assert!(rt; right == STEPS, "step {right}");
+    assert!(rt;
+        is_cleaned(&world),
+        "what the leader keeps of what was sent"
+    );
     Ok(())
 }
