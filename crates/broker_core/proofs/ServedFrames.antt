@@ -10,12 +10,12 @@ use Rattle.streams.specs.State.{SinkState}
 use Rattle.request_frames.specs.Fields.{size32, be}
 use Rattle.request_frames.specs.Frames.{framed, stream, IsWithinLimit, IsFrames, IsFirstFrame}
 use Rattle.request_frames.specs.Requests.{RequestValue, IsRequest}
-use Rattle.broker_core.specs.declared.handling.Answer.{Answer}
+use Rattle.broker_node.specs.declared.handling.Answer.{Answer}
 use Rattle.broker_core.specs.declared.session.SessionError.{SessionError}
 use Rattle.broker_core.specs.declared.session.SessionError.TheVariants.{Frame, Read, Write, OutOfMemory}
-use Rattle.broker_core.specs.State.{State}
-use Rattle.broker_core.specs.Streams.{sent, IsAnswered, AreAnswered}
-use Rattle.broker_core.specs.Handling.{Handles}
+use Rattle.broker_node.specs.State.{State}
+use Rattle.broker_node.specs.Streams.{sent, IsAnswered, AreAnswered}
+use Rattle.broker_node.specs.Handling.{Handles}
 use Rattle.broker_core.specs.SessionSteps.{StopsTaking, StopsReplying, AnswersFront, StopsNext, StopsWithin}
 
 -- ---- one frame

@@ -7,8 +7,8 @@ use Rattle.streams.specs.State.{SourceState, SinkState, counted}
 use Rattle.request_frames.specs.Frames.{stream, IsIncomplete}
 use Rattle.broker_core.specs.declared.session.SessionError.{SessionError}
 use Rattle.broker_core.specs.declared.session.SessionError.TheVariants.{Frame, Read, Write, OutOfMemory}
-use Rattle.broker_core.specs.State.{State}
-use Rattle.broker_core.specs.Streams.{IsAnswered}
+use Rattle.broker_node.specs.State.{State}
+use Rattle.broker_node.specs.Streams.{IsAnswered}
 use Rattle.broker_core.specs.Sessions.{Session, EndsAs, StopsAs}
 use Rattle.broker_core.specs.SessionSteps.{ReadsOnce, ReadsMore, ReadsEnd, StopsReading, AnswersFront, StopsNext, StopsWithin, Serves}
 use Rattle.broker_core.proofs.ServedFrames.{cut_append, one_cut, front_none, front_then}

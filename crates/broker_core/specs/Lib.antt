@@ -1,27 +1,3 @@
 -- Read in this order; each module uses only those above it.
-pub mod Lists
-pub mod Codes
-pub mod State
-pub mod Configs
-pub mod Work
-pub mod Batches
-pub mod Entries
-pub mod Listing
-pub mod Plans
-pub mod Replies
-pub mod Streams
-pub mod Handling
 pub mod Sessions
 pub mod SessionSteps
-pub mod Examples
-pub mod Appending
-pub mod Producing
-pub mod ProducedRoom
-pub mod Partitions
-pub mod ConfigValues
-pub mod Taken
-pub mod Parts
-pub mod ListedOffsets
-pub mod FetchedTopics
-pub mod AskedTopics
-pub mod NameSets

@@ -4,11 +4,11 @@ ghost use Rattle.std.specs.Prelude.{◌≡◌, ◌+◌, ◌^◌, ◌<◌, true, 
 ghost use Rattle.std.specs.Io.KnownBytes.{Appends};
 ghost use Rattle.streams.specs.State.{LosesRest};
 ghost use Rattle.request_frames.specs.Frames.{IsIncomplete, IsFirstFrame};
-ghost use Rattle.broker_core.specs.Streams.{IsAnswered};
+ghost use Rattle.broker_node.specs.Streams.{IsAnswered};
 ghost use Rattle.broker_core.specs.SessionSteps.{StopsTaking, StopsReplying, AnswersFront, StopsNext, StopsWithin};
 
-use crate::node::Node;
 use crate::session::SessionError;
+use broker_node::Node;
 use bytes::{Bytes, BytesMut};
 use request_frames::{FrameError, parse, take_frame};
 use segment::BatchStore;

@@ -1,48 +1,23 @@
-//! What a broker holds and what it answers: the definitions that its state, its replies and its
-//! streams go by. Read `specs/` in the order of `specs/Lib.antt`.
+//! A broker as its users call it: [`Node`], which answers one request, and [`serve`], which answers a
+//! stream of them.
 //!
-//! A broker's state is its configuration and the content of each partition of its topics. A reply is
-//! a function of the state and the request: the bytes of one response or none, and the state after.
-//! Where memory runs out within one partition, that partition is answered with a storage error and is
-//! as it was. `examples` works replies out, byte for byte. [`Cluster`], one partition with all its copies,
-//! stands in a crate of its own and is handed on, as [`Source`] and [`Sink`], which [`serve`] reads and
-//! writes.
-//!
-//! Terms: *entry*, what a request says of one partition; *work*, the checks of an entry in their order,
-//! what is done where all pass, and what is answered where one fails.
+//! [`Node`] stands in a crate of its own and is handed on, with the laws of its replies and `examples`,
+//! which works replies out, byte for byte. So are [`Cluster`], one partition with all its copies, and
+//! [`Source`] and [`Sink`], which [`serve`] reads and writes. What a session writes is defined by
+//! `Streams` of `broker_node`; read it before `specs/Sessions.antt`.
 #![tactic(auto)]
 
 mod answering;
-mod asked;
-mod codes;
-mod config;
-mod entries;
-mod error;
-pub mod examples;
-mod fetch;
-mod fetching;
-mod handling;
-mod judging;
-mod laws;
-mod limits;
-mod list_offsets;
-mod listing;
-mod metadata;
-mod node;
-mod partition;
-mod produce;
-mod producing;
 mod receiving;
-mod room;
 mod session;
 
+pub use broker_laws::{
+    answered_snoc, answers_function, append_faults, examples, one_content_changes,
+};
+pub use broker_node::{
+    Answer, Config, ConfigError, ErrorCode, GROUP_TOPIC, MAX_FETCH_BYTES, MAX_HOST_BYTES,
+    MAX_PARTITIONS, MAX_TOPICS, Node, Role, TopicConfig,
+};
 pub use cluster::{Cluster, ClusterError, Event, EventError, MAX_COPIES, Outcome};
-pub use codes::ErrorCode;
-pub use config::{Config, Role, TopicConfig};
-pub use error::ConfigError;
-pub use handling::Answer;
-pub use laws::{answered_snoc, answers_function, append_faults, one_content_changes};
-pub use limits::{GROUP_TOPIC, MAX_FETCH_BYTES, MAX_HOST_BYTES, MAX_PARTITIONS, MAX_TOPICS};
-pub use node::Node;
 pub use session::{Ended, SessionError, serve};
 pub use streams::{Failed, Sink, Source};

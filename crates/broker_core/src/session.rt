@@ -4,8 +4,8 @@ ghost use Rattle.std.specs.Prelude.{◌+◌, ◌^◌, ◌≤◌, IfOk, IfErr};
 ghost use Rattle.broker_core.specs.Sessions.{EndsAs, StopsAs};
 
 use crate::answering::answer_frames;
-use crate::node::Node;
 use crate::receiving::read_more;
+use broker_node::Node;
 use bytes::BytesMut;
 use request_frames::FrameError;
 use segment::BatchStore;

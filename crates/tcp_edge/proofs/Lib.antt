@@ -1,7 +1,2 @@
 mod Arguments
 mod TopicLists
-mod Stopping
-mod Filled
-mod ImageFaults
-pub mod Streams
-pub mod Refusals

@@ -3,9 +3,9 @@ use Rattle.std.specs.Prelude.{◌≡◌, ◌⊎◌, ℕ, ◌<◌, ◌^◌, pos, 
 use Rattle.std.specs.Borrow.{Bor}
 use Rattle.std.specs.Option.{option_map_or}
 use Rattle.std.specs.Str.Parse.{IsNumeral, digits_value, without_leading_plus}
-use Rattle.broker_core.specs.State.{ConfigValue, TopicConfig}
-use Rattle.broker_core.specs.declared.config.Role.{Role}
-use Rattle.broker_core.specs.declared.config.Role.TheVariants.{Leader, Follower}
+use Rattle.broker_node.specs.State.{ConfigValue, TopicConfig}
+use Rattle.broker_node.specs.declared.config.Role.{Role}
+use Rattle.broker_node.specs.declared.config.Role.TheVariants.{Leader, Follower}
 use Rattle.clap.specs.Lexer.{usize_max}
 use Rattle.clap.specs.Words.{App, Row, Rule, Shape, Text, new_app, new_rule, with_rule, with_subcommand, first_of, one_of, all_of, fault_of, subcommand_of}
 use Rattle.clap.specs.declared.builder.value_parser.ValueParser.{ValueParser}

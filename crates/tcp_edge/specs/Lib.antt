@@ -1,8 +1,2 @@
-pub mod Input
-pub mod Tables
-pub mod Refused
-pub mod Merges
-pub mod Status
 pub mod CommandLine
-pub mod Answering
 pub mod Asked

@@ -5,20 +5,14 @@ ghost use Rattle.batch_codec.specs.Values.{BatchValue};
 ghost use Rattle.clap.specs.Words.{Row, kind_of};
 ghost use Rattle.copy_tools.specs.declared.error.MergeFault.{MergeFault};
 ghost use Rattle.tcp_edge.specs.Asked.{AsksForOther, IsListener, IsOutOfMemory};
-ghost use Rattle.tcp_edge.specs.declared.error.Refusal.{Refusal};
+ghost use Rattle.subcommands.specs.declared.error.Refusal.{Refusal};
 ghost use Rattle.tcp_edge.specs.CommandLine.{AsksForMerge, AsksForTable, Finds, HasTopics, IsPort, NamesReplay, NamesSession, topic_words};
-ghost use Rattle.tcp_edge.specs.Merges.{PrintsMerge, RefusesImages};
-ghost use Rattle.tcp_edge.specs.Refused.{RefusesStream};
-ghost use Rattle.tcp_edge.specs.Tables.{ReadsLog, PrintsTable};
+ghost use Rattle.subcommands.specs.Merges.{PrintsMerge, RefusesImages};
+ghost use Rattle.subcommands.specs.Refused.{RefusesStream};
+ghost use Rattle.subcommands.specs.Tables.{ReadsLog, PrintsTable};
 
 use crate::asked::{Asked, LineFault, Plan, parse};
-use crate::error::SessionFault;
-use crate::merging::run_merge;
-use crate::replaying::run_replay;
 use crate::serving::listen;
-use crate::session::{refuse, run_session};
-use crate::status::{DONE, FAILED, FAULTY, NO_MEMORY, fail};
-use crate::subcommand::run_subcommand;
 use broker_core::SessionError;
 use clap::Error;
 use clap::error::ErrorKind;
@@ -26,6 +20,10 @@ use std::alloc::{AllocError, Global};
 use std::convert::AsStr;
 use std::io::{Read, Write};
 use std::net::TcpListener;
+use subcommands::{
+    DONE, FAILED, FAULTY, NO_MEMORY, SessionFault, fail, refuse, run_merge, run_replay,
+    run_session, run_subcommand,
+};
 
 /// Prints what `clap` says of the arguments, and answers the status.
 fn explain<W: Write, E: Write>(error: &Error, out: &mut W, err: &mut E) -> u8

@@ -1,22 +1,20 @@
 //! A broker that listens: connections are served one after the other.
 
 ghost use Rattle.std.specs.Prelude.{◌≡◌, ◌≤◌, IfOk, IfErr};
-ghost use Rattle.broker_core.specs.Configs.{ConfigFault};
-ghost use Rattle.broker_core.specs.ConfigValues.{config_value};
-ghost use Rattle.broker_core.specs.State.{new_state};
+ghost use Rattle.broker_node.specs.Configs.{ConfigFault};
+ghost use Rattle.broker_node.specs.ConfigValues.{config_value};
+ghost use Rattle.broker_node.specs.State.{new_state};
 ghost use Rattle.tcp_edge.specs.CommandLine.{at_port};
 
 use crate::asked::Plan;
 use crate::connection::{Connection, Replies, Requests};
-use crate::error::SessionFault;
-use crate::session::refuse;
-use crate::status::{DONE, fail};
 use broker_core::{Config, ConfigError, Ended, Node, SessionError, serve};
 use segment::VecStore;
 use std::alloc::Global;
 use std::io::{Result as IoResult, Write};
 use std::net::{TcpListener, TcpStream};
 use streams::{Sink, Source};
+use subcommands::{DONE, SessionFault, fail, refuse};
 
 /// What a connection's line calls the end of it that is none of its input's.
 fn name_of(why: &SessionError) -> &'static str {

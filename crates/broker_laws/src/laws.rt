@@ -1,0 +1,55 @@
+//! Laws about the definitions alone. The functions do nothing: what they ensure is the law.
+
+ghost use Rattle.std.specs.Prelude.{◌≡◌, ◌≢◌, ◌↔◌, ℕ, ℤ, true, false, List, [], ◌∷◌, ◌++◌, Option, Some, None};
+ghost use Rattle.batch_codec.specs.Values.{BatchValue};
+ghost use Rattle.content.specs.Content.{Content};
+ghost use Rattle.content.specs.declared.verdict.Verdict.TheVariants.{New, Repeat};
+ghost use Rattle.partition_log.specs.declared.leader.AppendError.{AppendError};
+ghost use Rattle.partition_log.specs.Appends.{RefusesAppend, IsSendable, kept_verdict, HasOffsets};
+ghost use Rattle.request_frames.specs.Requests.{RequestValue};
+ghost use Rattle.broker_node.specs.Batches.{append_fault, FaultIs};
+ghost use Rattle.broker_node.specs.State.{State, partition_at, is_known, with_content};
+ghost use Rattle.broker_node.specs.Replies.{reply, IsReply, MayReply};
+ghost use Rattle.broker_node.specs.Streams.{IsAnswered, AreAnswered};
+
+/// The reply that is a function is the one case of what may be replied in which no entry runs out of
+/// memory.
+pub fn answers_function()
+    ensures one_reply { (s after : State) (q : RequestValue) (out : Option (List ℕ))
+        → IsReply s q out after ↔ ((out, after) ≡ reply s q) }
+    ensures may_be_replied { (s after : State) (q : RequestValue) (out : Option (List ℕ))
+        → IsReply s q out after → MayReply s q out after }
+{}
+
+/// Another content of one partition is found there, and the configuration stays; of an unknown
+/// partition nothing changes.
+pub fn one_content_changes()
+    ensures same { (s : State) (name : List ℕ) (p : ℤ) (c : Content)
+        → is_known s name p ≡ true → partition_at (with_content s name p c) name p ≡ Some c }
+    ensures config { (s : State) (name : List ℕ) (p : ℤ) (c : Content)
+        → (with_content s name p c).config ≡ s.config }
+    ensures unknown { (s : State) (name : List ℕ) (p : ℤ) (c : Content)
+        → is_known s name p ≡ false → with_content s name p c ≡ s }
+    ensures other_index { (s : State) (name other : List ℕ) (p q : ℤ) (c : Content)
+        → q ≢ p → partition_at (with_content s name p c) other q ≡ partition_at s other q }
+    ensures other_name { (s : State) (name other : List ℕ) (p q : ℤ) (c : Content)
+        → other ≢ name → partition_at (with_content s name p c) other q ≡ partition_at s other q }
+{}
+
+/// The tests by which a reply judges a batch find the fault for which a leader's log refuses it, and
+/// none in a batch that it takes.
+pub fn append_faults()
+    ensures refusal_is_fault { (c : Content) (b : BatchValue) (e : AppendError)
+        → RefusesAppend c b e → FaultIs e (append_fault c b) }
+    ensures new_has_no_fault { (c : Content) (b : BatchValue) → IsSendable b
+        → kept_verdict c b ≡ New → HasOffsets c b → append_fault c b ≡ None }
+    ensures repeat_has_no_fault { (c : Content) (b : BatchValue) (base : ℤ) → IsSendable b
+        → kept_verdict c b ≡ Repeat base → append_fault c b ≡ None }
+{}
+
+/// One more frame is answered behind those that were.
+pub fn answered_snoc()
+    ensures { (s m after : State) (frames : List (List ℕ))
+        (frame out one : List ℕ) → AreAnswered s frames out m → IsAnswered m frame one after
+        → AreAnswered s (frames ++ frame ∷ []) (out ++ one) after }
+{}

@@ -1,0 +1,5 @@
+mod Stopping
+mod Filled
+mod ImageFaults
+pub mod Streams
+pub mod Refusals

@@ -1,0 +1,7 @@
+use Rattle.std.proofs.Common.{sym, ◌∙◌}
+use Rattle.subcommands.proofs.ImageFaults.{refused_images}
+use Rattle.subcommands.proofs.merging.run_merge.Goals as goal
+
+pub returns-in-Err-clause-refused_has_a_first_fault : goal.returns-in-Err-clause-refused_has_a_first_fault
+returns-in-Err-clause-refused_has_a_first_fault g c = λ one.
+    refused_images c.in-Err.why _ c.in-Err.ensures.names_first_fault (sym c.images_status.ensures ∙ one)

@@ -1,0 +1,32 @@
+use Rattle.std.proofs.Common.{inl, inr, refl, arith}
+use Rattle.subcommands.proofs.Stopping.{stopped, kept_stop, kept_end}
+use Rattle.subcommands.proofs.session.answer_frames.Goals as goal
+
+pub returns-in-Err-clause-refuses : goal.returns-in-Err-clause-refuses
+returns-in-Err-clause-refuses g c =
+    stopped c.args.node.now c.serve-answered.new.node c.args.source.now c.serve-answered.new.source c.args.sink.now c.serve-answered.new.sink
+    c.flush-flushed.new.sink.taken c.in-Err.why c.in-Err.ensures.stops c.flush-flushed.ensures.keeps
+
+pub returns-in-Err-clause-fails : goal.returns-in-Err-clause-fails
+returns-in-Err-clause-fails g c =
+    inl (kept_stop c.args.node.now c.serve-answered.new.node c.args.source.now c.serve-answered.new.source c.args.sink.now c.serve-answered.new.sink
+    c.flush-flushed.new.sink c.in-Err.why c.in-Err.ensures.stops c.flush-flushed.ensures.keeps c.flush-flushed.ensures.stays_failed)
+
+pub returns-then-not-flushed-clause-fails : goal.returns-then-not-flushed-clause-fails
+returns-then-not-flushed-clause-fails g c =
+    inr (
+      refl,
+      c.if-not-flushed.ensures.tells_failure,
+      c.in-Ok.ended,
+      kept_end c.args.node.now c.serve-answered.new.node c.args.source.now c.serve-answered.new.source c.args.sink.now c.serve-answered.new.sink
+          c.flush-flushed.new.sink c.in-Ok.ended c.in-Ok.ensures.ends c.flush-flushed.ensures.keeps,
+    )
+
+pub returns-then-ended-ne0-clause-fails : goal.returns-then-ended-ne0-clause-fails
+returns-then-ended-ne0-clause-fails g c = (
+  search,
+  c.in-Ok.ended,
+  kept_end c.args.node.now c.serve-answered.new.node c.args.source.now c.serve-answered.new.source c.args.sink.now c.serve-answered.new.sink
+      c.flush-flushed.new.sink c.in-Ok.ended c.in-Ok.ensures.ends c.flush-flushed.ensures.keeps,
+  omega (arith, c.if-ended-ne0.true),
+)

@@ -1,0 +1,21 @@
+//! What each subcommand does between its input and its output: the table of a topic, a session, a
+//! script, a merge of two images. The command line and connections stand above.
+#![tactic(auto)]
+
+mod error;
+mod merging;
+mod pending;
+mod replaying;
+mod session;
+mod status;
+mod subcommand;
+mod table;
+
+pub use error::{ImagesError, Refusal, SessionFault, TableError};
+pub use merging::{merge_stream, run_merge};
+pub use replaying::run_replay;
+pub use session::{answer_frames, refuse, run_session};
+pub use status::{DONE, FAILED, FAULTY, NO_MEMORY, REFUSED, fail};
+pub use subcommand::run_subcommand;
+pub use table::run_table;
+pub use table_lines::line_ends_once;

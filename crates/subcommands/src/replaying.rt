@@ -1,0 +1,31 @@
+//! The subcommand `replay`: how it answers.
+
+ghost use Rattle.std.specs.Prelude.{◌≡◌, ◌≢◌, ◌≤◌};
+ghost use Rattle.subcommands.specs.Status.{replay_status};
+
+use crate::status::{DONE, replay_status};
+use copy_tools::replay;
+use segment::VecStore;
+use std::alloc::Allocator;
+use std::io::{Read, Write};
+
+/// Runs the subcommand `replay`: makes the events of the script that the reader gives happen, prints what
+/// comes of each, and answers the status, 0 done, 1 a line is bad, 3 out of memory, 4 a read or a write
+/// failed. A status that is not 0 comes with one line on `err`; what was printed before stays.
+pub fn run_replay<A: Allocator + Copy, R: Read, W: Write, E: Write>(
+    alloc: A,
+    reader: &mut R,
+    out: &mut W,
+    err: &mut E,
+) -> u8
+    ensures is_status { (result ≤ 4) × (result ≢ 2) }
+    ensures done_complains_of_nothing { result ≡ 0 → err.new ≡ err.old }
+{
+    match replay::<VecStore<A>, R, W>(alloc, reader, out) {
+        Ok(()) => DONE,
+        Err(why) => {
+            let _ = writeln!(err, "kbroker: {why}");
+            replay_status(why)
+        }
+    }
+}

@@ -1,9 +1,0 @@
-use Rattle.std.proofs.Common.{length}
-use Rattle.tcp_edge.specs.Input.{TakesBatches}
-use Rattle.tcp_edge.proofs.table.take_batches.Given as goal
-
-abbrev pub invariant-loop : goal.invariant-loop
-invariant-loop g l = TakesBatches l.initial.pending l.pending l.initial.intake.log l.intake.log l.initial.intake.count l.intake.count
-
-abbrev pub decreases-loop : goal.decreases-loop
-decreases-loop g l = length l.pending
