@@ -1,4 +1,5 @@
 use Rattle.std.proofs.Common.{inl, inr, refl, arith}
+use Rattle.std.proofs.lemmas.Bool.{MatchBool-at_true}
 use Rattle.subcommands.proofs.Stopping.{stopped, kept_stop, kept_end}
 use Rattle.subcommands.proofs.session.answer_frames.Goals as goal
 
@@ -24,7 +25,7 @@ returns-then-not-flushed-clause-fails g c =
 
 pub returns-then-ended-ne0-clause-fails : goal.returns-then-ended-ne0-clause-fails
 returns-then-ended-ne0-clause-fails g c = (
-  search,
+  MatchBool-at_true _ _ c.if-not-flushed.false c.flush-flushed.ensures.tells_failure,
   c.in-Ok.ended,
   kept_end c.args.node.now c.serve-answered.new.node c.args.source.now c.serve-answered.new.source c.args.sink.now c.serve-answered.new.sink
       c.flush-flushed.new.sink c.in-Ok.ended c.in-Ok.ensures.ends c.flush-flushed.ensures.keeps,
