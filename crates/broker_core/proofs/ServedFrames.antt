@@ -39,9 +39,9 @@ one_cut held frame rest first = record {
 
 -- the first frame is answered, and the sink took its reply
 pub first_answered : (s after : State) (sink sink' : SinkState) (held frame rest reply : List ℕ) (index : ℕ)
-    → IsFirstFrame frame held rest → IsAnswered s frame reply after → Appends sink.taken sink'.taken reply
+    → IsFirstFrame frame held rest → IsAnswered s frame reply after → Appends sink.taken sink'.taken reply → sink'.failed ≡ sink.failed
     → AnswersFront s after sink sink' held rest index (index + 1)
-first_answered s after sink sink' held frame rest reply index first answered takes = record {
+first_answered s after sink sink' held frame rest reply index first answered takes fine = record {
   frames = frame ∷ [];
   output = reply;
   takes = takes;
@@ -50,6 +50,7 @@ first_answered s after sink sink' held frame rest reply index first answered tak
     answers = (reply, [], after, answered, sym (append-nil reply), (refl, refl));
   };
   counts = refl;
+  no_write_failed = fine;
 }
 
 -- ---- a frame that is refused, or for which there is no memory
@@ -98,6 +99,7 @@ front_none s sink held count = record {
   takes = Appends-nil sink.taken;
   answers = record { cut = record { parts = refl; within = tt }; answers = (refl, refl) };
   counts = omega arith;
+  no_write_failed = refl;
 }
 
 pub front_then : (s m after : State) (sink mid_sink sink' : SinkState) (held mid rest : List ℕ) (a b c : ℕ)
@@ -111,6 +113,7 @@ front_then s m after sink mid_sink sink' held mid rest a b c p q = record {
     answers = answered_append s m after p.frames q.frames p.output q.output p.answers.answers q.answers.answers;
   };
   counts = omega (arith, p.counts, q.counts, length-append p.frames q.frames);
+  no_write_failed = q.no_write_failed ∙ p.no_write_failed;
 }
 
 -- ---- how many they can be

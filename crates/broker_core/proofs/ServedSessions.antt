@@ -30,6 +30,7 @@ front_longer s after sink sink' held rest piece a b p = record {
     answers = p.answers.answers;
   };
   counts = p.counts;
+  no_write_failed = p.no_write_failed;
 }
 
 -- What was read is answered but for what is held, complete or not.

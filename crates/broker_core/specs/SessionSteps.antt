@@ -54,6 +54,7 @@ pub record AnswersFront (s after : State) (sink sink' : SinkState) (held rest : 
   pub takes : Appends sink.taken sink'.taken output
   pub answers : Answered s held output after frames rest
   pub counts : count' ≡ count + length frames
+  pub no_write_failed : sink'.failed ≡ sink.failed
 
 -- The first frame that is held is handled, and the sink took only the front of its reply.
 pub record CutsFirst (s after : State) (sink sink' : SinkState) (held : List ℕ) : Type 0 where

@@ -20,6 +20,7 @@ use streams::{Failed, Sink};
 fn send<W: Write>(sink: &mut Sink<W>, reply: &[u8]) -> Result<(), Failed>
     ensures takes { OnOk result (Appends sink.old.taken sink.new.taken reply.now) }
     ensures loses { OnErr result (LosesRest sink.old.taken sink.new.taken reply.now) }
+    ensures fine { OnOk result (sink.new.failed ≡ sink.old.failed) }
     ensures failed { OnErr result (sink.new.failed ≡ true) }
 {
     if reply.is_empty() {

@@ -1,6 +1,6 @@
 //! A session: request frames come in, and their replies go out.
 
-ghost use Rattle.std.specs.Prelude.{◌+◌, ◌^◌, ◌≤◌, IfOk, IfErr};
+ghost use Rattle.std.specs.Prelude.{◌≡◌, ◌+◌, ◌^◌, ◌≤◌, false, IfOk, IfErr, IsErrOf};
 ghost use Rattle.broker_core.specs.Sessions.{EndsAs, StopsAs};
 
 use crate::answering::answer_frames;
@@ -88,6 +88,10 @@ pub fn serve<S: BatchStore, R: Read, W: Write, A: Allocator + Copy>(
     ensures ends { IfOk result (EndsAs node.old source.old source.new sink.old sink.new node.new) }
     ensures stops { IfErr result (StopsAs node.old source.old source.new sink.old sink.new node.new) }
     ensures few_reads { source.new.reads ≤ source.old.reads + 2 ^ 32 }
+    ensures only_a_read_error_fails_the_source { ¬ IsErrOf result SessionError.Read
+        → source.new.failed ≡ false }
+    ensures only_a_write_error_fails_the_sink { ¬ IsErrOf result SessionError.Write
+        → sink.new.failed ≡ sink.old.failed }
 {
     let mut buffer = BytesMut::new(alloc);
     let mut out = Vec::new(alloc);
