@@ -1,3 +1,5 @@
+//! Why a subcommand did not do what it was asked for.
+
 use batch_codec::BatchError;
 use broker_core::SessionError;
 use copy_tools::MergeFault;

@@ -1,5 +1,5 @@
 //! What each subcommand does between its input and its output: the table of a topic, a session, a
-//! script, a merge of two images. The command line and connections stand above.
+//! script, a merge of two images. The command line and connections stand in `tcp_edge`.
 #![tactic(auto)]
 
 mod error;

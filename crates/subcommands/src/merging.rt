@@ -5,7 +5,7 @@ ghost use Rattle.std.specs.Io.KnownBytes.{Appends};
 ghost use Rattle.copy_tools.specs.declared.error.MergeFault.{MergeFault};
 ghost use Rattle.copy_tools.specs.Merging.{MergesImages, RefusesPair};
 ghost use Rattle.subcommands.specs.Tables.{ReadsAll};
-ghost use Rattle.subcommands.specs.Merges.{PrintsMerge, RefusesImages, IfImages};
+ghost use Rattle.subcommands.specs.Merges.{PrintsMerge, ReadsImages, RefusesImages, IfImages};
 ghost use Rattle.subcommands.specs.Status.{images_status};
 
 use crate::error::ImagesError;
@@ -73,6 +73,8 @@ pub fn merge_stream<A: Allocator + Copy, R: Read, W: Write>(
         (RefusesImages (R.remaining reader.old) (R.remaining reader.new))) }
     ensures only_a_write_error_prints { IfErr result (λ why.
         why ≢ ImagesError.Write → writer.new ≡ writer.old) }
+    ensures write_error_after_the_merge { IsErrOf result ImagesError.Write →
+        ReadsImages (R.remaining reader.old) (R.remaining reader.new) }
 {
     let input = read_all(alloc, reader)?;
     match merge_images(alloc, input.bytes()) {
@@ -102,6 +104,8 @@ pub fn run_merge<A: Allocator + Copy, R: Read, W: Write, E: Write>(
         × RefusesImages (R.remaining reader.old) (R.remaining reader.new) why }
     ensures refused_prints_nothing { result ≡ 1 → out.new ≡ out.old }
     ensures out_of_memory_prints_nothing { result ≡ 3 → out.new ≡ out.old }
+    ensures failed_prints_nothing_before_the_merge { result ≡ 4 → (out.new ≡ out.old)
+        ⊎ ReadsImages (R.remaining reader.old) (R.remaining reader.new) }
 {
     match merge_stream(alloc, reader, out) {
         Ok(()) => DONE,

@@ -64,6 +64,7 @@ pub fn answer_frames<S: BatchStore, A: Allocator + Copy, R: Read, W: Write>(
         source.old.left source.new.left sink.old.taken sink.new.taken node.new) }
     // Whatever stops it: the frames before were answered, and this is why no more were.
     ensures fails { IfErr result (FailsAs node.old source.old source.new sink.old sink.new node.new) }
+    ensures reads { OnOk result (source.new.failed ≡ false) }
     ensures flushes { OnOk result (sink.new.failed ≡ false) }
     ensures few_reads { source.new.reads ≤ source.old.reads + 2 ^ 32 }
 {
@@ -94,7 +95,9 @@ pub fn run_session<A: Allocator + Copy, R: Read, W: Write, E: Write>(
     err: &mut E,
 ) -> u8
     ensures is_status { result ≤ 4 }
+    ensures done_complains_of_nothing { result ≡ 0 → err.new ≡ err.old }
     ensures valid_is_no_fault { IsValidConfig (config_value config) → result ≢ 2 }
+    ensures invalid_is_a_fault { ¬ IsValidConfig (config_value config) → result ≡ 2 }
     ensures faulty_prints_nothing { result ≡ 2 → out.new ≡ out.old }
     ensures faulty_reads_nothing { result ≡ 2 → reader.new ≡ reader.old }
 {

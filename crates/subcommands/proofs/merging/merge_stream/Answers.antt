@@ -1,4 +1,4 @@
-use Rattle.std.proofs.Common.{ℕ, List, refl, sym, subst}
+use Rattle.std.proofs.Common.{ℕ, List, rules, sym, subst}
 use Rattle.std.proofs.lemmas.Result.{on_ok_weaker}
 use Rattle.copy_tools.specs.Merging.{MergesImages, RefusesPair}
 use Rattle.subcommands.proofs.merging.merge_stream.Goals as goal
@@ -15,11 +15,13 @@ returns-in-Ok-clause-prints_the_merge g c =
       appends = appends;
     }) c.write_image.ensures.writes
 
-pub returns : goal.returns
-returns g c =
+pub returns-clause-names_first_fault : goal.returns-clause-names_first_fault
+returns-clause-names_first_fault g c =
     let refuses = subst (λ (xs : List ℕ). RefusesPair xs c.in-Err.why) c.bytes.ensures c.in-Err.ensures.refuses in
-    record {
-      prints_the_merge = tt;
-      names_first_fault = (c.in_ok-input.input, c.in_ok-input.ensures.reads, refuses);
-      only_a_write_error_prints = λ _. refl;
-    }
+    (c.in_ok-input.input, c.in_ok-input.ensures.reads, refuses, search rules)
+
+pub returns-in-Ok-clause-write_error_after_the_merge : goal.returns-in-Ok-clause-write_error_after_the_merge
+returns-in-Ok-clause-write_error_after_the_merge g c =
+    let read = subst (λ (xs : List ℕ). MergesImages xs c.in-Ok.image.items) c.bytes.ensures c.in-Ok.ensures.merges in
+    let merges = subst (λ (xs : List ℕ). MergesImages c.in_ok-input.input xs) (sym c.deref.ensures.value) read in
+    λ _. (c.in_ok-input.input, c.deref.result.now, c.in_ok-input.ensures.reads, merges)
