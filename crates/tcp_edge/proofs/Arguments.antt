@@ -1,6 +1,6 @@
 -- Lemmas on the program's arguments.
-use Rattle.std.proofs.Common.{◌≡◌, true, List, [], ◌∷◌, map, ap, refl, sym, subst, inl, inr, false, bytes_eq, ◌∙◌, codes, Option, Some, None}
-use Rattle.std.specs.Prelude.{ℕ, option_map, unwrap_or, MatchOption, Result, Ok, Err}
+use Rattle.std.proofs.Common.{◌≡◌, ◌≤◌, arith, true, List, [], ◌∷◌, map, ap, refl, sym, subst, inl, inr, false, bytes_eq, ◌∙◌, codes, Option, Some, None}
+use Rattle.std.specs.Prelude.{ℕ, ⊤, ◌⊎◌, option_map, unwrap_or, MatchOption, Result, Ok, Err}
 use Rattle.std.specs.Str.Parse.{ParsesUnsigned}
 use Rattle.std.specs.Borrow.{Bor}
 use Rattle.std.proofs.lemmas.Option.{none-some, same_Some}
@@ -11,7 +11,7 @@ use Rattle.tcp_edge.specs.declared.asked.LineFault.{LineFault}
 use Rattle.tcp_edge.specs.declared.asked.LineFault.TheVariants.{Clap, Topic}
 use Rattle.tcp_edge.specs.declared.asked.Asked.{Asked}
 use Rattle.tcp_edge.specs.declared.asked.Asked.TheVariants.{Table, Session, Serve, Replay, Merge}
-use Rattle.tcp_edge.specs.Asked.{IsAsked, IsConfigFault, IsFaulty, IsOutOfMemory, IsListener, IsPlanOf, IfNamed, IfNoMerge, AsksForOther}
+use Rattle.tcp_edge.specs.Asked.{IsAsked, IsConfigFault, IsFaulty, IsOutOfMemory, IsListener, IsPlanOf, IfNamed, IsNoTopic, AsksForOther}
 use Rattle.tcp_edge.specs.declared.asked.Plan.{Plan}
 use Rattle.clap.specs.declared.parser.matches.Found.{Found}
 use Rattle.clap.specs.declared.parser.matches.ArgMatches.{ArgMatches}
@@ -136,6 +136,7 @@ session_fault name rows (Clap error) is h = h
 session_fault name rows (Topic why) is h = (
   λ table. let bad : true ≡ false = ap (bytes_eq (codes "session")) (sym is ∙ table) in cc,
   λ merge. let bad : true ≡ false = ap (bytes_eq (codes "session")) (sym is ∙ merge) in cc,
+  λ replay. let bad : true ≡ false = ap (bytes_eq (codes "session")) (sym is ∙ replay) in cc,
   h,
 )
 
@@ -145,6 +146,7 @@ serve_fault name rows (Clap error) is h = h
 serve_fault name rows (Topic why) is h = (
   λ table. let bad : true ≡ false = ap (bytes_eq (codes "serve")) (sym is ∙ table) in cc,
   λ merge. let bad : true ≡ false = ap (bytes_eq (codes "serve")) (sym is ∙ merge) in cc,
+  λ replay. let bad : true ≡ false = ap (bytes_eq (codes "serve")) (sym is ∙ replay) in cc,
   h,
 )
 
@@ -180,6 +182,11 @@ table_fault arguments (Topic why) asks is = absurd ((is (codes "table") [] (find
 
 -- ---- and where a merge is
 
+-- a fact, where it is no merge
+abbrev pub IfNoMerge : Asked → Type 0 → Type 0
+IfNoMerge Merge P = ⊤
+IfNoMerge asked P = P
+
 pub no_other_than_merge : (arguments : List Text) (asked : Asked) → AsksForMerge arguments
     → ((name : Text) (rows : List Row) → Finds arguments name rows → IsAsked name rows asked) → IfNoMerge asked ⊥
 no_other_than_merge arguments Merge asks is = tt
@@ -195,6 +202,64 @@ pub merge_fault : (arguments : List Text) (fault : LineFault) → AsksForMerge a
     → ((name : Text) (rows : List Row) → Finds arguments name rows → IsFaulty name rows fault) → IsOutOfMemory fault
 merge_fault arguments (Clap error) asks is = is (codes "merge") [] (finds_merge arguments asks)
 merge_fault arguments (Topic why) asks is = absurd ((is (codes "merge") [] (finds_merge arguments asks)).1 refl)
+
+-- ---- and where a session, a script or a broker that listens is: it is asked for
+
+abbrev pub IsSession : Asked → Type 0
+IsSession (Session g) = ⊤
+IsSession asked = ⊥
+
+abbrev pub IsReplay : Asked → Type 0
+IsReplay Replay = ⊤
+IsReplay asked = ⊥
+
+abbrev pub IsServe : Asked → Type 0
+IsServe (Serve plan) = ⊤
+IsServe asked = ⊥
+
+pub session_asked : (rows : List Row) (asked : Asked) → IsAsked (codes "session") rows asked → IsSession asked
+session_asked rows Table is = is.0 refl
+session_asked rows (Session g) is = tt
+session_asked rows (Serve plan) is = let bad : true ≡ false = ap (bytes_eq (codes "session")) is.0 in cc
+session_asked rows Replay is = let bad : true ≡ false = ap (bytes_eq (codes "session")) is in cc
+session_asked rows Merge is = let bad : true ≡ false = ap (bytes_eq (codes "session")) is in cc
+
+pub replay_asked : (rows : List Row) (asked : Asked) → IsAsked (codes "replay") rows asked → IsReplay asked
+replay_asked rows Table is = is.2 refl
+replay_asked rows (Session g) is = let bad : true ≡ false = ap (bytes_eq (codes "replay")) is.0 in cc
+replay_asked rows (Serve plan) is = let bad : true ≡ false = ap (bytes_eq (codes "replay")) is.0 in cc
+replay_asked rows Replay is = tt
+replay_asked rows Merge is = let bad : true ≡ false = ap (bytes_eq (codes "replay")) is in cc
+
+pub serve_asked : (rows : List Row) (asked : Asked) → IsAsked (codes "serve") rows asked → IsServe asked
+serve_asked rows Table is = is.1 refl
+serve_asked rows (Session g) is = let bad : true ≡ false = ap (bytes_eq (codes "serve")) is.0 in cc
+serve_asked rows (Serve plan) is = tt
+serve_asked rows Replay is = let bad : true ≡ false = ap (bytes_eq (codes "serve")) is in cc
+serve_asked rows Merge is = let bad : true ≡ false = ap (bytes_eq (codes "serve")) is in cc
+
+-- only a word in the place of a topic is at fault, or memory is short
+pub topic_or_memory : (name : Text) (rows : List Row) (fault : LineFault) → IsFaulty name rows fault
+    → IsOutOfMemory fault ⊎ (IsNoTopic fault × ¬ HasTopics (topic_words rows))
+topic_or_memory name rows (Clap error) is = inl is
+topic_or_memory name rows (Topic why) is = inr (tt, is.3)
+
+-- so the status is 3, or it says that a word is none
+pub refused_left : (fault : LineFault) (status : ℕ) (P H : Type 0) → IsOutOfMemory fault ⊎ (IsNoTopic fault × H)
+    → (IsOutOfMemory fault → status ≡ 3) → (status ≡ 3 → P) → (IsNoTopic fault → (2 ≤ status) × (status ≤ 3) × P)
+    → (2 ≤ status) × (status ≤ 3) × P
+refused_left fault status P H (inl memory) three nothing topic =
+    let is : status ≡ 3 = three memory in (omega (arith, is), omega (arith, is), nothing is)
+refused_left fault status P H (inr word) three nothing topic = topic word.0
+
+pub refused_topic : (fault : LineFault) (status : ℕ) (H : Type 0) → IsOutOfMemory fault ⊎ (IsNoTopic fault × H)
+    → (IsOutOfMemory fault → status ≡ 3) → status ≡ 2 → H
+refused_topic fault status H (inl memory) three two = let is : status ≡ 3 = three memory in absurd (omega (arith, is, two))
+refused_topic fault status H (inr word) three two = word.1
+
+pub replay_fault : (rows : List Row) (fault : LineFault) → IsFaulty (codes "replay") rows fault → IsOutOfMemory fault
+replay_fault rows (Clap error) is = is
+replay_fault rows (Topic why) is = absurd (is.2 refl)
 
 -- ---- and where something else than a broker that listens is
 
@@ -226,7 +291,7 @@ pub topic_fault : (arguments : List Text) (rows : List Row) (fault : LineFault) 
     → ((name : Text) (rows : List Row) → Finds arguments name rows → IsFaulty name rows fault) → ¬ IsOutOfMemory fault
     → ¬ HasTopics (topic_words rows)
 topic_fault arguments rows (Clap error) finds is enough = absurd (enough (is (codes "serve") rows finds))
-topic_fault arguments rows (Topic why) finds is enough = (is (codes "serve") rows finds).2
+topic_fault arguments rows (Topic why) finds is enough = (is (codes "serve") rows finds).3
 
 pub port_found : (rows : List Row) (plan : Plan) → IsListener rows plan → IsPort rows plan.config.port × HasTopics (topic_words rows)
 port_found rows plan is = (subst (IsPort rows) (sym is.config.port_is) is.is_port, (_, is.config.topics))

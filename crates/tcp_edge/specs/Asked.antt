@@ -32,15 +32,15 @@ IfNamed (Serve plan) P = ⊤
 IfNamed Replay P = P (codes "replay")
 IfNamed Merge P = P (codes "merge")
 
--- a fact, where it is no merge
-abbrev pub IfNoMerge : Asked → Type 0 → Type 0
-IfNoMerge Merge P = ⊤
-IfNoMerge asked P = P
-
 -- there was no memory to look at the arguments
 abbrev pub IsOutOfMemory : LineFault → Type 0
 IsOutOfMemory (Clap error) = kind_of error ≡ kind.OutOfMemory
 IsOutOfMemory (Topic why) = ⊥
+
+-- a word in the place of a topic is none
+abbrev pub IsNoTopic : LineFault → Type 0
+IsNoTopic (Clap error) = ⊥
+IsNoTopic (Topic why) = ⊤
 
 -- memory ran out, or one of the words in the place of topics is none
 abbrev pub IsConfigFault : List Text → LineFault → Type 0
@@ -50,7 +50,8 @@ IsConfigFault words (Topic why) = ¬ HasTopics words
 -- no fault of clap's: memory ran out, or an argument in the place of a topic is none
 abbrev pub IsFaulty : Text → List Row → LineFault → Type 0
 IsFaulty name rows (Clap error) = kind_of error ≡ kind.OutOfMemory
-IsFaulty name rows (Topic why) = (name ≢ codes "table") × (name ≢ codes "merge") × ¬ HasTopics (topic_words rows)
+IsFaulty name rows (Topic why) =
+    (name ≢ codes "table") × (name ≢ codes "merge") × (name ≢ codes "replay") × ¬ HasTopics (topic_words rows)
 
 -- the broker that listens, where one is asked for
 abbrev pub IsPlanOf : Asked → Option Plan → Type 0

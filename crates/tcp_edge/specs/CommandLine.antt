@@ -151,7 +151,3 @@ NamesSession arguments = Names arguments (codes "session")
 
 abbrev pub NamesReplay : List Text → Type 0
 NamesReplay arguments = Names arguments (codes "replay")
-
--- a session, with these values of its arguments
-abbrev pub AsksForSession : List Text → List Row → Type 0
-AsksForSession arguments rows = Finds arguments (codes "session") rows

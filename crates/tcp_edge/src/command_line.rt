@@ -2,12 +2,14 @@
 
 ghost use Rattle.std.specs.Prelude.{◌≡◌, ◌≢◌, ◌≤◌, ◌⊎◌, ℕ, List, None, IfOk, MatchOption, codes, map};
 ghost use Rattle.batch_codec.specs.Values.{BatchValue};
+ghost use Rattle.broker_node.specs.Configs.{IsValidConfig};
+ghost use Rattle.broker_node.specs.State.{ConfigValue};
 ghost use Rattle.clap.specs.Words.{Row, kind_of};
 ghost use Rattle.copy_tools.specs.declared.error.MergeFault.{MergeFault};
-ghost use Rattle.tcp_edge.specs.Asked.{AsksForOther, IsListener, IsOutOfMemory};
+ghost use Rattle.tcp_edge.specs.Asked.{AsksForOther, IsListener, IsNoTopic, IsOutOfMemory};
 ghost use Rattle.subcommands.specs.declared.error.Refusal.{Refusal};
-ghost use Rattle.tcp_edge.specs.CommandLine.{AsksForMerge, AsksForTable, Finds, HasTopics, IsPort, NamesReplay, NamesSession, topic_words};
-ghost use Rattle.subcommands.specs.Merges.{PrintsMerge, RefusesImages};
+ghost use Rattle.tcp_edge.specs.CommandLine.{AsksForMerge, AsksForTable, Finds, HasTopics, IsConfigOf, IsPort, NamesReplay, NamesSession, topic_words};
+ghost use Rattle.subcommands.specs.Merges.{PrintsMerge, ReadsImages, RefusesImages};
 ghost use Rattle.subcommands.specs.Refused.{RefusesStream};
 ghost use Rattle.subcommands.specs.Tables.{ReadsLog, PrintsTable};
 
@@ -28,6 +30,7 @@ use subcommands::{
 /// Prints what `clap` says of the arguments, and answers the status.
 fn explain<W: Write, E: Write>(error: &Error, out: &mut W, err: &mut E) -> u8
     ensures is_status { (result ≤ 4) × (result ≢ 1) }
+    ensures done_complains_of_nothing { result ≡ 0 → err.new ≡ err.old }
     ensures out_of_memory { kind_of error.now ≡ ErrorKind.OutOfMemory → result ≡ 3 }
     ensures faulty_prints_nothing { result ≡ 2 → out.new ≡ out.old }
     ensures out_of_memory_prints_nothing { result ≡ 3 → out.new ≡ out.old }
@@ -51,7 +54,9 @@ fn explain<W: Write, E: Write>(error: &Error, out: &mut W, err: &mut E) -> u8
 /// Says why a command line asks for nothing, and answers the status.
 fn refuse_line<W: Write, E: Write>(why: &LineFault, out: &mut W, err: &mut E) -> u8
     ensures is_status { (result ≤ 4) × (result ≢ 1) }
+    ensures done_complains_of_nothing { result ≡ 0 → err.new ≡ err.old }
     ensures out_of_memory { IsOutOfMemory why.now → result ≡ 3 }
+    ensures topic { IsNoTopic why.now → (2 ≤ result) × (result ≤ 3) × (out.new ≡ out.old) }
     ensures faulty_prints_nothing { result ≡ 2 → out.new ≡ out.old }
     ensures out_of_memory_prints_nothing { result ≡ 3 → out.new ≡ out.old }
 {
@@ -75,6 +80,7 @@ pub fn run_line<S: AsStr, R: Read, W: Write, E: Write>(
 ) -> u8
     ensures is_status { result ≤ 4 }
 
+    ensures done_complains_of_nothing { result ≡ 0 → err.new ≡ err.old }
     ensures faulty_prints_nothing { result ≡ 2 → out.new ≡ out.old }
     ensures faulty_reads_nothing { result ≡ 2 → reader.new ≡ reader.old }
 
@@ -114,6 +120,23 @@ pub fn run_line<S: AsStr, R: Read, W: Write, E: Write>(
         → result ≡ 1 → out.new ≡ out.old }
     ensures merge_out_of_memory_prints_nothing { AsksForMerge (map S.text arguments.now)
         → result ≡ 3 → out.new ≡ out.old }
+    ensures failed_merge_prints_nothing_before_the_merge { AsksForMerge (map S.text arguments.now)
+        → result ≡ 4 → (out.new ≡ out.old)
+        ⊎ ReadsImages (R.remaining reader.old) (R.remaining reader.new) }
+    // Asked for a session, it refuses only words that are no topics, and a configuration.
+    ensures session_fault_has_a_cause { (rows : List Row)
+        → Finds (map S.text arguments.now) (codes "session") rows → result ≡ 2
+        → (¬ HasTopics (topic_words rows))
+        ⊎ ((g : ConfigValue) × IsConfigOf rows 9092 g × ¬ IsValidConfig g) }
+    ensures replay_is_no_fault { (rows : List Row)
+        → Finds (map S.text arguments.now) (codes "replay") rows → result ≢ 2 }
+    // A broker that listens is left to `run_serve`.
+    ensures serve_is_left { (rows : List Row)
+        → Finds (map S.text arguments.now) (codes "serve") rows → (2 ≤ result) × (result ≤ 3)
+        × (out.new ≡ out.old) × (reader.new ≡ reader.old) }
+    ensures serve_says_nothing { (rows : List Row)
+        → Finds (map S.text arguments.now) (codes "serve") rows → HasTopics (topic_words rows)
+        → result ≡ 2 → err.new ≡ err.old }
 {
     match parse(alloc, arguments) {
         Ok(Asked::Table) => run_subcommand(alloc, reader, out, err),
@@ -178,6 +201,12 @@ pub fn run_serve<S: AsStr, W: Write, E: Write>(
     ensures other_is_not_done { AsksForOther (map S.text arguments.now) → (2 ≤ result) × (result ≤ 3)
         × (out.new ≡ out.old) }
     ensures other_says_nothing { AsksForOther (map S.text arguments.now) → result ≡ 2 → err.new ≡ err.old }
+    ensures no_topics_is_not_done { (rows : List Row)
+        → Finds (map S.text arguments.now) (codes "serve") rows → ¬ HasTopics (topic_words rows)
+        → (2 ≤ result) × (result ≤ 3) × (out.new ≡ out.old) }
+    ensures no_topics_says_nothing { (rows : List Row)
+        → Finds (map S.text arguments.now) (codes "serve") rows → ¬ HasTopics (topic_words rows)
+        → result ≡ 2 → err.new ≡ err.old }
 {
     match plan_asked(alloc, arguments) {
         Ok(Some(plan)) => listen(alloc, listener, plan, out, err),
