@@ -93,7 +93,7 @@ fn insert_reserved<T: Drop, A: Allocator + Copy>(items: &mut Vec<T, A>, i: usize
 }
 
 impl<T: Drop, A: Allocator + Copy> Blocks<T, A> {
-    /// Inserts an element at a place.
+    /// Inserts an element at an index.
     ///
     /// # Errors
     ///

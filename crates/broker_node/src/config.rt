@@ -15,9 +15,9 @@ pub enum Role {
 /// A topic that a broker is to keep.
 #[derive(Debug, Drop)]
 pub struct TopicConfig<A: Allocator> {
-    /// Its name.
+    /// Its name: 1 to 249 letters, digits, `.`, `_` and `-` of ASCII, but not `.` and `..`.
     pub name: String<A>,
-    /// The number of its partitions.
+    /// The number of its partitions, 1 to 64.
     pub partitions: u32,
 }
 
@@ -28,10 +28,10 @@ pub struct Config<A: Allocator> {
     pub role: Role,
     /// The broker's number.
     pub node_id: i32,
-    /// The host at which clients reach it.
+    /// The host at which clients reach it, at most 255 bytes.
     pub host: String<A>,
     /// The port at which clients reach it.
     pub port: u16,
-    /// The topics that it keeps, beside the one for groups.
+    /// The topics that it keeps, at most 64, beside the one for groups.
     pub topics: Vec<TopicConfig<A>, A>,
 }

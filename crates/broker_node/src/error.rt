@@ -12,7 +12,7 @@ pub enum ConfigError {
     /// There are more than `MAX_TOPICS` topics.
     #[error("TooManyTopics")]
     TooManyTopics,
-    /// No topic may have this name.
+    /// A name isn't 1 to 249 letters, digits, `.`, `_` and `-` of ASCII, or is `.` or `..`.
     #[error("BadTopic")]
     BadTopic,
     /// A topic has no partition, or more than `MAX_PARTITIONS`.

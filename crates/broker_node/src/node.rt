@@ -77,7 +77,7 @@ impl<S: BatchStore> TopicLogs<S> {
     }
 }
 
-/// The place of the topic of a name.
+/// The index of the topic of a name.
 fn place_of<S: BatchStore>(topics: &[TopicLogs<S>], name: &[u8]) -> Option<usize>
     ensures { result ≡ position (λ t. bytes_eq t.name name.now) topics.now }
 {

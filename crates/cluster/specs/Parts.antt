@@ -16,7 +16,7 @@ use Rattle.cluster.specs.declared.event.Outcome.TheVariants.{Based, Delivered, C
 use Rattle.cluster.specs.declared.event.EventError.{EventError}
 use Rattle.cluster.specs.declared.event.EventError.TheVariants.{Append, OutOfMemory}
 
--- want of memory in a part of an event is want of memory for the event
+-- out of memory in a part of an event is out of memory for the event
 abbrev pub append_refusal : AppendError → EventError
 append_refusal append.OutOfMemory = OutOfMemory
 append_refusal why = Append why

@@ -113,7 +113,8 @@ impl<S: BatchStore> Cluster<S> {
         let _ = self.images.len();
     }
 
-    /// A copy, by its number; copy 0 is the leader's. Takes no memory.
+    /// A copy, by its number; copy 0 is the leader's. There is none of a number that isn't below the number
+    /// of copies. Takes no memory.
     pub fn copy(&self, copy: usize) -> Option<&PartitionLog<S>>
         ensures { option_map (λ c. c.now) result ≡ copy_at self.now copy }
     {
@@ -123,7 +124,8 @@ impl<S: BatchStore> Cluster<S> {
         }
     }
 
-    /// The bytes of a batch as the leader appended it, by its number. Takes no memory.
+    /// The bytes of a batch as the leader appended it, by its number; none where fewer were appended. Takes
+    /// no memory.
     pub fn archived(&self, batch: usize) -> Option<&[u8]>
         ensures { option_map (λ bytes. bytes.now) result
             ≡ option_map batch_encoding (slice_get self.now.log batch) }
@@ -131,7 +133,7 @@ impl<S: BatchStore> Cluster<S> {
         self.archive.get(batch).map(|archived| archived.bytes())
     }
 
-    /// The bytes of an image that was sent, by its number. Takes no memory.
+    /// The bytes of an image that was sent, by its number; none where fewer were sent. Takes no memory.
     pub fn image(&self, image: usize) -> Option<&[u8]>
         ensures { option_map (λ bytes. bytes.now) result ≡ slice_get self.now.images image }
     {

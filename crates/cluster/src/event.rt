@@ -92,7 +92,7 @@ pub enum EventError {
     /// The leader refuses the batch.
     #[error(transparent)]
     Append(AppendError),
-    /// There is no memory for the event.
+    /// There is no memory for the event, or the copy that is sent has more than 2^31 - 1 ranges or batches.
     #[error("OutOfMemory")]
     OutOfMemory,
 }

@@ -8,7 +8,7 @@ use segment::VecStore;
 use std::alloc::{AllocError, Allocator, Global};
 use std::test::Fail;
 
-/// The place of no record.
+/// What stands for no record.
 const NONE: (u8, u8) = (0, 0);
 
 /// How many steps are made.

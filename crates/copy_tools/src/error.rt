@@ -23,7 +23,8 @@ pub enum ReplayError {
     Write,
 }
 
-/// Why two images are not merged: the first of these that applies, in the order of the variants.
+/// Why two images are not merged: the first of these that applies, in the order of the variants, though
+/// memory may be missing before a fault of the second image or of the merge is found.
 #[derive(Clone, Copy, Debug, PartialEq, Eq, Error)]
 pub enum MergeFault {
     /// The first image is refused; `Short` also where its size is missing, negative, or past the end.

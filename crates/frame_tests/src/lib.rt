@@ -1,4 +1,5 @@
-//! Tests of frames: what is cut from a stream, and which names a topic may have.
+//! Tests of frames: what is cut from a stream, how a frame is read as a request, and which names a topic
+//! may have.
 #![tactic(auto)]
 
 #[cfg(test)]

@@ -205,7 +205,7 @@ fn insert_five<S: BatchStore>(store: &mut S) -> Result<(), Fail> {
     Ok(())
 }
 
-/// An offset, and the place of the first of the five batches from there on.
+/// An offset, and the index of the first of the five batches from there on.
 const SEARCHES: [(i64, usize); 12] = [
     (i64::MIN, 0),
     (-1, 0),

@@ -1,3 +1,5 @@
+//! The answer of a call that failed.
+
 /// A call of a reader or a writer failed. The source or sink that made the call has its flag set.
 ///
 /// It doesn't say how the call failed, and has no text of its own.

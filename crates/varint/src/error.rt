@@ -1,3 +1,5 @@
+//! Why no number could be read.
+
 use thiserror::Error;
 
 /// Why no number could be read.
