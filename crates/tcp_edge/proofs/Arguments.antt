@@ -1,23 +1,27 @@
 -- Lemmas on the program's arguments.
-use Rattle.std.proofs.Common.{◌≡◌, ◌≤◌, arith, true, List, [], ◌∷◌, map, ap, refl, sym, subst, inl, inr, false, bytes_eq, ◌∙◌, codes, Option, Some, None}
+use Rattle.std.proofs.Common.{◌≡◌, ◌≢◌, ◌≤◌, arith, true, List, [], ◌∷◌, map, ap, refl, sym, subst, inl, inr, false, bytes_eq, ◌∙◌, codes, Option, Some, None}
 use Rattle.std.specs.Prelude.{ℕ, ⊤, ◌⊎◌, option_map, unwrap_or, MatchOption, Result, Ok, Err}
 use Rattle.std.specs.Str.Parse.{ParsesUnsigned}
 use Rattle.std.specs.Borrow.{Bor}
 use Rattle.std.proofs.lemmas.Option.{none-some, same_Some}
-use Rattle.clap.specs.Words.{App, Row, Text, first_value, first_of, all_of, raw_values, matched_of, rows_of, fault_of, subcommand_of, subcommand_rows_of, subcommand_name_of, is_simple, is_simple_and_free, kind_of, HasKind, HasMatchesOf, ReadsOne}
+use Rattle.clap.specs.Words.{App, IsAmong, Kinds, Row, Text, first_value, first_of, all_of, raw_values, matched_of, rows_of, fault_of, subcommand_of, subcommand_rows_of, subcommand_name_of, is_simple, is_simple_and_free, kind_of, HasKind, HasMatchesOf, ReadsOne}
 use Rattle.clap.specs.declared.error.Error.{Error}
-use Rattle.clap.specs.declared.error.kind.ErrorKind.TheVariants.{OutOfMemory}
+use Rattle.clap.specs.declared.error.kind.ErrorKind.TheVariants.{OutOfMemory, DisplayHelp, DisplayVersion}
+use Rattle.clap.specs.declared.error.kind.ErrorKind.{ErrorKind}
+use Rattle.broker_node.specs.Configs.{IsValidConfig}
+use Rattle.broker_node.specs.ConfigValues.{config_value}
+use Rattle.broker_node.specs.State.{ConfigValue}
 use Rattle.tcp_edge.specs.declared.asked.LineFault.{LineFault}
 use Rattle.tcp_edge.specs.declared.asked.LineFault.TheVariants.{Clap, Topic}
 use Rattle.tcp_edge.specs.declared.asked.Asked.{Asked}
 use Rattle.tcp_edge.specs.declared.asked.Asked.TheVariants.{Table, Session, Serve, Replay, Merge}
-use Rattle.tcp_edge.specs.Asked.{IsAsked, IsConfigFault, IsFaulty, IsOutOfMemory, IsListener, IsPlanOf, IfNamed, IsNoTopic, AsksForOther}
+use Rattle.tcp_edge.specs.Asked.{IsAsked, IsConfigFault, IsFaulty, IsHelp, IsMistake, IsOutOfMemory, IsListener, IsPlanOf, IsStop, IfMerge, IfNamed, IfReplay, IfServe, IfSession, IfTable, IsNoTopic, AsksForOther}
 use Rattle.tcp_edge.specs.declared.asked.Plan.{Plan}
 use Rattle.clap.specs.declared.parser.matches.Found.{Found}
 use Rattle.clap.specs.declared.parser.matches.ArgMatches.{ArgMatches}
 use Rattle.clap.proofs.OnLiterals.{clap_on_literals}
 use Rattle.clap.proofs.WalkLemmas.{first_value-rows, raw_values-rows}
-use Rattle.tcp_edge.specs.CommandLine.{kbroker, AsksForTable, AsksForMerge, Finds, Names, Roles, IsRoles, HasTopics, IsNumberOf, IsPort, topic_words}
+use Rattle.tcp_edge.specs.CommandLine.{kbroker, AsksForHelp, AsksForTable, AsksForMerge, Finds, HasMistake, Names, NamesReplay, NamesSession, Roles, Stops, IsConfigOf, IsRoles, HasTopics, IsNumberOf, IsPort, topic_words}
 
 -- ---- the table
 
@@ -130,6 +134,68 @@ only_memory app roles arguments error name rows are is finds kinds =
     let has : HasKind [] error = subst (λ (ks : List _). HasKind ks error) none (kinds (is_free_kbroker app roles is)) in
     elim has [ inl h ↦ h | inr bad ↦ absurd bad ]
 
+-- where clap stops at the arguments, it finds no subcommand
+pub no_stop : (app : App) (roles : Roles) (arguments : List Text) (kinds : Kinds) → IsRoles roles → app ≡ kbroker roles → Stops arguments kinds
+    → (is_simple_and_free app ≡ true → fault_of app arguments ≡ []) → ⊥
+no_stop app roles arguments kinds are is stops none =
+    stops.some (sym (ap (λ (a : App). fault_of a arguments) is ∙ stops.fault roles are) ∙ none (is_free_kbroker app roles is))
+
+-- and its error is one of those that it may stop with
+pub stop_said : (app : App) (roles : Roles) (arguments : List Text) (kinds : Kinds) (error : Error) → IsRoles roles → app ≡ kbroker roles
+    → Stops arguments kinds → (is_simple_and_free app ≡ true → HasKind (fault_of app arguments) error) → HasKind kinds error
+stop_said app roles arguments kinds error are is stops said =
+    subst (λ (ks : Kinds). HasKind ks error) (ap (λ (a : App). fault_of a arguments) is ∙ stops.fault roles are) (said (is_free_kbroker app roles is))
+
+-- or memory ran out
+pub memory_stops : (kinds : Kinds) (fault : LineFault) → IsOutOfMemory fault → IsStop kinds fault
+memory_stops kinds (Clap error) is = inl is
+memory_stops kinds (Topic why) is = is
+
+-- what clap stops with is no help where none was asked for
+no_memory_help : (e : Error) → kind_of e ≡ OutOfMemory → (kind_of e ≢ DisplayHelp) × (kind_of e ≢ DisplayVersion)
+no_memory_help e memory = (
+  λ help. let bad : OutOfMemory ≡ DisplayHelp = sym memory ∙ help in cc,
+  λ version. let bad : OutOfMemory ≡ DisplayVersion = sym memory ∙ version in cc,
+)
+
+no_help_among : (kinds : Kinds) (k : ErrorKind) → ¬ IsAmong DisplayHelp kinds → ¬ IsAmong DisplayVersion kinds → IsAmong k kinds
+    → (k ≢ DisplayHelp) × (k ≢ DisplayVersion)
+no_help_among kinds k help version among = (
+  λ is. help (subst (λ (x : ErrorKind). IsAmong x kinds) is among),
+  λ is. version (subst (λ (x : ErrorKind). IsAmong x kinds) is among),
+)
+
+pub mistake_stops : (arguments : List Text) (fault : LineFault) → HasMistake arguments
+    → ((kinds : Kinds) → Stops arguments kinds → IsStop kinds fault) → IsMistake fault
+mistake_stops arguments (Clap error) has stops =
+    elim (stops has.kinds has.stops) [ inl memory ↦ no_memory_help error memory | inr among ↦ no_help_among has.kinds _ has.no_help has.no_version among ]
+mistake_stops arguments (Topic why) has stops = tt
+
+-- where help is asked for, it is help, or memory ran out
+one_kind : (k : ErrorKind) (e : Error) → HasKind (k ∷ []) e → (kind_of e ≡ OutOfMemory) ⊎ (kind_of e ≡ k)
+one_kind k e (inl memory) = inl memory
+one_kind k e (inr (inl is)) = inr is
+one_kind k e (inr (inr bad)) = absurd bad
+
+pub help_stops : (arguments : List Text) (fault : LineFault) → AsksForHelp arguments
+    → ((kinds : Kinds) → Stops arguments kinds → IsStop kinds fault) → IsOutOfMemory fault ⊎ IsHelp fault
+help_stops arguments (Clap error) (inl help) stops =
+    elim (one_kind DisplayHelp error (stops _ help)) [ inl memory ↦ inl memory | inr is ↦ inr (inl is) ]
+help_stops arguments (Clap error) (inr version) stops =
+    elim (one_kind DisplayVersion error (stops _ version)) [ inl memory ↦ inl memory | inr is ↦ inr (inr is) ]
+help_stops arguments (Topic why) (inl help) stops = absurd (stops _ help)
+help_stops arguments (Topic why) (inr version) stops = absurd (stops _ version)
+
+-- so the status is no 2
+pub helped : (fault : LineFault) (status : ℕ) → IsOutOfMemory fault ⊎ IsHelp fault → (IsOutOfMemory fault → status ≡ 3)
+    → (IsHelp fault → status ≢ 2) → status ≢ 2
+helped fault status (inl memory) three help two = let is : status ≡ 3 = three memory in absurd (omega (arith, is, two))
+helped fault status (inr asked) three help two = help asked two
+
+pub no_help : (arguments : List Text) → AsksForHelp arguments → ((kinds : Kinds) → Stops arguments kinds → ⊥) → ⊥
+no_help arguments (inl help) stops = stops _ help
+no_help arguments (inr version) stops = stops _ version
+
 pub session_fault : (name : Text) (rows : List Row) (fault : LineFault) → name ≡ codes "session" → IsConfigFault (topic_words rows) fault
     → IsFaulty name rows fault
 session_fault name rows (Clap error) is h = h
@@ -152,27 +218,16 @@ serve_fault name rows (Topic why) is h = (
 
 -- ---- what a parse gives, where the table is asked for
 
-pub table_asked : (arguments : List Text) (asked : Asked) → AsksForTable arguments
-    → ((name : Text) (rows : List Row) → Finds arguments name rows → IsAsked name rows asked) → asked ≡ Table
-table_asked arguments Table asks is = refl
-table_asked arguments (Session g) asks is =
+pub if_table : (arguments : List Text) (asked : Asked) (P : Type 0) → AsksForTable arguments
+    → ((name : Text) (rows : List Row) → Finds arguments name rows → IsAsked name rows asked) → IfTable asked P → P
+if_table arguments Table P asks is fact = fact
+if_table arguments (Session g) P asks is fact =
     let bad : true ≡ false = ap (bytes_eq (codes "table")) (is (codes "table") [] (finds_table arguments asks)).0 in cc
-table_asked arguments (Serve plan) asks is =
+if_table arguments (Serve plan) P asks is fact =
     let bad : true ≡ false = ap (bytes_eq (codes "table")) (is (codes "table") [] (finds_table arguments asks)).0 in cc
-table_asked arguments Replay asks is =
+if_table arguments Replay P asks is fact =
     let bad : true ≡ false = ap (bytes_eq (codes "table")) (is (codes "table") [] (finds_table arguments asks)) in cc
-table_asked arguments Merge asks is =
-    let bad : true ≡ false = ap (bytes_eq (codes "table")) (is (codes "table") [] (finds_table arguments asks)) in cc
-
-pub no_other : (arguments : List Text) (asked : Asked) → AsksForTable arguments
-    → ((name : Text) (rows : List Row) → Finds arguments name rows → IsAsked name rows asked) → IfNamed asked (λ name. ⊥)
-no_other arguments Table asks is = tt
-no_other arguments (Session g) asks is =
-    let bad : true ≡ false = ap (bytes_eq (codes "table")) (is (codes "table") [] (finds_table arguments asks)).0 in cc
-no_other arguments (Serve plan) asks is = tt
-no_other arguments Replay asks is =
-    let bad : true ≡ false = ap (bytes_eq (codes "table")) (is (codes "table") [] (finds_table arguments asks)) in cc
-no_other arguments Merge asks is =
+if_table arguments Merge P asks is fact =
     let bad : true ≡ false = ap (bytes_eq (codes "table")) (is (codes "table") [] (finds_table arguments asks)) in cc
 
 pub table_fault : (arguments : List Text) (fault : LineFault) → AsksForTable arguments
@@ -182,20 +237,15 @@ table_fault arguments (Topic why) asks is = absurd ((is (codes "table") [] (find
 
 -- ---- and where a merge is
 
--- a fact, where it is no merge
-abbrev pub IfNoMerge : Asked → Type 0 → Type 0
-IfNoMerge Merge P = ⊤
-IfNoMerge asked P = P
-
-pub no_other_than_merge : (arguments : List Text) (asked : Asked) → AsksForMerge arguments
-    → ((name : Text) (rows : List Row) → Finds arguments name rows → IsAsked name rows asked) → IfNoMerge asked ⊥
-no_other_than_merge arguments Merge asks is = tt
-no_other_than_merge arguments Table asks is = absurd ((is (codes "merge") [] (finds_merge arguments asks)).3 refl)
-no_other_than_merge arguments (Session g) asks is =
+pub if_merge : (arguments : List Text) (asked : Asked) (P : Type 0) → AsksForMerge arguments
+    → ((name : Text) (rows : List Row) → Finds arguments name rows → IsAsked name rows asked) → IfMerge asked P → P
+if_merge arguments Merge P asks is fact = fact
+if_merge arguments Table P asks is fact = absurd ((is (codes "merge") [] (finds_merge arguments asks)).3 refl)
+if_merge arguments (Session g) P asks is fact =
     let bad : true ≡ false = ap (bytes_eq (codes "merge")) (is (codes "merge") [] (finds_merge arguments asks)).0 in cc
-no_other_than_merge arguments (Serve plan) asks is =
+if_merge arguments (Serve plan) P asks is fact =
     let bad : true ≡ false = ap (bytes_eq (codes "merge")) (is (codes "merge") [] (finds_merge arguments asks)).0 in cc
-no_other_than_merge arguments Replay asks is =
+if_merge arguments Replay P asks is fact =
     let bad : true ≡ false = ap (bytes_eq (codes "merge")) (is (codes "merge") [] (finds_merge arguments asks)) in cc
 
 pub merge_fault : (arguments : List Text) (fault : LineFault) → AsksForMerge arguments
@@ -205,38 +255,38 @@ merge_fault arguments (Topic why) asks is = absurd ((is (codes "merge") [] (find
 
 -- ---- and where a session, a script or a broker that listens is: it is asked for
 
-abbrev pub IsSession : Asked → Type 0
-IsSession (Session g) = ⊤
-IsSession asked = ⊥
+pub if_session : (rows : List Row) (asked : Asked) (status : ℕ) → IsAsked (codes "session") rows asked
+    → IfSession asked (λ config. status ≡ 2 → ¬ IsValidConfig config) → status ≡ 2
+    → (g : ConfigValue) × IsConfigOf rows 9092 g × ¬ IsValidConfig g
+if_session rows Table status is fact = absurd (is.0 refl)
+if_session rows (Session g) status is fact = λ two. (config_value g, is.1, fact two)
+if_session rows (Serve plan) status is fact = let bad : true ≡ false = ap (bytes_eq (codes "session")) is.0 in cc
+if_session rows Replay status is fact = let bad : true ≡ false = ap (bytes_eq (codes "session")) is in cc
+if_session rows Merge status is fact = let bad : true ≡ false = ap (bytes_eq (codes "session")) is in cc
 
-abbrev pub IsReplay : Asked → Type 0
-IsReplay Replay = ⊤
-IsReplay asked = ⊥
+pub if_replay : (rows : List Row) (asked : Asked) (P : Type 0) → IsAsked (codes "replay") rows asked → IfReplay asked P → P
+if_replay rows Table P is fact = absurd (is.2 refl)
+if_replay rows (Session g) P is fact = let bad : true ≡ false = ap (bytes_eq (codes "replay")) is.0 in cc
+if_replay rows (Serve plan) P is fact = let bad : true ≡ false = ap (bytes_eq (codes "replay")) is.0 in cc
+if_replay rows Replay P is fact = fact
+if_replay rows Merge P is fact = let bad : true ≡ false = ap (bytes_eq (codes "replay")) is in cc
 
-abbrev pub IsServe : Asked → Type 0
-IsServe (Serve plan) = ⊤
-IsServe asked = ⊥
+pub if_serve : (rows : List Row) (asked : Asked) (P : Type 0) → IsAsked (codes "serve") rows asked → IfServe asked P → P
+if_serve rows Table P is fact = absurd (is.1 refl)
+if_serve rows (Session g) P is fact = let bad : true ≡ false = ap (bytes_eq (codes "serve")) is.0 in cc
+if_serve rows (Serve plan) P is fact = fact
+if_serve rows Replay P is fact = let bad : true ≡ false = ap (bytes_eq (codes "serve")) is in cc
+if_serve rows Merge P is fact = let bad : true ≡ false = ap (bytes_eq (codes "serve")) is in cc
 
-pub session_asked : (rows : List Row) (asked : Asked) → IsAsked (codes "session") rows asked → IsSession asked
-session_asked rows Table is = is.0 refl
-session_asked rows (Session g) is = tt
-session_asked rows (Serve plan) is = let bad : true ≡ false = ap (bytes_eq (codes "session")) is.0 in cc
-session_asked rows Replay is = let bad : true ≡ false = ap (bytes_eq (codes "session")) is in cc
-session_asked rows Merge is = let bad : true ≡ false = ap (bytes_eq (codes "session")) is in cc
-
-pub replay_asked : (rows : List Row) (asked : Asked) → IsAsked (codes "replay") rows asked → IsReplay asked
-replay_asked rows Table is = is.2 refl
-replay_asked rows (Session g) is = let bad : true ≡ false = ap (bytes_eq (codes "replay")) is.0 in cc
-replay_asked rows (Serve plan) is = let bad : true ≡ false = ap (bytes_eq (codes "replay")) is.0 in cc
-replay_asked rows Replay is = tt
-replay_asked rows Merge is = let bad : true ≡ false = ap (bytes_eq (codes "replay")) is in cc
-
-pub serve_asked : (rows : List Row) (asked : Asked) → IsAsked (codes "serve") rows asked → IsServe asked
-serve_asked rows Table is = is.1 refl
-serve_asked rows (Session g) is = let bad : true ≡ false = ap (bytes_eq (codes "serve")) is.0 in cc
-serve_asked rows (Serve plan) is = tt
-serve_asked rows Replay is = let bad : true ≡ false = ap (bytes_eq (codes "serve")) is in cc
-serve_asked rows Merge is = let bad : true ≡ false = ap (bytes_eq (codes "serve")) is in cc
+-- what was done, by what was asked for
+pub done_by : (arguments : List Text) (asked : Asked) (status : ℕ) (Help T M : Type 0) → IfTable asked (status ≡ 0 → T)
+    → IfMerge asked (status ≡ 0 → M) → IfServe asked (status ≡ 2) → IfNamed asked (λ name. Names arguments name) → status ≡ 0
+    → Help ⊎ T ⊎ M ⊎ NamesSession arguments ⊎ NamesReplay arguments
+done_by arguments Table status Help T M table merge serve named done = inr (inl (table done))
+done_by arguments (Session g) status Help T M table merge serve named done = inr (inr (inr (inl named)))
+done_by arguments (Serve plan) status Help T M table merge serve named done = absurd (omega (arith, serve, done))
+done_by arguments Replay status Help T M table merge serve named done = inr (inr (inr (inr named)))
+done_by arguments Merge status Help T M table merge serve named done = inr (inr (inl (merge done)))
 
 -- only a word in the place of a topic is at fault, or memory is short
 pub topic_or_memory : (name : Text) (rows : List Row) (fault : LineFault) → IsFaulty name rows fault
@@ -264,12 +314,14 @@ replay_fault rows (Topic why) is = absurd (is.2 refl)
 -- ---- and where something else than a broker that listens is
 
 pub no_plan : (arguments : List Text) (asked : Asked) (plan : Option Plan) → AsksForOther arguments
-    → ((name : Text) (rows : List Row) → Finds arguments name rows → IsAsked name rows asked) → IsPlanOf asked plan → plan ≡ None
-no_plan arguments Table plan asks is of = of
-no_plan arguments (Session g) plan asks is of = of
-no_plan arguments (Serve p) plan asks is of = absurd (asks.3 (is asks.0 asks.1 asks.2).0)
-no_plan arguments Replay plan asks is of = of
-no_plan arguments Merge plan asks is of = of
+    → ((name : Text) (rows : List Row) → Finds arguments name rows → IsAsked name rows asked)
+    → ((kinds : Kinds) → Stops arguments kinds → ⊥) → IsPlanOf asked plan → plan ≡ None
+no_plan arguments Table plan asks is stops of = of
+no_plan arguments (Session g) plan asks is stops of = of
+no_plan arguments (Serve p) plan (inl asks) is stops of = absurd (asks.3 (is asks.0 asks.1 asks.2).0)
+no_plan arguments (Serve p) plan (inr stopped) is stops of = absurd (stops stopped.0 stopped.1)
+no_plan arguments Replay plan asks is stops of = of
+no_plan arguments Merge plan asks is stops of = of
 
 -- ---- and where one is
 

@@ -1,14 +1,15 @@
 -- What a parse of the command line gives, by the subcommand that clap found and its values.
-use Rattle.std.specs.Prelude.{◌≡◌, ◌≢◌, ℕ, List, codes, ⊤, Option, Some, None}
-use Rattle.clap.specs.Words.{Row, Text, kind_of}
+use Rattle.std.specs.Prelude.{◌≡◌, ◌≢◌, ◌⊎◌, ℕ, List, codes, ⊤, Option, Some, None}
+use Rattle.clap.specs.Words.{HasKind, Kinds, Row, Text, kind_of}
 use Rattle.clap.specs.declared.error.kind.ErrorKind.TheVariants as kind
 use Rattle.broker_node.specs.ConfigValues.{config_value}
+use Rattle.broker_node.specs.State.{ConfigValue}
 use Rattle.tcp_edge.specs.declared.asked.Asked.{Asked}
 use Rattle.tcp_edge.specs.declared.asked.Asked.TheVariants.{Table, Session, Serve, Replay, Merge}
 use Rattle.tcp_edge.specs.declared.asked.Plan.{Plan}
 use Rattle.tcp_edge.specs.declared.asked.LineFault.{LineFault}
 use Rattle.tcp_edge.specs.declared.asked.LineFault.TheVariants.{Clap, Topic}
-use Rattle.tcp_edge.specs.CommandLine.{HasTopics, IsConfigOf, IsPort, IsConnections, Finds, topic_words}
+use Rattle.tcp_edge.specs.CommandLine.{HasTopics, IsConfigOf, IsPort, IsConnections, Finds, Stops, topic_words}
 
 -- a broker that listens: at first its configuration has the port that was asked for
 pub record IsListener (rows : List Row) (plan : Plan) : Type 0 where
@@ -32,10 +33,50 @@ IfNamed (Serve plan) P = ⊤
 IfNamed Replay P = P (codes "replay")
 IfNamed Merge P = P (codes "merge")
 
+-- a fact, where the table is asked for
+abbrev pub IfTable : Asked → Type 0 → Type 0
+IfTable Table P = P
+IfTable asked P = ⊤
+
+-- a fact of the configuration, where a session is
+abbrev pub IfSession : Asked → (ConfigValue → Type 0) → Type 0
+IfSession (Session g) P = P (config_value g)
+IfSession asked P = ⊤
+
+-- a fact, where a script's outcome is
+abbrev pub IfReplay : Asked → Type 0 → Type 0
+IfReplay Replay P = P
+IfReplay asked P = ⊤
+
+-- a fact, where a merge is
+abbrev pub IfMerge : Asked → Type 0 → Type 0
+IfMerge Merge P = P
+IfMerge asked P = ⊤
+
+-- a fact, where a broker that listens is
+abbrev pub IfServe : Asked → Type 0 → Type 0
+IfServe (Serve plan) P = P
+IfServe asked P = ⊤
+
 -- there was no memory to look at the arguments
 abbrev pub IsOutOfMemory : LineFault → Type 0
 IsOutOfMemory (Clap error) = kind_of error ≡ kind.OutOfMemory
 IsOutOfMemory (Topic why) = ⊥
+
+-- what clap stopped with: memory ran out, or its error is of one of these kinds
+abbrev pub IsStop : Kinds → LineFault → Type 0
+IsStop kinds (Clap error) = HasKind kinds error
+IsStop kinds (Topic why) = ⊥
+
+-- neither help nor the version was asked for
+abbrev pub IsMistake : LineFault → Type 0
+IsMistake (Clap error) = (kind_of error ≢ kind.DisplayHelp) × (kind_of error ≢ kind.DisplayVersion)
+IsMistake (Topic why) = ⊤
+
+-- help was asked for, or the version
+abbrev pub IsHelp : LineFault → Type 0
+IsHelp (Clap error) = (kind_of error ≡ kind.DisplayHelp) ⊎ (kind_of error ≡ kind.DisplayVersion)
+IsHelp (Topic why) = ⊥
 
 -- a word in the place of a topic is none
 abbrev pub IsNoTopic : LineFault → Type 0
@@ -61,6 +102,7 @@ IsPlanOf (Serve asked) plan = plan ≡ Some asked
 IsPlanOf Replay plan = plan ≡ None
 IsPlanOf Merge plan = plan ≡ None
 
--- the arguments ask for something else than a broker that listens
+-- the arguments ask for something else than a broker that listens, or clap stops at them
 abbrev pub AsksForOther : List Text → Type 0
-AsksForOther arguments = (name : Text) × (rows : List Row) × Finds arguments name rows × (name ≢ codes "serve")
+AsksForOther arguments = ((name : Text) × (rows : List Row) × Finds arguments name rows × (name ≢ codes "serve"))
+    ⊎ ((kinds : Kinds) × Stops arguments kinds)

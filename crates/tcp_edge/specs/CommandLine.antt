@@ -1,5 +1,5 @@
 -- What the program can be asked for on its command line, in the words of clap.
-use Rattle.std.specs.Prelude.{◌≡◌, ◌⊎◌, ℕ, ◌<◌, ◌^◌, pos, true, false, if◌then◌else◌, List, [], ◌∷◌, ◌++◌, Option, Some, None, codes, map, bytes_eq, unwrap_or, ⊤}
+use Rattle.std.specs.Prelude.{◌≡◌, ◌≢◌, ◌⊎◌, ℕ, ◌<◌, ◌^◌, pos, true, false, if◌then◌else◌, List, [], ◌∷◌, ◌++◌, Option, Some, None, codes, map, bytes_eq, unwrap_or, ⊤}
 use Rattle.std.specs.Borrow.{Bor}
 use Rattle.std.specs.Option.{option_map_or}
 use Rattle.std.specs.Str.Parse.{IsNumeral, digits_value, without_leading_plus}
@@ -7,9 +7,10 @@ use Rattle.broker_node.specs.State.{ConfigValue, TopicConfig}
 use Rattle.broker_node.specs.declared.config.Role.{Role}
 use Rattle.broker_node.specs.declared.config.Role.TheVariants.{Leader, Follower}
 use Rattle.clap.specs.Lexer.{usize_max}
-use Rattle.clap.specs.Words.{App, Row, Rule, Shape, Text, new_app, new_rule, with_rule, with_subcommand, first_of, one_of, all_of, fault_of, subcommand_of}
+use Rattle.clap.specs.Words.{App, IsAmong, Kinds, Row, Rule, Shape, Text, new_app, new_rule, with_rule, with_subcommand, first_of, one_of, all_of, fault_of, subcommand_of}
 use Rattle.clap.specs.declared.builder.value_parser.ValueParser.{ValueParser}
 use Rattle.clap.specs.declared.builder.value_parser.ValueParser.TheVariants as parsers
+use Rattle.clap.specs.declared.error.kind.ErrorKind.TheVariants as kind
 
 -- ---- arguments
 
@@ -68,6 +69,22 @@ IsRoles roles = map (λ word. word.now) roles.now ≡ codes "leader" ∷ codes "
 pub record Finds (arguments : List Text) (name : Text) (rows : List Row) : Type 0 where
   pub no_fault : (roles : Roles) → IsRoles roles → fault_of (kbroker roles) arguments ≡ []
   pub found : (roles : Roles) → IsRoles roles → subcommand_of (kbroker roles) arguments ≡ Some (name, rows)
+
+-- clap stops at the arguments, with an error of one of these kinds
+pub record Stops (arguments : List Text) (kinds : Kinds) : Type 0 where
+  pub some : kinds ≢ []
+  pub fault : (roles : Roles) → IsRoles roles → fault_of (kbroker roles) arguments ≡ kinds
+
+-- clap finds a mistake in the arguments: what it stops with is neither help nor the version
+pub record HasMistake (arguments : List Text) : Type 0 where
+  pub kinds : Kinds
+  pub stops : Stops arguments kinds
+  pub no_help : ¬ IsAmong kind.DisplayHelp kinds
+  pub no_version : ¬ IsAmong kind.DisplayVersion kinds
+
+-- the arguments ask for help, or for the version
+abbrev pub AsksForHelp : List Text → Type 0
+AsksForHelp arguments = Stops arguments (kind.DisplayHelp ∷ []) ⊎ Stops arguments (kind.DisplayVersion ∷ [])
 
 -- the program's name, whatever it is, and `table`
 abbrev pub AsksForTable : List Text → Type 0

@@ -1,11 +1,11 @@
 //! What a command line asks for.
 
-ghost use Rattle.std.specs.Prelude.{◌≡◌, ◌≢◌, ℕ, pos, List, Some, IfOk, IfErr, MatchResult, codes, map};
+ghost use Rattle.std.specs.Prelude.{◌≡◌, ◌≢◌, ℕ, pos, List, Some, IfOk, IfErr, IsErrAnd, MatchResult, codes, map};
 ghost use Rattle.std.specs.Bool.{MatchBool};
 ghost use Rattle.broker_node.specs.ConfigValues.{config_value};
-ghost use Rattle.clap.specs.Words.{Row, Text, found_of, rows_of, subcommand_name_of, subcommand_rows_of};
-ghost use Rattle.tcp_edge.specs.Asked.{IfNamed, IsAsked, IsConfigFault, IsFaulty, IsListener, IsOutOfMemory, IsPlanOf};
-ghost use Rattle.tcp_edge.specs.CommandLine.{Finds, IsConfigOf, IsConnections, IsPort, Names, role_of, topic_words};
+ghost use Rattle.clap.specs.Words.{Kinds, Row, Text, found_of, rows_of, subcommand_name_of, subcommand_rows_of};
+ghost use Rattle.tcp_edge.specs.Asked.{IfNamed, IsAsked, IsConfigFault, IsFaulty, IsListener, IsOutOfMemory, IsPlanOf, IsStop};
+ghost use Rattle.tcp_edge.specs.CommandLine.{Finds, IsConfigOf, IsConnections, IsPort, Names, Stops, role_of, topic_words};
 
 use crate::commands::command;
 use crate::topics::topics_of;
@@ -193,6 +193,8 @@ pub(crate) fn parse<S: AsStr>(alloc: Global, arguments: &[S]) -> Result<Asked, L
         → MatchResult result (IsAsked name rows) (IsFaulty name rows) }
     ensures named { IfOk result (λ asked.
         IfNamed asked (λ name. Names (map S.text arguments.now) name)) }
+    ensures stopped { (kinds : Kinds) → Stops (map S.text arguments.now) kinds
+        → IsErrAnd result (IsStop kinds) }
 {
     match command(alloc)?.try_get_matches_from(arguments) {
         Ok(matches) => asked_by(alloc, &matches),

@@ -6,9 +6,9 @@ ghost use Rattle.broker_node.specs.Configs.{IsValidConfig};
 ghost use Rattle.broker_node.specs.State.{ConfigValue};
 ghost use Rattle.clap.specs.Words.{Row, kind_of};
 ghost use Rattle.copy_tools.specs.declared.error.MergeFault.{MergeFault};
-ghost use Rattle.tcp_edge.specs.Asked.{AsksForOther, IsListener, IsNoTopic, IsOutOfMemory};
+ghost use Rattle.tcp_edge.specs.Asked.{AsksForOther, IfMerge, IfReplay, IfServe, IfSession, IfTable, IsHelp, IsListener, IsMistake, IsNoTopic, IsOutOfMemory};
 ghost use Rattle.subcommands.specs.declared.error.Refusal.{Refusal};
-ghost use Rattle.tcp_edge.specs.CommandLine.{AsksForMerge, AsksForTable, Finds, HasTopics, IsConfigOf, IsPort, NamesReplay, NamesSession, topic_words};
+ghost use Rattle.tcp_edge.specs.CommandLine.{AsksForHelp, AsksForMerge, AsksForTable, Finds, HasMistake, HasTopics, IsConfigOf, IsPort, NamesReplay, NamesSession, topic_words};
 ghost use Rattle.subcommands.specs.Merges.{PrintsMerge, ReadsImages, RefusesImages};
 ghost use Rattle.subcommands.specs.Refused.{RefusesStream};
 ghost use Rattle.subcommands.specs.Tables.{ReadsLog, PrintsTable};
@@ -32,6 +32,10 @@ fn explain<W: Write, E: Write>(error: &Error, out: &mut W, err: &mut E) -> u8
     ensures is_status { (result ≤ 4) × (result ≢ 1) }
     ensures done_complains_of_nothing { result ≡ 0 → err.new ≡ err.old }
     ensures out_of_memory { kind_of error.now ≡ ErrorKind.OutOfMemory → result ≡ 3 }
+    ensures mistake { (kind_of error.now ≢ ErrorKind.DisplayHelp)
+        → (kind_of error.now ≢ ErrorKind.DisplayVersion) → (2 ≤ result) × (out.new ≡ out.old) }
+    ensures help { (kind_of error.now ≡ ErrorKind.DisplayHelp)
+        ⊎ (kind_of error.now ≡ ErrorKind.DisplayVersion) → result ≢ 2 }
     ensures faulty_prints_nothing { result ≡ 2 → out.new ≡ out.old }
     ensures out_of_memory_prints_nothing { result ≡ 3 → out.new ≡ out.old }
 {
@@ -56,6 +60,8 @@ fn refuse_line<W: Write, E: Write>(why: &LineFault, out: &mut W, err: &mut E) ->
     ensures is_status { (result ≤ 4) × (result ≢ 1) }
     ensures done_complains_of_nothing { result ≡ 0 → err.new ≡ err.old }
     ensures out_of_memory { IsOutOfMemory why.now → result ≡ 3 }
+    ensures mistake { IsMistake why.now → (2 ≤ result) × (out.new ≡ out.old) }
+    ensures help { IsHelp why.now → result ≢ 2 }
     ensures topic { IsNoTopic why.now → (2 ≤ result) × (result ≤ 3) × (out.new ≡ out.old) }
     ensures faulty_prints_nothing { result ≡ 2 → out.new ≡ out.old }
     ensures out_of_memory_prints_nothing { result ≡ 3 → out.new ≡ out.old }
@@ -66,11 +72,62 @@ fn refuse_line<W: Write, E: Write>(why: &LineFault, out: &mut W, err: &mut E) ->
     }
 }
 
+/// Does what was asked for, but for a broker that listens, and answers the status.
+fn run_asked<R: Read, W: Write, E: Write>(
+    alloc: Global,
+    asked: Asked,
+    reader: &mut R,
+    out: &mut W,
+    err: &mut E,
+) -> u8
+    ensures is_status { result ≤ 4 }
+    ensures done_complains_of_nothing { result ≡ 0 → err.new ≡ err.old }
+    ensures faulty_prints_nothing { result ≡ 2 → out.new ≡ out.old }
+    ensures faulty_reads_nothing { result ≡ 2 → reader.new ≡ reader.old }
+
+    ensures table_is_no_fault { IfTable asked (result ≢ 2) }
+    ensures table_is_printed { IfTable asked (result ≡ 0 → PrintsTable
+        (R.remaining reader.old) (R.remaining reader.new)
+        (W.contents out.old) (W.contents out.new)) }
+    ensures refused_table_has_first_refused { IfTable asked (result ≡ 1 → (index : ℕ) × (why : Refusal)
+        × RefusesStream (R.remaining reader.old) (R.remaining reader.new) index why) }
+    ensures refused_table_prints_nothing { IfTable asked (result ≡ 1 → out.new ≡ out.old) }
+    ensures table_out_of_memory_prints_nothing { IfTable asked (result ≡ 3 → out.new ≡ out.old) }
+    ensures failed_table_prints_nothing_before_whole_input { IfTable asked (result ≡ 4
+        → (out.new ≡ out.old) ⊎ ((bs : List BatchValue)
+        × ReadsLog (R.remaining reader.old) (R.remaining reader.new) bs)) }
+
+    ensures merge_is_no_fault { IfMerge asked (result ≢ 2) }
+    ensures merge_is_printed { IfMerge asked (result ≡ 0 → PrintsMerge
+        (R.remaining reader.old) (R.remaining reader.new)
+        (W.contents out.old) (W.contents out.new)) }
+    ensures refused_merge_has_a_first_fault { IfMerge asked (result ≡ 1 → (why : MergeFault)
+        × RefusesImages (R.remaining reader.old) (R.remaining reader.new) why) }
+    ensures refused_merge_prints_nothing { IfMerge asked (result ≡ 1 → out.new ≡ out.old) }
+    ensures merge_out_of_memory_prints_nothing { IfMerge asked (result ≡ 3 → out.new ≡ out.old) }
+    ensures failed_merge_prints_nothing_before_the_merge { IfMerge asked (result ≡ 4
+        → (out.new ≡ out.old) ⊎ ReadsImages (R.remaining reader.old) (R.remaining reader.new)) }
+
+    ensures session_fault_has_a_cause { IfSession asked (λ config. result ≡ 2 → ¬ IsValidConfig config) }
+    ensures replay_is_no_fault { IfReplay asked (result ≢ 2) }
+    ensures serve_is_left { IfServe asked (result ≡ 2) }
+    ensures serve_does_nothing { IfServe asked ((out.new ≡ out.old) × (reader.new ≡ reader.old)
+        × (err.new ≡ err.old)) }
+{
+    match asked {
+        Asked::Table => run_subcommand(alloc, reader, out, err),
+        Asked::Session(config) => run_session(alloc, config, reader, out, err),
+        Asked::Replay => run_replay(alloc, reader, out, err),
+        Asked::Merge => run_merge(alloc, reader, out, err),
+        Asked::Serve(_) => FAULTY,
+    }
+}
+
 /// Runs the program on its arguments, of which the first is its name, and answers its status: 0
 /// done, 1 input refused, 2 a faulty command line or configuration, 3 out of memory, 4 a read or a
 /// write failed. A status of 1, 3 or 4 comes with one line on `err`. Arguments that ask for a broker
 /// that listens are left to `run_serve`: the status is 2, and nothing is printed.
-#[tactic(auto, using(crate::proofs::Arguments::table_asked, crate::proofs::Arguments::table_fault))]
+#[tactic(auto, using(crate::proofs::Arguments::table_fault))]
 pub fn run_line<S: AsStr, R: Read, W: Write, E: Write>(
     alloc: Global,
     arguments: &[S],
@@ -130,6 +187,11 @@ pub fn run_line<S: AsStr, R: Read, W: Write, E: Write>(
         ⊎ ((g : ConfigValue) × IsConfigOf rows 9092 g × ¬ IsValidConfig g) }
     ensures replay_is_no_fault { (rows : List Row)
         → Finds (map S.text arguments.now) (codes "replay") rows → result ≢ 2 }
+    // Arguments in which clap finds a mistake are refused, and those that ask for help are not.
+    ensures mistake_is_refused { HasMistake (map S.text arguments.now) → (2 ≤ result)
+        × (out.new ≡ out.old) × (reader.new ≡ reader.old) }
+    ensures help_is_no_fault { AsksForHelp (map S.text arguments.now) → (result ≢ 1) × (result ≢ 2)
+        × (reader.new ≡ reader.old) }
     // A broker that listens is left to `run_serve`.
     ensures serve_is_left { (rows : List Row)
         → Finds (map S.text arguments.now) (codes "serve") rows → (2 ≤ result) × (result ≤ 3)
@@ -139,17 +201,13 @@ pub fn run_line<S: AsStr, R: Read, W: Write, E: Write>(
         → result ≡ 2 → err.new ≡ err.old }
 {
     match parse(alloc, arguments) {
-        Ok(Asked::Table) => run_subcommand(alloc, reader, out, err),
-        Ok(Asked::Session(config)) => run_session(alloc, config, reader, out, err),
-        Ok(Asked::Replay) => run_replay(alloc, reader, out, err),
-        Ok(Asked::Merge) => run_merge(alloc, reader, out, err),
-        Ok(Asked::Serve(_)) => FAULTY,
+        Ok(asked) => run_asked(alloc, asked, reader, out, err),
         Err(why) => refuse_line(&why, out, err),
     }
 }
 
 /// What the arguments ask of a broker that listens, if they ask for one.
-#[tactic(auto, using(crate::proofs::Arguments::no_plan, crate::proofs::Arguments::plan_found, crate::proofs::Arguments::topic_fault))]
+#[tactic(auto, using(crate::proofs::Arguments::plan_found, crate::proofs::Arguments::topic_fault))]
 fn plan_asked<S: AsStr>(alloc: Global, arguments: &[S]) -> Result<Option<Plan>, AllocError>
     ensures other { AsksForOther (map S.text arguments.now) → IfOk result (λ plan. plan ≡ None) }
     ensures serve { (rows : List Row) → Finds (map S.text arguments.now) (codes "serve") rows
