@@ -93,7 +93,6 @@ fn fault_of(why: MergeError) -> MergeFault
 }
 
 /// The image of two copies' merge.
-#[tactic(auto, using(crate::proofs::Pairs::copies_refused))]
 fn image_of_merge<A: Allocator + Copy>(
     alloc: A,
     first: PartitionLog<VecStore<A>>,

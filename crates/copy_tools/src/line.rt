@@ -75,28 +75,60 @@ fn produce<'a>(producer: Producer, words: &Words<'a>) -> Result<Line<'a>, BadLin
     Ok(Line::Produce { producer, items })
 }
 
+/// A delivery of the batch whose number comes next.
+fn deliver<'a>(copy: usize, words: &mut Words<'a>) -> Result<Line<'a>, BadLine> {
+    let batch = words.index()?;
+    Ok(Line::Deliver { copy, batch })
+}
+
+/// A cleaning with the bounds that come next.
+fn clean<'a>(copy: usize, words: &mut Words<'a>) -> Result<Line<'a>, BadLine> {
+    let upto = words.signed()?;
+    let tomb_before = words.signed()?;
+    Ok(Line::Clean {
+        copy,
+        upto,
+        tomb_before,
+    })
+}
+
+/// A merge of the image whose number comes next.
+fn merge<'a>(copy: usize, words: &mut Words<'a>) -> Result<Line<'a>, BadLine> {
+    let image = words.index()?;
+    Ok(Line::Merge { copy, image })
+}
+
 /// A line of numbers, by its first word.
 fn numbers<'a>(name: &[u8], words: &mut Words<'a>) -> Result<Line<'a>, BadLine> {
     let first = words.index()?;
     match name {
         b"copies" => Ok(Line::Copies { count: first }),
-        b"deliver" => Ok(Line::Deliver {
-            copy: first,
-            batch: words.index()?,
-        }),
-        b"clean" => Ok(Line::Clean {
-            copy: first,
-            upto: words.signed()?,
-            tomb_before: words.signed()?,
-        }),
+        b"deliver" => deliver(first, words),
+        b"clean" => clean(first, words),
         b"send" => Ok(Line::Send { copy: first }),
-        b"merge" => Ok(Line::Merge {
-            copy: first,
-            image: words.index()?,
-        }),
+        b"merge" => merge(first, words),
         b"table" => Ok(Line::Table { copy: first }),
         b"cover" => Ok(Line::Cover { copy: first }),
         _ => Err(BadLine),
+    }
+}
+
+/// A line of numbers, with no word behind them.
+fn only_numbers<'a>(name: &[u8], words: &mut Words<'a>) -> Result<Line<'a>, BadLine> {
+    let parsed = numbers(name, words)?;
+    words.end()?;
+    Ok(parsed)
+}
+
+/// A line, by its first word and those behind it.
+fn parse_words<'a>(name: &[u8], words: &mut Words<'a>) -> Result<Line<'a>, BadLine> {
+    match name {
+        b"produce" => produce(Producer::NONE, words),
+        b"produce-as" => {
+            let producer = words.producer()?;
+            produce(producer, words)
+        }
+        _ => only_numbers(name, words),
     }
 }
 
@@ -111,15 +143,5 @@ pub fn parse_line(line: &[u8]) -> Result<Line<'_>, BadLine> {
     }
     let (name, rest) = split_word(line);
     let mut words = Words::new(rest);
-    match name {
-        b"produce" => return produce(Producer::NONE, &words),
-        b"produce-as" => {
-            let producer = words.producer()?;
-            return produce(producer, &words);
-        }
-        _ => {}
-    }
-    let parsed = numbers(name, &mut words)?;
-    words.end()?;
-    Ok(parsed)
+    parse_words(name, &mut words)
 }

@@ -2,7 +2,7 @@
 
 use crate::line::BadLine;
 use cluster::{EventError, Outcome};
-use content::Delivered;
+use content::{CleanReport, Delivered};
 use std::alloc::{AllocError, Allocator};
 use std::fmt::Display;
 use std::io::Write;
@@ -28,6 +28,37 @@ impl From<BadLine> for LineFault {
     fn from(_error: BadLine) -> LineFault {
         LineFault::BadLine
     }
+}
+
+/// Adds the line that says what came of an event.
+fn add_outcome<A: Allocator + Copy>(
+    text: &mut String<A>,
+    outcome: Outcome,
+) -> Result<(), AllocError> {
+    match outcome {
+        Outcome::Based {
+            base,
+            repeat: false,
+        } => writeln!(text, "base {base}"),
+        Outcome::Based { base, repeat: true } => writeln!(text, "repeat {base}"),
+        Outcome::Delivered(Delivered::Added) => writeln!(text, "added"),
+        Outcome::Delivered(Delivered::Repeat) => writeln!(text, "repeat"),
+        Outcome::Cleaned(report) => add_report(text, report),
+        Outcome::Sent { image } => writeln!(text, "image {image}"),
+        Outcome::Merged => writeln!(text, "merged"),
+    }
+}
+
+/// Adds the line that says what a cleaning removed.
+fn add_report<A: Allocator + Copy>(
+    text: &mut String<A>,
+    report: CleanReport,
+) -> Result<(), AllocError> {
+    writeln!(
+        text,
+        "cleaned {} {} {}",
+        report.records, report.tombstones, report.batches
+    )
 }
 
 /// Lines on their way to a writer, through a buffer that never grows.
@@ -70,22 +101,7 @@ impl<'w, W: Write, A: Allocator + Copy> Printer<'w, W, A> {
 
     /// Prints what came of an event.
     pub(crate) fn outcome(&mut self, outcome: Outcome) -> Result<(), LineFault> {
-        match outcome {
-            Outcome::Based {
-                base,
-                repeat: false,
-            } => writeln!(self.text, "base {base}")?,
-            Outcome::Based { base, repeat: true } => writeln!(self.text, "repeat {base}")?,
-            Outcome::Delivered(Delivered::Added) => writeln!(self.text, "added")?,
-            Outcome::Delivered(Delivered::Repeat) => writeln!(self.text, "repeat")?,
-            Outcome::Cleaned(report) => writeln!(
-                self.text,
-                "cleaned {} {} {}",
-                report.records, report.tombstones, report.batches
-            )?,
-            Outcome::Sent { image } => writeln!(self.text, "image {image}")?,
-            Outcome::Merged => writeln!(self.text, "merged")?,
-        }
+        add_outcome(&mut self.text, outcome)?;
         self.put_text()
     }
 
