@@ -9,3 +9,4 @@ pub mod WholeFrames
 pub mod OneOutcome
 pub mod FramesCut
 pub mod ResponseParts
+mod MetadataHead

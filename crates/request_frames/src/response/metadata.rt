@@ -1,8 +1,9 @@
 //! The response to Metadata, version 1: `begin_metadata`; for each topic `begin_metadata_topic` and
 //! its partitions, each by `put_metadata_partition`.
 
-ghost use Rattle.std.specs.Prelude.{◌≡◌, ◌≤◌, ◌+◌, ◌++◌, length, IsOk, OnOk, OnErr};
+ghost use Rattle.std.specs.Prelude.{◌≡◌, ◌≤◌, ◌+◌, ◌++◌, pos, negsuc, length, IsOk, OnOk, OnErr};
 ghost use Rattle.std.specs.Vec.{vec_len, vec_capacity};
+ghost use Rattle.request_frames.specs.Fields.{size16, size32, be};
 ghost use Rattle.request_frames.specs.Responses.{metadata_head, metadata_topic_head, metadata_partition_bytes};
 
 use crate::response::append_around;
@@ -54,12 +55,38 @@ pub struct MetadataPartition {
     pub leader: Option<i32>,
 }
 
+/// What stands before the host: the count of the brokers, which is 1, the broker's node id, and the
+/// number of the host's bytes.
+fn before_host(node_id: i32, host: &[u8]) -> [u8; 10]
+    ensures { result ≡ be size32 (pos 1) ++ (be size32 node_id
+        ++ be size16 (pos (length host.now))) }
+{
+    let mut bytes = [0; 10];
+    BigEndian::write_i32(&mut bytes[0..4], 1);
+    BigEndian::write_i32(&mut bytes[4..8], node_id);
+    bytes[8..10].copy_from_slice(&host.len().to_be_bytes()[6..8]);
+    bytes
+}
+
+/// What stands after the host: the port, no rack, the controller's node id, and the count of the
+/// topics.
+fn after_host(port: u16, controller: i32, topic_count: u32) -> [u8; 14]
+    ensures { result ≡ be size32 (pos port) ++ (be size16 (negsuc 0) ++ (be size32 controller
+        ++ be size32 (pos topic_count))) }
+{
+    let mut bytes = [0; 14];
+    BigEndian::write_u32(&mut bytes[0..4], u32::from(port));
+    BigEndian::write_i16(&mut bytes[4..6], -1);
+    BigEndian::write_i32(&mut bytes[6..10], controller);
+    BigEndian::write_u32(&mut bytes[10..14], topic_count);
+    bytes
+}
+
 /// Appends the one broker, the controller's node id, -1 for none, and the count of the topics.
 ///
 /// # Errors
 ///
 /// `AllocError` where the allocation fails; then the output is as before.
-#[tactic(auto, unfolding(crate::specs::Fields::encoded))]
 pub fn begin_metadata<A: Allocator + Copy>(
     out: &mut Vec<u8, A>,
     broker: MetadataBroker<'_>,
@@ -75,15 +102,8 @@ pub fn begin_metadata<A: Allocator + Copy>(
         ≤ vec_capacity out.old → IsOk result }
     ensures keeps_capacity { vec_capacity out.old ≤ vec_capacity out.new }
 {
-    let mut before = [0; 10];
-    BigEndian::write_i32(&mut before[0..4], 1);
-    BigEndian::write_i32(&mut before[4..8], broker.node_id);
-    before[8..10].copy_from_slice(&broker.host.len().to_be_bytes()[6..8]);
-    let mut after = [0; 14];
-    BigEndian::write_u32(&mut after[0..4], u32::from(broker.port));
-    BigEndian::write_i16(&mut after[4..6], -1);
-    BigEndian::write_i32(&mut after[6..10], controller);
-    BigEndian::write_u32(&mut after[10..14], topic_count);
+    let before = before_host(broker.node_id, broker.host);
+    let after = after_host(broker.port, controller, topic_count);
     append_around(out, &before, broker.host, &after)
 }
 
