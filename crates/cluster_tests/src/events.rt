@@ -181,6 +181,11 @@ fn shows_row<A: Allocator + Copy>(cluster: &Cluster<VecStore<A>>, number: usize)
     }
 }
 
+/// Whether a cluster has these bytes under a number.
+fn are(found: Option<&[u8]>, wanted: &[u8]) -> bool {
+    found == Some(wanted)
+}
+
 /// What a cluster shows after the list of events, by name, and whether it is right.
 fn facts<A: Allocator + Copy>(
     cluster: &mut Cluster<VecStore<A>>,
@@ -191,9 +196,9 @@ fn facts<A: Allocator + Copy>(
         ("the answers", answers_all(cluster, events)),
         ("copy 0", shows_row(cluster, 0)),
         ("copy 1", shows_row(cluster, 1)),
-        ("batch 1", cluster.archived(1) == Some(batch.as_slice())),
-        ("image 0", cluster.image(0) == Some(EMPTY.as_slice())),
-        ("image 1", cluster.image(1) == Some(B_IS_2.as_slice())),
+        ("batch 1", are(cluster.archived(1), &batch)),
+        ("image 0", are(cluster.image(0), &EMPTY)),
+        ("image 1", are(cluster.image(1), &B_IS_2)),
         ("no batch 3", cluster.archived(3).is_none()),
         ("no image 2", cluster.image(2).is_none()),
     ]
