@@ -1,10 +1,15 @@
 -- The topics of a new broker.
 use Rattle.std.proofs.Common.{◌≡◌, ℕ, ◌+◌, ◌<◌, ◌≤◌, List, [], ◌∷◌, ◌++◌, length, take, get_or, refl, sym, ap, ◌∙◌}
-use Rattle.std.specs.Prelude.{map}
-use Rattle.std.proofs.lemmas.List.{take_all, take_more, map-append}
+use Rattle.std.specs.Prelude.{map, replicate}
+use Rattle.std.proofs.lemmas.List.{take_all, take_more, map-append, replicate_more}
 use Rattle.broker_node.specs.declared.config.Role.{Role}
 use Rattle.broker_node.specs.State.{TopicConfig}
+use Rattle.broker_node.specs.Partitions.{PartitionValue}
 use Rattle.broker_node.specs.Parts.{TopicParts, new_parts}
+
+pub one_partition_more : (n : ℕ) (one new : PartitionValue) (made next : List PartitionValue) → made ≡ replicate n one → new ≡ one → next ≡ made ++ new ∷ []
+    → next ≡ replicate (n + 1) one
+one_partition_more n one new made next so_far is e = e ∙ (λ i. so_far i ++ is i ∷ []) ∙ replicate_more n one
 
 one_more : {X Y Z : Type 0} (f : X → Y) (g : Y → Z) (xs : List X) (y : Y) → map (λ x. g (f x)) xs ++ g y ∷ [] ≡ map g (map f xs ++ y ∷ [])
 one_more f g [] y = refl

@@ -56,7 +56,6 @@ impl FetchRoom {
     /// # Errors
     ///
     /// The offset that is asked for lies outside the copy.
-    #[tactic(auto, using(crate::proofs::Runs::run_small))]
     pub(crate) fn run_within<S: BatchStore>(
         &self,
         copy: &PartitionLog<S>,

@@ -1,12 +1,17 @@
-use Rattle.std.proofs.Common.{◌≡◌, ◌∙◌, ◌++◌, ap}
+use Rattle.std.proofs.Common.{◌≡◌, ◌∙◌, ◌++◌, ap, refl}
 use Rattle.std.specs.List.{flat_map}
 use Rattle.request_frames.specs.Arrays.{values}
 use Rattle.request_frames.specs.Requests.{fetch_partition}
 use Rattle.request_frames.specs.Responses.{topic_head, fetched_bytes}
 use Rattle.broker_node.specs.Lists.{map_accum}
 use Rattle.broker_node.specs.FetchedTopics.{fetched_entry}
-use Rattle.broker_node.proofs.FetchReplies.{answers_begun}
+use Rattle.broker_node.proofs.Written.{begins_same, begins_more, begins_both, on_err_of}
+use Rattle.broker_node.proofs.FetchReplies.{answers_begun, one_answered, one_left, all_answered, none_left}
 use Rattle.broker_node.proofs.fetch.put_topic.Goals as goal
+
+pub returns-in_err-begin_topic-clause-begins : goal.returns-in_err-begin_topic-clause-begins
+returns-in_err-begin_topic-clause-begins g c =
+    on_err_of c.from_residual.result (begins_same c.args.out.now.items c.begin_topic.new.out.items c.in_err-begin_topic.ensures.unchanged_on_error)
 
 pub loop-entry-init : goal.loop-entry-init
 loop-entry-init g c =
@@ -19,3 +24,28 @@ loop-entry-init g c =
       ap (λ entries. (map_accum answer c.args.room.now (values fetch_partition entries)).1) same,
       (topic_head c.args.topic.name.now c.len.result, begins),
     )
+
+pub loop-entry-preserved : goal.loop-entry-preserved
+loop-entry-preserved g c =
+    let answer = fetched_entry c.args.node.now c.args.topic.name.now in
+    let out = c.loop-entry.out.items in
+    let next = c.put_fetched.new.out.items in
+    let first = c.in-Some.ensures.steps in
+    let i = c.loop-entry.invariant in
+    let made = c.in_ok-put_fetched.ensures in (
+      one_answered fetched_bytes answer out next _ c.loop-entry.room c.put_fetched.new.room _ _ _ _ first refl made.room made.appends i.0,
+      one_left fetched_bytes answer c.loop-entry.room c.put_fetched.new.room _ _ _ _ first made.room i.1,
+      begins_more c.args.out.now.items out next _ i.2 made.appends,
+    )
+
+pub returns-in_err-put_fetched-clause-begins : goal.returns-in_err-put_fetched-clause-begins
+returns-in_err-put_fetched-clause-begins g c =
+    on_err_of c.from_residual-in_err-put_fetched.result (begins_both c.args.out.now.items c.loop-entry.out.items c.put_fetched.new.out.items c.loop-entry.invariant.2 c.in_err-put_fetched.ensures.begins)
+
+pub returns-clause-appends : goal.returns-clause-appends
+returns-clause-appends g c =
+    all_answered fetched_bytes (fetched_entry c.args.node.now c.args.topic.name.now) c.loop-entry.out.items _ c.loop-entry.room _ c.in-None.ensures.steps.0 c.loop-entry.invariant.0
+
+pub returns-clause-room : goal.returns-clause-room
+returns-clause-room g c =
+    none_left fetched_bytes (fetched_entry c.args.node.now c.args.topic.name.now) c.loop-entry.room _ _ c.in-None.ensures.steps.0 c.loop-entry.invariant.1
