@@ -141,13 +141,6 @@ fn send_all<A: Allocator + Copy>(
     Ok(())
 }
 
-/// Sends the batches of the three tables, one after another.
-fn send_tables<A: Allocator + Copy>(log: &mut LeaderLog<VecStore<A>>) -> Result<(), Fail> {
-    send_all(log, &OF_SEVEN)?;
-    send_all(log, &AGAIN)?;
-    send_all(log, &OF_EIGHT)
-}
-
 /// Whether a copy has what is appended of the three tables.
 fn has_all<A: Allocator + Copy>(log: &PartitionLog<VecStore<A>>) -> bool {
     (log.end(), log.len()) == (15, 13)
@@ -155,11 +148,24 @@ fn has_all<A: Allocator + Copy>(log: &PartitionLog<VecStore<A>>) -> bool {
         && log.cover().ranges() == [(0, 14)].as_slice()
 }
 
+/// Sends the batches of the three tables, one after another, and tells whether the log has what is
+/// appended of them.
+fn takes_tables<A: Allocator + Copy>(log: &mut LeaderLog<VecStore<A>>) -> Result<bool, Fail> {
+    send_all(log, &OF_SEVEN)?;
+    send_all(log, &AGAIN)?;
+    send_all(log, &OF_EIGHT)?;
+    Ok(has_all(log.copy()))
+}
+
+/// The same of an empty log.
+fn empty_takes_tables<A: Allocator + Copy>(alloc: A) -> Result<bool, Fail> {
+    let mut log = empty_log(alloc)?;
+    takes_tables(&mut log)
+}
+
 #[test]
 fn appends(rt: HostRuntime) -> Result<(), Fail> {
-    let mut log = empty_log(rt.alloc())?;
-    send_tables(&mut log)?;
-    assert!(rt; has_all(log.copy()));
+    assert!(rt; empty_takes_tables(rt.alloc())?);
     Ok(())
 }
 
@@ -178,18 +184,16 @@ fn deliver<A: Allocator + Copy>(
 fn handed_back<A: Allocator + Copy>(alloc: A) -> Result<PartitionLog<VecStore<A>>, Fail> {
     let mut copy = PartitionLog::new(alloc);
     deliver(&mut copy, &one(1, 0, b'b', b'2'))?;
-    match LeaderLog::from_copy(copy) {
-        Ok(_) => Err(Fail::new("it has a gap")),
-        Err(gapped) => Ok(gapped.copy),
+    match LeaderLog::from_copy(copy).err() {
+        Some(gapped) => Ok(gapped.copy),
+        None => Err(Fail::new("it has a gap")),
     }
 }
 
 /// The end of the log of a copy, where that has no gap.
 fn end_of<A: Allocator + Copy>(copy: PartitionLog<VecStore<A>>) -> Option<i64> {
-    match LeaderLog::from_copy(copy) {
-        Ok(log) => Some(log.copy().end()),
-        Err(_) => None,
-    }
+    let log = LeaderLog::from_copy(copy).ok()?;
+    Some(log.copy().end())
 }
 
 /// Delivers what the copy lacks, and tells whether it showed what it had.

@@ -19,20 +19,20 @@ fn deliver_all<A: Allocator + Copy>(
     Ok(())
 }
 
-/// A copy that has seen the offset 3 and then the offset 1.
-fn with_gaps<A: Allocator + Copy>(alloc: A) -> Result<PartitionLog<VecStore<A>>, Fail> {
-    let batches: [&[u8]; 2] = [&one(3, 3000, b'b', b'3'), &one(1, 1000, b'b', b'2')];
-    let mut log = PartitionLog::new(alloc);
-    deliver_all(&mut log, &batches)?;
-    Ok(log)
-}
-
 /// Whether a copy that has seen nothing answers so.
 fn is_empty<A: Allocator + Copy>(log: &PartitionLog<VecStore<A>>) -> bool {
-    (log.start(), log.end(), log.len()) == (0, 0, 0)
-        && log.get(b"b").is_none()
-        && log.fetch(0, 100, true) == Ok(0..0)
-        && log.by_time(i64::MIN).is_none()
+    let answers = [
+        (log.start(), log.end(), log.len()) == (0, 0, 0),
+        log.get(b"b").is_none(),
+        log.fetch(0, 100, true) == Ok(0..0),
+        log.by_time(i64::MIN).is_none(),
+    ];
+    answers == [true; 4]
+}
+
+/// Whether a new copy answers so.
+fn new_is_empty<A: Allocator + Copy>(alloc: A) -> bool {
+    is_empty(&PartitionLog::new(alloc))
 }
 
 /// Whether the batches of a copy with gaps are those that came.
@@ -44,17 +44,12 @@ fn has_both<A: Allocator + Copy>(log: &PartitionLog<VecStore<A>>) -> bool {
 
 /// Whether a copy with gaps answers from where to where it goes, what it has seen, and the later value.
 fn knows_both<A: Allocator + Copy>(log: &PartitionLog<VecStore<A>>) -> bool {
-    (log.start(), log.end(), log.cover().first_gap(0)) == (0, 4, 0)
-        && log.cover().ranges() == [(1, 1), (3, 3)].as_slice()
-        && log.get(b"b") == Some(b"3".as_slice())
-}
-
-#[test]
-fn a_copy_with_gaps(rt: HostRuntime) -> Result<(), Fail> {
-    assert!(rt; is_empty(&PartitionLog::new(rt.alloc())));
-    let log = with_gaps(rt.alloc())?;
-    assert!(rt; has_both(&log) && knows_both(&log));
-    Ok(())
+    let answers = [
+        (log.start(), log.end(), log.cover().first_gap(0)) == (0, 4, 0),
+        log.cover().ranges() == [(1, 1), (3, 3)].as_slice(),
+        log.get(b"b") == Some(b"3".as_slice()),
+    ];
+    answers == [true; 3]
 }
 
 /// An offset, a limit in bytes and whether the first batch may be longer, and the indices of the batches;
@@ -85,19 +80,16 @@ fn is_fetched<A: Allocator + Copy>(
     }
 }
 
-#[test]
-fn fetches(rt: HostRuntime) -> Result<(), Fail> {
-    let log = with_gaps(rt.alloc())?;
+/// The place of the first fetch that is answered otherwise; `None` where there is none.
+fn wrong_fetch<A: Allocator + Copy>(log: &PartitionLog<VecStore<A>>) -> Option<usize> {
+    let mut place = 0usize;
     for fetch in FETCHES {
-        assert!(rt;
-            is_fetched(&log, fetch),
-            "{} {} {}",
-            fetch.0,
-            fetch.1,
-            fetch.2
-        );
+        if !is_fetched(log, fetch) {
+            return Some(place);
+        }
+        place = place.saturating_add(1);
     }
-    Ok(())
+    None
 }
 
 /// A time, and the time and the offset of the first record from then on.
@@ -109,29 +101,78 @@ const TIMES: [(i64, Option<(i64, i64)>); 5] = [
     (3001, None),
 ];
 
-#[test]
-fn times(rt: HostRuntime) -> Result<(), Fail> {
-    let log = with_gaps(rt.alloc())?;
+/// The place of the first time that is answered otherwise; `None` where there is none.
+fn wrong_time<A: Allocator + Copy>(log: &PartitionLog<VecStore<A>>) -> Option<usize> {
+    let mut place = 0usize;
     for (time, wanted) in TIMES {
-        assert!(rt; log.by_time(time) == wanted, "{time}");
+        if log.by_time(time) != wanted {
+            return Some(place);
+        }
+        place = place.saturating_add(1);
     }
+    None
+}
+
+/// What is asked of a copy with gaps.
+#[derive(Clone, Copy)]
+enum Asked {
+    /// That its batches are those that came, and what it knows of them.
+    Batches,
+    /// The fetches of the table.
+    Fetches,
+    /// The times of the table.
+    Times,
+}
+
+/// The place of what a copy with gaps answers wrong; `None` where all is right.
+fn wrong_answer<A: Allocator + Copy>(
+    log: &PartitionLog<VecStore<A>>,
+    asked: Asked,
+) -> Option<usize> {
+    match asked {
+        Asked::Batches if has_both(log) && knows_both(log) => None,
+        Asked::Batches => Some(0),
+        Asked::Fetches => wrong_fetch(log),
+        Asked::Times => wrong_time(log),
+    }
+}
+
+/// The same of a copy that has seen the offset 3 and then the offset 1.
+fn wrong_with_gaps<A: Allocator + Copy>(alloc: A, asked: Asked) -> Result<Option<usize>, Fail> {
+    let batches: [&[u8]; 2] = [&one(3, 3000, b'b', b'3'), &one(1, 1000, b'b', b'2')];
+    let mut log = PartitionLog::new(alloc);
+    deliver_all(&mut log, &batches)?;
+    Ok(wrong_answer(&log, asked))
+}
+
+#[test]
+fn a_copy_with_gaps(rt: HostRuntime) -> Result<(), Fail> {
+    assert!(rt; new_is_empty(rt.alloc()));
+    assert_eq!(rt; wrong_with_gaps(rt.alloc(), Asked::Batches)?, None);
     Ok(())
 }
 
-/// A copy of which a tombstone came first, and then its record and another.
-fn without_a<A: Allocator + Copy>(alloc: A) -> Result<PartitionLog<VecStore<A>>, Fail> {
-    let batches: [&[u8]; 3] = [&null_at(2), &one(0, 0, b'a', b'1'), &one(1, 0, b'b', b'2')];
-    let mut log = PartitionLog::new(alloc);
-    deliver_all(&mut log, &batches)?;
-    Ok(log)
+#[test]
+fn fetches(rt: HostRuntime) -> Result<(), Fail> {
+    assert_eq!(rt; wrong_with_gaps(rt.alloc(), Asked::Fetches)?, None);
+    Ok(())
 }
 
-/// Whether that copy shows the other record alone, and has seen all.
+#[test]
+fn times(rt: HostRuntime) -> Result<(), Fail> {
+    assert_eq!(rt; wrong_with_gaps(rt.alloc(), Asked::Times)?, None);
+    Ok(())
+}
+
+/// Whether a copy without the key `a` shows the other record alone, and has seen all.
 fn has_no_a<A: Allocator + Copy>(copy: &PartitionLog<VecStore<A>>) -> bool {
-    copy.get(b"a").is_none()
-        && copy.get(b"b") == Some(b"2".as_slice())
-        && (copy.start(), copy.end(), copy.len()) == (0, 3, 3)
-        && copy.cover().ranges() == [(0, 2)].as_slice()
+    let answers = [
+        copy.get(b"a").is_none(),
+        copy.get(b"b") == Some(b"2".as_slice()),
+        (copy.start(), copy.end(), copy.len()) == (0, 3, 3),
+        copy.cover().ranges() == [(0, 2)].as_slice(),
+    ];
+    answers == [true; 4]
 }
 
 /// Delivers a later record of the key, and tells whether it is shown.
@@ -140,10 +181,30 @@ fn gets_a<A: Allocator + Copy>(log: &mut PartitionLog<VecStore<A>>) -> Result<bo
     Ok(log.get(b"a") == Some(b"4".as_slice()))
 }
 
+/// Whether a log gets the later record, and a copy of it made before stays without the key.
+fn gets_a_alone<A: Allocator + Copy>(
+    log: &mut PartitionLog<VecStore<A>>,
+    copy: &PartitionLog<VecStore<A>>,
+) -> Result<bool, Fail> {
+    Ok(gets_a(log)? && has_no_a(copy))
+}
+
+/// The same, with a copy of its own.
+fn gets_a_copied<A: Allocator + Copy>(log: &mut PartitionLog<VecStore<A>>) -> Result<bool, Fail> {
+    let copy = log.try_clone()?;
+    gets_a_alone(log, &copy)
+}
+
+/// The same of a log of which a tombstone came first, and then its record and another.
+fn stays_deleted<A: Allocator + Copy>(alloc: A) -> Result<bool, Fail> {
+    let batches: [&[u8]; 3] = [&null_at(2), &one(0, 0, b'a', b'1'), &one(1, 0, b'b', b'2')];
+    let mut log = PartitionLog::new(alloc);
+    deliver_all(&mut log, &batches)?;
+    gets_a_copied(&mut log)
+}
+
 #[test]
 fn a_deleted_key_stays_deleted(rt: HostRuntime) -> Result<(), Fail> {
-    let mut log = without_a(rt.alloc())?;
-    let copy = log.try_clone()?;
-    assert!(rt; gets_a(&mut log)? && has_no_a(&copy));
+    assert!(rt; stays_deleted(rt.alloc())?);
     Ok(())
 }
