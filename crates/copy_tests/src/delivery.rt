@@ -155,11 +155,14 @@ fn shows_nine<A: Allocator + Copy>(log: &PartitionLog<VecStore<A>>, with_b: bool
     }
 }
 
-/// Delivers the batches of the table, after each of which the copy must be right.
-fn deliver_all<A: Allocator + Copy>(log: &mut PartitionLog<VecStore<A>>) -> Result<(), Fail> {
-    for (name, batch, wanted, len, with_b) in DELIVERIES {
-        if !is_right(log, batch, wanted, len)? || !shows_nine(log, with_b) {
-            return Err(Fail::new(name));
+/// Delivers the batches of these rows, after each of which the copy must be right.
+fn deliver_all<A: Allocator + Copy>(
+    log: &mut PartitionLog<VecStore<A>>,
+    rows: &[Row],
+) -> Result<(), Fail> {
+    for (name, batch, wanted, len, with_b) in rows {
+        if !is_right(log, *batch, *wanted, *len)? || !shows_nine(log, *with_b) {
+            return Err(Fail::new(*name));
         }
     }
     Ok(())
@@ -169,5 +172,5 @@ fn deliver_all<A: Allocator + Copy>(log: &mut PartitionLog<VecStore<A>>) -> Resu
 fn deliveries(rt: HostRuntime) -> Result<(), Fail> {
     let mut log = PartitionLog::<VecStore<_>>::new(rt.alloc());
     assert!(rt; shows(&log, &[]));
-    deliver_all(&mut log)
+    deliver_all(&mut log, &DELIVERIES)
 }

@@ -293,23 +293,31 @@ fn empty_world<A: Allocator + Copy>(alloc: A) -> Result<World<A>, AllocError> {
     })
 }
 
-/// Makes the steps, and tells how many there were before the first that went wrong, or after which a table
-/// was wrong.
+/// Whether many batches were sent, and the leader keeps fewer.
+fn is_cleaned<A: Allocator + Copy>(world: &World<A>) -> bool {
+    world.sent.len() > 60 && world.leader.copy().len() < world.sent.len()
+}
+
+/// How many steps there were before the first that went wrong, or after which a table was wrong, and whether
+/// the leader keeps fewer batches then than the many that were sent.
+type Made = (u32, bool);
+
+/// Makes the steps.
 fn make_steps<A: Allocator + Copy>(
     world: &mut World<A>,
     producers: &mut [Producer<A>],
-) -> Result<u32, Fail> {
+) -> Result<Made, Fail> {
     let mut numbers = Numbers { x: 1 };
     for step in 0..STEPS {
         if !world.step(&mut numbers, producers)? || !world.is_right()? {
-            return Ok(step);
+            return Ok((step, is_cleaned(world)));
         }
     }
-    Ok(STEPS)
+    Ok((STEPS, is_cleaned(world)))
 }
 
 /// Makes the steps with three producers, one of them without an id.
-fn make_all(world: &mut World<Global>) -> Result<u32, Fail> {
+fn make_all(world: &mut World<Global>) -> Result<Made, Fail> {
     let mut producers = [
         silent(world.alloc, 7, 1, 0),
         silent(world.alloc, 8, 1, i32::MAX),
@@ -318,19 +326,16 @@ fn make_all(world: &mut World<Global>) -> Result<u32, Fail> {
     make_steps(world, &mut producers)
 }
 
-/// Whether many batches were sent, and the leader keeps fewer.
-fn is_cleaned<A: Allocator + Copy>(world: &World<A>) -> bool {
-    world.sent.len() > 60 && world.leader.copy().len() < world.sent.len()
+/// The same in a world that has seen nothing.
+fn make_all_anew(alloc: Global) -> Result<Made, Fail> {
+    let mut world = empty_world(alloc)?;
+    make_all(&mut world)
 }
 
 #[test]
 fn generated_steps(rt: HostRuntime) -> Result<(), Fail> {
-    let mut world = empty_world(rt.alloc())?;
-    let right = make_all(&mut world)?;
+    let (right, is_cleaned) = make_all_anew(rt.alloc())?;
     assert!(rt; right == STEPS, "step {right}");
-    assert!(rt;
-        is_cleaned(&world),
-        "what the leader keeps of what was sent"
-    );
+    assert!(rt; is_cleaned, "what the leader keeps of what was sent");
     Ok(())
 }
