@@ -1,5 +1,6 @@
 mod Stopping
 mod Filled
 mod ImageFaults
+mod Statuses
 pub mod Streams
 pub mod Refusals

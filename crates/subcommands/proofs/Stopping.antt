@@ -1,14 +1,17 @@
 -- Sessions that stop before the end of their input.
-use Rattle.std.proofs.Common.{◌≡◌, ℕ, List, Option, inr, true, arith}
+use Rattle.std.proofs.Common.{◌≡◌, ◌<◌, ℕ, List, [], Option, length, inl, inr, true, sym, subst, ◌∙◌, arith}
+use Rattle.std.specs.Prelude.{◌≢◌}
+use Rattle.std.proofs.lemmas.List.{nil_from_length}
 use Rattle.std.specs.Io.KnownBytes.{Keeps}
 use Rattle.std.proofs.KnownBytes.{Appends-kept}
 use Rattle.streams.specs.State.{SourceState, SinkState}
 use Rattle.broker_core.specs.declared.session.SessionError.{SessionError}
 use Rattle.broker_core.specs.declared.session.SessionError.TheVariants.{Frame, Read, Write, OutOfMemory}
 use Rattle.broker_node.specs.State.{State}
+use Rattle.broker_node.specs.Streams.{Answered}
 use Rattle.broker_core.specs.declared.session.Ended.{Ended}
 use Rattle.broker_core.specs.Sessions.{Moves, Session, EndsAs, CutReply, StopsAs}
-use Rattle.subcommands.specs.Answering.{RefusesFrom}
+use Rattle.subcommands.specs.Answering.{AnswersFrom, RefusesFrom}
 use Rattle.subcommands.specs.Status.{stop_status}
 
 -- a session whose status is 1 has refused a frame
@@ -91,3 +94,40 @@ kept_stop s after source source' sink served sink' Write stops keeps fails =
     (kept_cut s after source source' sink served sink' stops.0 keeps, fails stops.1)
 kept_stop s after source source' sink served sink' OutOfMemory stops keeps fails =
     (kept_session s after source source' sink served sink' stops.0 keeps, stops.1, stops.2)
+
+-- ---- the end of the input
+
+-- with nothing left of it, all was answered
+pub answers_all : (s after : State) (source source' : SourceState) (sink served sink' : SinkState) (ended : Ended)
+    → EndsAs s source source' sink served after ended → Keeps served.taken sink'.taken → ended.rest ≡ 0
+    → AnswersFrom s source.left source'.left sink.taken sink'.taken after
+answers_all s after source source' sink served sink' ended ends keeps none =
+    let session = ends.session in
+    let nothing : session.rest ≡ [] = nil_from_length session.rest (sym ends.rest ∙ none) in
+    record {
+      input = session.input;
+      output = session.output;
+      frames = session.frames;
+      reads = session.moves.leaves;
+      at_end = ends.at_end;
+      appends = Appends-kept sink.taken served.taken sink'.taken session.output session.moves.takes keeps;
+      answers = subst (λ (r : List ℕ). Answered s session.input session.output after session.frames r) nothing session.answers;
+    }
+
+-- within a frame, that frame is refused
+pub refuses_inside : (s after : State) (source source' : SourceState) (sink served sink' : SinkState) (ended : Ended)
+    → EndsAs s source source' sink served after ended → Keeps served.taken sink'.taken → ended.rest ≢ 0
+    → RefusesFrom s source.left source'.left sink.taken sink'.taken after
+refuses_inside s after source source' sink served sink' ended ends keeps some =
+    let session = ends.session in
+    let more : 0 < length session.rest = omega (arith, ends.rest, some) in
+    record {
+      input = session.input;
+      output = session.output;
+      frames = session.frames;
+      rest = session.rest;
+      reads = session.moves.leaves;
+      appends = Appends-kept sink.taken served.taken sink'.taken session.output session.moves.takes keeps;
+      answers = session.answers;
+      stops = inl (ends.at_end, ends.incomplete, more);
+    }

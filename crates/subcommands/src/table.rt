@@ -1,11 +1,12 @@
 //! The table of a stream of batches.
 
-ghost use Rattle.std.specs.Prelude.{◌≡◌, ◌<◌, List, length, IfOk, OnOk, IfErr, OnErr, IsErrOf, MatchBool, MatchResult};
+ghost use Rattle.std.specs.Prelude.{◌≡◌, ◌<◌, [], List, length, IfOk, OnOk, IfErr, OnErr, IsErrOf, MatchBool, MatchResult};
 ghost use Rattle.std.specs.Bool.{OnFalse};
 ghost use Rattle.std.specs.Io.KnownBytes.{Appends};
 ghost use Rattle.batch_codec.specs.declared.error.BatchError.TheVariants.{Short};
 ghost use Rattle.batch_codec.specs.Refusals.{FirstFault};
 ghost use Rattle.batch_codec.specs.Values.{BatchValue};
+ghost use Rattle.content.specs.Content.{empty};
 ghost use Rattle.subcommands.specs.declared.error.TableError.TheVariants.{Batch};
 ghost use Rattle.subcommands.specs.Input.{TakesBatches, DeliversNext, ReadsCopy};
 ghost use Rattle.subcommands.specs.Tables.{content_lines, ReadsLog, PrintsTable};
@@ -115,6 +116,34 @@ fn take_batches<A: Allocator + Copy>(
     Ok(())
 }
 
+/// Takes each batch to the end of the input, in any order, where none was taken before.
+fn take_input<A: Allocator + Copy, R: Read>(
+    intake: &mut Intake<A>,
+    pending: &mut Pending<A>,
+    reader: &mut R,
+) -> Result<(), TableError>
+    requires no_batch { intake.old.log ≡ empty }
+    requires no_count { intake.old.count ≡ 0 }
+    requires nothing_waits { pending.old ≡ [] }
+    ensures read { OnOk result
+        (ReadsCopy (R.remaining reader.old) (R.remaining reader.new) intake.new.log) }
+    ensures refused { IfErr result (λ e. IfBatch e
+        (RefusesStream (R.remaining reader.old) (R.remaining reader.new))) }
+    ensures no_write { ¬ IsErrOf result TableError.Write }
+{
+    for _ in 0..MOST_READS {
+        take_batches(intake, pending)?;
+        match pending.fill(reader) {
+            Ok(true) => {}
+            Ok(false) if pending.len() == 0 => return Ok(()),
+            Ok(false) => return Err(refused(intake, Refusal::View(BatchError::Short))),
+            Err(FillFailed::Read) => return Err(TableError::Read),
+            Err(FillFailed::OutOfMemory) => return Err(TableError::OutOfMemory),
+        }
+    }
+    Err(TableError::Read)
+}
+
 /// Reads batches to the end of the input, in any order.
 fn read_log<A: Allocator + Copy, R: Read>(
     alloc: A,
@@ -130,18 +159,8 @@ fn read_log<A: Allocator + Copy, R: Read>(
         log: PartitionLog::new(alloc),
         count: 0,
     };
-    let mut pending = Pending::new(alloc);
-    for _ in 0..MOST_READS {
-        take_batches(&mut intake, &mut pending)?;
-        match pending.fill(reader) {
-            Ok(true) => {}
-            Ok(false) if pending.len() == 0 => return Ok(intake.log),
-            Ok(false) => return Err(refused(&intake, Refusal::View(BatchError::Short))),
-            Err(FillFailed::Read) => return Err(TableError::Read),
-            Err(FillFailed::OutOfMemory) => return Err(TableError::OutOfMemory),
-        }
-    }
-    Err(TableError::Read)
+    take_input(&mut intake, &mut Pending::new(alloc), reader)?;
+    Ok(intake.log)
 }
 
 /// Writes the table of what a copy holds. All memory is taken before the first write.

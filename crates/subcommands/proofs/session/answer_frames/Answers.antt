@@ -1,6 +1,6 @@
 use Rattle.std.proofs.Common.{inl, inr, refl, arith}
 use Rattle.std.proofs.lemmas.Bool.{MatchBool-at_true}
-use Rattle.subcommands.proofs.Stopping.{stopped, kept_stop, kept_end}
+use Rattle.subcommands.proofs.Stopping.{stopped, kept_stop, kept_end, answers_all, refuses_inside}
 use Rattle.subcommands.proofs.session.answer_frames.Goals as goal
 
 pub returns-in-Err-clause-refuses : goal.returns-in-Err-clause-refuses
@@ -31,3 +31,16 @@ returns-then-ended-ne0-clause-fails g c = (
       c.flush-flushed.new.sink c.in-Ok.ended c.in-Ok.ensures.ends c.flush-flushed.ensures.keeps,
   omega (arith, c.if-ended-ne0.true),
 )
+
+pub returns-then-not-flushed-clause-refuses : goal.returns-then-not-flushed-clause-refuses
+returns-then-not-flushed-clause-refuses g c = λ is. absurd (omega (arith, is))
+
+pub returns-then-ended-ne0-clause-refuses : goal.returns-then-ended-ne0-clause-refuses
+returns-then-ended-ne0-clause-refuses g c = λ _.
+    refuses_inside c.args.node.now c.serve-answered.new.node c.args.source.now c.serve-answered.new.source c.args.sink.now c.serve-answered.new.sink
+    c.flush-flushed.new.sink c.in-Ok.ended c.in-Ok.ensures.ends c.flush-flushed.ensures.keeps c.if-ended-ne0.true
+
+pub returns-clause-answers : goal.returns-clause-answers
+returns-clause-answers g c =
+    answers_all c.args.node.now c.serve-answered.new.node c.args.source.now c.serve-answered.new.source c.args.sink.now c.serve-answered.new.sink
+    c.flush-flushed.new.sink c.in-Ok.ended c.in-Ok.ensures.ends c.flush-flushed.ensures.keeps c.if-ended-ne0.false

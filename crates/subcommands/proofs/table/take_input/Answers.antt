@@ -2,7 +2,7 @@ use Rattle.std.proofs.Common.{◌≢◌, length, rules, arith, sym, ◌∙◌}
 use Rattle.std.proofs.lemmas.Bool.{MatchBool-at_true, MatchBool-at_false}
 use Rattle.subcommands.proofs.Streams.{batches_taken, piece_taken, all_taken}
 use Rattle.subcommands.proofs.Refusals.{IfBatch-map, next_refused, end_refused}
-use Rattle.subcommands.proofs.table.read_log.Goals as goal
+use Rattle.subcommands.proofs.table.take_input.Goals as goal
 
 pub returns-in_err-take_batches-clause-refused : goal.returns-in_err-take_batches-clause-refused
 returns-in_err-take_batches-clause-refused g c =
