@@ -1,7 +1,7 @@
 //! Clusters under each allocation failing in turn: they are as they were, and the same call then succeeds.
 
 use crate::copies::VecLog;
-use crate::events::{Answer, produce};
+use crate::events::{Answer, end_of, produce};
 use crate::memory::{Came, MOST, at_once, later};
 use cluster::{Cluster, ClusterError, Event, EventError, Outcome};
 use copy_images::write_image;
@@ -150,12 +150,15 @@ fn shown_after<A: Allocator + Copy>(alloc: A, happening: &Happening<'_, A>) -> O
 
 /// Whether a cluster of three copies has nothing in them and nothing else.
 fn is_empty<A: Allocator + Copy>(cluster: &Cluster<VecStore<A>>) -> bool {
-    let mut is_empty = cluster.archived(0).is_none() && cluster.image(0).is_none();
-    for number in 0..4 {
-        let end = cluster.copy(number).map(|copy| copy.end());
-        is_empty = is_empty && end == if number < 3 { Some(0) } else { None };
-    }
-    is_empty
+    let ends = [
+        end_of(cluster, 0),
+        end_of(cluster, 1),
+        end_of(cluster, 2),
+        end_of(cluster, 3),
+    ];
+    ends == [Some(0), Some(0), Some(0), None]
+        && cluster.archived(0).is_none()
+        && cluster.image(0).is_none()
 }
 
 /// What happens in a cluster.

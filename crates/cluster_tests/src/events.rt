@@ -97,41 +97,59 @@ fn wrong_of<A: Allocator + Copy>(
     }
 }
 
+/// What comes of the making of a cluster, and what is wrong of it.
+type Made = Result<Option<&'static str>, ClusterError>;
+
 /// The same of a new cluster of this many copies.
-fn wrong_of_new<A: Allocator + Copy>(
-    alloc: A,
-    copies: usize,
-    asked: &Asked<'_, A>,
-) -> Result<Option<&'static str>, ClusterError> {
+fn wrong_of_new<A: Allocator + Copy>(alloc: A, copies: usize, asked: &Asked<'_, A>) -> Made {
     match Cluster::<VecStore<A>>::new(alloc, copies) {
         Ok(mut cluster) => Ok(wrong_of(alloc, &mut cluster, asked)),
         Err(why) => Err(why),
     }
 }
 
+/// The first of these numbers of copies of which a new cluster comes to something else.
+fn first_unlike<A: Allocator + Copy>(alloc: A, numbers: &[usize], wanted: Made) -> Option<usize> {
+    for copies in numbers {
+        if wrong_of_new(alloc, *copies, &Asked::Copies(*copies)) != wanted {
+            return Some(*copies);
+        }
+    }
+    None
+}
+
 #[test]
 fn clusters_of_other_numbers_of_copies(rt: HostRuntime) {
-    for copies in &[0, 9, usize::MAX] {
-        let made = wrong_of_new(rt.alloc(), *copies, &Asked::Copies(*copies));
-        assert_eq!(rt; made, Err(ClusterError::BadCopies), "{copies} copies");
+    let bad = Err(ClusterError::BadCopies);
+    assert_eq!(rt; first_unlike(rt.alloc(), &[0, 9, usize::MAX], bad), None);
+}
+
+/// The end of a copy of a cluster, where there is such a copy.
+pub(crate) fn end_of<A: Allocator + Copy>(
+    cluster: &Cluster<VecStore<A>>,
+    number: usize,
+) -> Option<i64> {
+    match cluster.copy(number) {
+        Some(copy) => Some(copy.end()),
+        None => None,
     }
 }
 
 /// Whether a cluster has this many copies, the last one empty, and neither batches nor images.
 fn has_copies<A: Allocator + Copy>(cluster: &Cluster<VecStore<A>>, copies: usize) -> bool {
-    let last = cluster.copy(copies.saturating_sub(1));
-    last.is_some_and(|copy| copy.end() == 0)
-        && cluster.copy(copies).is_none()
-        && cluster.archived(0).is_none()
-        && cluster.image(0).is_none()
+    let answers = [
+        end_of(cluster, copies.saturating_sub(1)) == Some(0),
+        cluster.copy(copies).is_none(),
+        cluster.archived(0).is_none(),
+        cluster.image(0).is_none(),
+    ];
+    answers == [true; 4]
 }
 
 #[test]
 fn clusters_have_one_to_eight_copies(rt: HostRuntime) {
-    for copies in 1..9 {
-        let made = wrong_of_new(rt.alloc(), copies, &Asked::Copies(copies));
-        assert_eq!(rt; made, Ok(None), "{copies} copies");
-    }
+    let numbers = [1, 2, 3, 4, 5, 6, 7, 8];
+    assert_eq!(rt; first_unlike(rt.alloc(), &numbers, Ok(None)), None);
 }
 
 /// A cleaning of the leader's copy.

@@ -1,7 +1,7 @@
 //! `merge` and `merge_into`: merges worked by hand, with the bytes of their images, and copies that
 //! disagree.
 
-use crate::copies::{VecLog, are_added, are_cleaned, has_image, shows};
+use crate::copies::{VecLog, are_added, are_cleaned, first_wrong, has_image, shows};
 use crate::outside::{A_AND_B, B_IS_2, NONE_OF_TWO, TWO};
 use copy_images::write_image;
 use copy_merge::{MergeError, merge, merge_into};
@@ -148,9 +148,12 @@ fn refuse<A: Allocator + Copy>(
     let wanted = MergeError::Disagree { base };
     match left.try_clone() {
         Ok(mut changed) => {
-            merge(left, right).err() == Some(wanted)
-                && merge_into(&mut changed, right) == Err(wanted)
-                && has_image(alloc, &changed, image)
+            let answers = [
+                merge(left, right).err() == Some(wanted),
+                merge_into(&mut changed, right) == Err(wanted),
+                has_image(alloc, &changed, image),
+            ];
+            answers == [true; 3]
         }
         Err(_) => false,
     }
@@ -219,10 +222,20 @@ fn merge_as_pair<A: Allocator + Copy>(
 }
 
 /// Whether two new copies become such a pair, and merge, or don't, as they should.
+fn are_right<A: Allocator + Copy>(
+    alloc: A,
+    first: &mut VecLog<A>,
+    second: &mut VecLog<A>,
+    pair: &Pair<'_>,
+) -> bool {
+    become_pair(first, second, pair) && merge_as_pair(alloc, first, second, pair)
+}
+
+/// The same of two copies of its own.
 fn is_right<A: Allocator + Copy>(alloc: A, pair: &Pair<'_>) -> bool {
     let mut first = PartitionLog::new(alloc);
     let mut second = PartitionLog::new(alloc);
-    become_pair(&mut first, &mut second, pair) && merge_as_pair(alloc, &first, &second, pair)
+    are_right(alloc, &mut first, &mut second, pair)
 }
 
 /// Whether copies of these batches disagree so.
@@ -230,24 +243,29 @@ fn apart<A: Allocator + Copy>(alloc: A, left: &[&[u8]], right: &[&[u8]], base: i
     is_right(alloc, &Pair::Apart { left, right, base })
 }
 
-#[test]
-fn copies_of_two_logs(rt: HostRuntime) {
+/// Batches of two logs, by name, and whether copies of them disagree as they should.
+fn of_two_logs<A: Allocator + Copy>(alloc: A) -> [(&'static str, bool); 5] {
     let first = one(0, 0, b'a', b'1');
     let value = one(0, 0, b'a', b'2');
     let time = one(0, 1, b'a', b'1');
     let second = one(1, 0, b'a', b'2');
     let within = nine_at(6);
     let around = three_at(5);
-    let rows = [
-        ("another value", first.as_slice(), value.as_slice(), 0),
-        ("another time", &first, &time, 0),
-        ("another span", &TWO, &first, 0),
-        ("the second offset alone", &TWO, &second, 0),
-        ("an offset within", &within, &around, 5),
-    ];
-    for (name, left, right, base) in &rows {
-        assert!(rt; apart(rt.alloc(), &[left], &[right], *base), "{name}");
-    }
+    [
+        ("another value", apart(alloc, &[&first], &[&value], 0)),
+        ("another time", apart(alloc, &[&first], &[&time], 0)),
+        ("another span", apart(alloc, &[&TWO], &[&first], 0)),
+        (
+            "the second offset alone",
+            apart(alloc, &[&TWO], &[&second], 0),
+        ),
+        ("an offset within", apart(alloc, &[&within], &[&around], 5)),
+    ]
+}
+
+#[test]
+fn copies_of_two_logs(rt: HostRuntime) {
+    assert_eq!(rt; first_wrong(&of_two_logs(rt.alloc())), None);
 }
 
 #[test]
