@@ -1,4 +1,6 @@
-use Rattle.std.proofs.Common.{rules, ◌<◌, length}
+use Rattle.std.proofs.Common.{rules, ◌<◌, length, inl, inr}
+use Rattle.std.specs.Prelude.{◌≢◌}
+use Rattle.copy_images.specs.declared.error.ImageError.TheVariants as image
 use Rattle.copy_tools.proofs.Pairs.{extra_behind, is_unread_image}
 use Rattle.copy_tools.proofs.images.second_copy.Goals as goal
 
@@ -12,3 +14,8 @@ returns-then-not-is_empty-2-clause-refuses g c = λ whole first starts.
     let some : 0 < length c.in-Some.rest.now = search rules in
     let unread = is_unread_image c.in-Some.image.now _ (search rules) c.in-Err-OutOfMemory.ensures.refuses_for_the_first_fault in
     extra_behind whole c.args.input.now c.in-Some.image.now c.in-Some.rest.now first unread.0 starts c.in-Some.ensures unread.1 some
+
+pub returns-in-Err-clause-refuses : goal.returns-in-Err-clause-refuses
+returns-in-Err-clause-refuses g c = λ whole first starts.
+    let other : c.in-Err.why ≢ image.OutOfMemory = search rules in
+    (first, c.args.input.now, starts, inl (inr (c.in-Some.image.now, c.in-Some.rest.now, c.in-Some.ensures, c.in-Err.ensures.refuses_for_the_first_fault, other)))
