@@ -14,6 +14,7 @@ pub mod UnchangedStates
 pub mod AnswersSoFar
 pub mod ProducedReplies
 pub mod Runs
+pub mod FetchedEntries
 pub mod FetchReplies
 pub mod Shapes
 pub mod Listings
