@@ -179,11 +179,11 @@ fn send<S: BatchStore>(store: &mut S, batch: Sent) -> Result<Option<usize>, Fail
     }
 }
 
-/// Inserts the batches of the table, each of which must go where it should.
-fn insert_all<S: BatchStore>(store: &mut S) -> Result<(), Fail> {
-    for (name, batch, wanted, count) in GOINGS {
-        if send(store, batch)? != wanted || !has_so_many(store, count) {
-            return Err(Fail::new(name));
+/// Inserts the batches of these rows, each of which must go where it should.
+fn insert_all<S: BatchStore>(store: &mut S, rows: &[Going]) -> Result<(), Fail> {
+    for (name, batch, wanted, count) in rows {
+        if send(store, *batch)? != *wanted || !has_so_many(store, *count) {
+            return Err(Fail::new(*name));
         }
     }
     Ok(())
@@ -193,14 +193,14 @@ fn insert_all<S: BatchStore>(store: &mut S) -> Result<(), Fail> {
 fn batches_go_in_order(rt: HostRuntime) -> Result<(), Fail> {
     let mut store = VecStore::new(rt.alloc());
     assert!(rt; has_bases(&store, &[]) && store.first_from(0) == 0);
-    insert_all(&mut store)
+    insert_all(&mut store, &GOINGS)
 }
 
 /// Inserts five batches at those offsets.
 fn insert_five<S: BatchStore>(store: &mut S) -> Result<(), Fail> {
-    insert(store, &view(&THREE)?)?;
+    insert_bytes(store, &THREE)?;
     for base in [3, 5, 9, GREATEST] {
-        insert(store, &view(&nine_at(base))?)?;
+        insert_bytes(store, &nine_at(base))?;
     }
     Ok(())
 }
@@ -221,14 +221,26 @@ const SEARCHES: [(i64, usize); 12] = [
     (i64::MAX, 5),
 ];
 
+/// The first offset of the table from which another batch is found; `None` where there is none.
+fn found_otherwise<S: BatchStore>(store: &S) -> Option<i64> {
+    for (offset, wanted) in &SEARCHES {
+        if store.first_from(*offset) != *wanted {
+            return Some(*offset);
+        }
+    }
+    None
+}
+
+/// Inserts the five batches, and tells whether they are there, and that offset.
+fn search_five<S: BatchStore>(store: &mut S) -> Result<(bool, Option<i64>), Fail> {
+    insert_five(store)?;
+    Ok((has_bases(store, &FIVE_BASES), found_otherwise(store)))
+}
+
 #[test]
 fn batches_are_found(rt: HostRuntime) -> Result<(), Fail> {
     let mut store = VecStore::new(rt.alloc());
-    insert_five(&mut store)?;
-    assert!(rt; has_bases(&store, &FIVE_BASES));
-    for (offset, wanted) in SEARCHES {
-        assert_eq!(rt; store.first_from(offset), wanted, "from {offset}");
-    }
+    assert_eq!(rt; search_five(&mut store)?, (true, None));
     Ok(())
 }
 
@@ -277,11 +289,15 @@ fn took_so_many<S: BatchStore>(store: &S, count: usize) -> bool {
     }
 }
 
-/// Inserts the batch at each place of the table, where it must go as it should.
-fn take_all<S: BatchStore, A: Allocator + Copy>(alloc: A, store: &mut S) -> Result<(), Fail> {
-    for (name, place, wanted, count) in TAKINGS {
-        if !takes(alloc, store, place, wanted)? || !took_so_many(store, count) {
-            return Err(Fail::new(name));
+/// Inserts the batch at the place of each of these rows, where it must go as it should.
+fn take_all<S: BatchStore, A: Allocator + Copy>(
+    alloc: A,
+    store: &mut S,
+    rows: &[Taking],
+) -> Result<(), Fail> {
+    for (name, place, wanted, count) in rows {
+        if !takes(alloc, store, *place, *wanted)? || !took_so_many(store, *count) {
+            return Err(Fail::new(*name));
         }
     }
     Ok(())
@@ -290,7 +306,7 @@ fn take_all<S: BatchStore, A: Allocator + Copy>(alloc: A, store: &mut S) -> Resu
 #[test]
 fn a_batch_takes_another_base(rt: HostRuntime) -> Result<(), Fail> {
     let mut store = VecStore::new(rt.alloc());
-    take_all(rt.alloc(), &mut store)
+    take_all(rt.alloc(), &mut store, &TAKINGS)
 }
 
 /// Inserts a batch, again where memory lacked, and tells whether the batches had these base offsets then, and
