@@ -1,2 +1,4 @@
 pub mod Running
 pub mod Edited
+pub mod PutBack
+pub mod Filled

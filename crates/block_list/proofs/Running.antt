@@ -103,6 +103,16 @@ element_read {X = X} bs items list k j i x d at block read is =
 
 -- ---- one more before each block from some block on
 
+pub count_here : (f : ℕ → ℕ) (from i : ℕ) (old now : List ℕ) → from ≤ i → i < length old → now ≡ take from old ++ map f (take (i - from) (drop from old)) ++ drop i old
+    → (i < length now) × (slice_index now i ≡ get_or old i 0)
+count_here f from i old now le lt is =
+    let front = take from old ++ map f (take (i - from) (drop from old)) in
+    let len : length front ≡ i =
+    omega (arith, length-append (take from old) (map f (take (i - from) (drop from old))), length-take from old, length-map (take (i - from) (drop from old)) f, length-take (i - from) (drop from old), length-drop from old) in
+    let split : now ≡ front ++ get_or old i 0 ∷ drop (i + 1) old = is ∙ ap (λ (ys : List ℕ). front ++ ys) (drop_more old i 0 lt) in
+    let long : length now ≡ length (front ++ drop i old) = ap (λ (ys : List ℕ). length ys) is in
+    (omega (arith, long, length-append front (drop i old), len, length-drop i old), ap (λ (ys : List ℕ). get_or ys i 0) split ∙ get_or_at front (get_or old i 0) (drop (i + 1) old) 0 i len)
+
 pub count_more : (f : ℕ → ℕ) (from i : ℕ) (old now : List ℕ) → from ≤ i → i < length old → now ≡ take from old ++ map f (take (i - from) (drop from old)) ++ drop i old
     → set now i (f (slice_index now i)) ≡ take from old ++ map f (take ((i + 1) - from) (drop from old)) ++ drop (i + 1) old
 count_more f from i old now le lt is =
