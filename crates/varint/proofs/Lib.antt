@@ -3,3 +3,4 @@ pub mod Number
 pub mod Digits
 pub mod Refusals
 pub mod Readers
+pub mod Halves
