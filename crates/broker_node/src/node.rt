@@ -93,12 +93,7 @@ pub(crate) fn topic_of<'a, S: BatchStore>(
 ) -> Option<&'a TopicLogs<S>>
     ensures { option_map (λ t. t.now) result ≡ find (λ t. bytes_eq t.name name.now) topics.now }
 {
-    for topic in topics {
-        if topic.name.as_slice() == name {
-            return Some(topic);
-        }
-    }
-    None
+    topics.iter().find(|topic| topic.name.as_slice() == name)
 }
 
 /// The partition of a topic's name and a number.

@@ -1,4 +1,4 @@
-use Rattle.std.proofs.Common.{refl, rules}
+use Rattle.std.proofs.Common.{refl}
 use Rattle.request_frames.specs.Responses.{metadata_topic_bytes}
 use Rattle.broker_node.specs.Listing.{metadata_at}
 use Rattle.broker_node.proofs.Listings.{all_seen}
@@ -7,7 +7,7 @@ use Rattle.broker_node.proofs.metadata.put_names.Goals as goal
 
 pub returns-clause-appends : goal.returns-clause-appends
 returns-clause-appends g c =
-    all_seen metadata_topic_bytes (λ name. name.now) (metadata_at c.args.node.now) c.args.out.now.items c.loop-name.out.items c.loop-name.name-index c.args.names.now _ (search rules) refl c.loop-name.invariant.0
+    all_seen metadata_topic_bytes (λ name. name.now) (metadata_at c.args.node.now) c.args.out.now.items c.loop-name.out.items c.loop-name.name-index c.args.names.now _ c.loop-name-test.false refl c.loop-name.invariant.0
 
 pub returns-in_err-put_name-clause-begins : goal.returns-in_err-put_name-clause-begins
 returns-in_err-put_name-clause-begins g c =

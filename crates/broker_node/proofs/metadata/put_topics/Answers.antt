@@ -1,4 +1,3 @@
-use Rattle.std.proofs.Common.{rules}
 use Rattle.request_frames.specs.Responses.{metadata_topic_bytes}
 use Rattle.broker_node.specs.Listing.{topic_metadata}
 use Rattle.broker_node.specs.Parts.{topic_contents}
@@ -13,10 +12,10 @@ returns-in_err-put_topic-clause-begins g c =
 pub loop-topic-preserved : goal.loop-topic-preserved
 loop-topic-preserved g c = (
   next_written metadata_topic_bytes (λ t. topic_metadata c.args.node.now.config (topic_contents t)) c.args.out.now.items c.loop-topic.out.items c.put_topic.new.out.items c.loop-topic.topic-index c.topics-topic-items.result.now c.topic-item.result
-      (search rules) c.topic-item.is c.loop-topic.invariant.0 c.in_ok-put_topic.ensures.appends,
+      c.loop-topic-test.true c.topic-item.is c.loop-topic.invariant.0 c.in_ok-put_topic.ensures.appends,
   begins_both c.args.out.now.items c.loop-topic.out.items c.put_topic.new.out.items c.loop-topic.invariant.1 (_, c.in_ok-put_topic.ensures.appends),
 )
 
 pub returns-clause-appends : goal.returns-clause-appends
 returns-clause-appends g c =
-    all_seen metadata_topic_bytes topic_contents (topic_metadata c.args.node.now.config) c.args.out.now.items c.loop-topic.out.items c.loop-topic.topic-index c.topics-topic-items.result.now c.args.node.now.topics (search rules) c.topics-topic-items.ensures.topics c.loop-topic.invariant.0
+    all_seen metadata_topic_bytes topic_contents (topic_metadata c.args.node.now.config) c.args.out.now.items c.loop-topic.out.items c.loop-topic.topic-index c.topics-topic-items.result.now c.args.node.now.topics c.loop-topic-test.false c.topics-topic-items.ensures.topics c.loop-topic.invariant.0

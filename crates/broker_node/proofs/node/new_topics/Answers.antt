@@ -9,7 +9,7 @@ use Rattle.broker_node.proofs.node.new_topics.Goals as goal
 pub returns : goal.returns
 returns g c =
     all_made c.args.config.now.role topic_config c.deref-topic-items.result.now c.args.config.now.topics.items c.loop-topic.topic-index c.loop-topic.topics.items _ c.in_ok-new_topic-2.field-0
-    (record { name = group_topic; partitions = 1 }) c.loop-topic.invariant (search rules) c.deref-topic-items.ensures.value c.in_ok-new_topic-2.ensures c.in_ok-push-2.ensures.items
+    (record { name = group_topic; partitions = 1 }) c.loop-topic.invariant c.loop-topic-test.false c.deref-topic-items.ensures.value c.in_ok-new_topic-2.ensures c.in_ok-push-2.ensures.items
 
 pub loop-topic-preserved : goal.loop-topic-preserved
 loop-topic-preserved g c =
