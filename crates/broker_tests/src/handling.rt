@@ -11,23 +11,23 @@ use std::alloc::{AllocError, Allocator};
 use std::test::Fail;
 
 /// A ListOffsets request for the end of partition 0 of `t`.
-const LIST: &[u8] =
+static LIST: &[u8] =
     b"\0\x02\0\x01\0\0\0\x07\xff\xff\xff\xff\xff\xff\0\0\0\x01\0\x01t\0\0\0\x01\0\0\0\0\xff\xff\xff\xff\xff\xff\xff\xff";
 
 /// Its response where the partition is empty.
-const LISTED: &[u8] =
+static LISTED: &[u8] =
     b"\0\0\0\x25\0\0\0\x07\0\0\0\x01\0\x01t\0\0\0\x01\0\0\0\0\0\0\xff\xff\xff\xff\xff\xff\xff\xff\0\0\0\0\0\0\0\0";
 
 /// A Produce request for partition 0 of `t`, acks 1, up to its batch of 70 bytes.
-const PRODUCE: &[u8] =
+static PRODUCE: &[u8] =
     b"\0\0\0\x03\0\0\0\x05\xff\xff\xff\xff\0\x01\0\0\x03\xe8\0\0\0\x01\0\x01t\0\0\0\x01\0\0\0\0\0\0\0\x46";
 
 /// Its response: code 0, base offset 0.
-const STORED: &[u8] =
+static STORED: &[u8] =
     b"\0\0\0\x29\0\0\0\x05\0\0\0\x01\0\x01t\0\0\0\x01\0\0\0\0\0\0\0\0\0\0\0\0\0\0\xff\xff\xff\xff\xff\xff\xff\xff\0\0\0\0";
 
 /// Its response: code 56, base offset -1.
-const NOT_STORED: &[u8] =
+static NOT_STORED: &[u8] =
     b"\0\0\0\x29\0\0\0\x05\0\0\0\x01\0\x01t\0\0\0\x01\0\0\0\0\0\x38\xff\xff\xff\xff\xff\xff\xff\xff\xff\xff\xff\xff\xff\xff\xff\xff\0\0\0\0";
 
 /// More allocations than a request asks for.

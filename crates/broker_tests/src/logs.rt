@@ -10,7 +10,7 @@ use std::test::Fail;
 type Row = (&'static str, i32, bool);
 
 /// Partitions that have a log, and such that don't.
-const ROWS: [Row; 13] = [
+static ROWS: [Row; 13] = [
     ("t", 0, true),
     ("t", 1, true),
     ("u", 0, true),

@@ -8,15 +8,15 @@ use std::io::ErrorKind;
 use std::test::Fail;
 
 /// What stands before the batch: partition 0 of `t`, acks 1, correlation id 5.
-const HEAD: &[u8] =
+static HEAD: &[u8] =
     b"\0\0\0\x6b\0\0\0\x03\0\0\0\x05\xff\xff\xff\xff\0\x01\0\0\x03\xe8\0\0\0\x01\0\x01t\0\0\0\x01\0\0\0\0\0\0\0\x46";
 
 /// Code 0 and base offset 0.
-const RESPONSE: &[u8] =
+static RESPONSE: &[u8] =
     b"\0\0\0\x29\0\0\0\x05\0\0\0\x01\0\x01t\0\0\0\x01\0\0\0\0\0\0\0\0\0\0\0\0\0\0\xff\xff\xff\xff\xff\xff\xff\xff\0\0\0\0";
 
 /// Of `REQUEST` behind it: partition 0 of `t` has code 0, time -1 and offset 1.
-const NEXT_RESPONSE: &[u8] =
+static NEXT_RESPONSE: &[u8] =
     b"\0\0\0\x25\0\0\0\x07\0\0\0\x01\0\x01t\0\0\0\x01\0\0\0\0\0\0\xff\xff\xff\xff\xff\xff\xff\xff\0\0\0\0\0\0\0\x01";
 
 /// The request that produces `a` = 1.

@@ -11,18 +11,18 @@ use std::alloc::{AllocError, Allocator};
 use std::test::Fail;
 
 /// A Fetch request for partition 0 of `t` from offset 0 on, at most 1,000 bytes.
-const FETCH: &[u8] =
+static FETCH: &[u8] =
     b"\0\x01\0\x04\0\0\0\x09\xff\xff\xff\xff\xff\xff\0\0\0\0\0\0\0\0\0\0\x03\xe8\0\0\0\0\x01\0\x01t\0\0\0\x01\0\0\0\0\0\0\0\0\0\0\0\0\0\0\x03\xe8";
 
 /// Its response up to the batch of 70 bytes: code 0, high watermark and last stable offset 1.
-const FETCHED: &[u8] =
+static FETCHED: &[u8] =
     b"\0\0\0w\0\0\0\x09\0\0\0\0\0\0\0\x01\0\x01t\0\0\0\x01\0\0\0\0\0\0\0\0\0\0\0\0\0\x01\0\0\0\0\0\0\0\x01\xff\xff\xff\xff\0\0\0\x46";
 
 /// A Metadata request for `t`.
-const DESCRIBE: &[u8] = b"\0\x03\0\x01\0\0\0\x0b\xff\xff\0\0\0\x01\0\x01t";
+static DESCRIBE: &[u8] = b"\0\x03\0\x01\0\0\0\x0b\xff\xff\0\0\0\x01\0\x01t";
 
 /// Its response: node 1 at `hhh`, port 9092, leads partition 0.
-const DESCRIBED: &[u8] =
+static DESCRIBED: &[u8] =
     b"\0\0\0\x43\0\0\0\x0b\0\0\0\x01\0\0\0\x01\0\x03hhh\0\0\x23\x84\xff\xff\0\0\0\x01\0\0\0\x01\0\0\0\x01t\0\0\0\0\x01\0\0\0\0\0\0\0\0\0\x01\0\0\0\x01\0\0\0\x01\0\0\0\x01\0\0\0\x01";
 
 /// More allocations than a request asks for.

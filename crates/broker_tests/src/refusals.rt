@@ -47,7 +47,7 @@ type Row = (
 );
 
 /// Configurations with one fault or none, and what a new broker answers to them.
-const ALONE: [Row; 10] = [
+static ALONE: [Row; 10] = [
     ("no fault", 255, ("t", 1), ("u", 64), 62, "a node"),
     ("an empty host", 0, ("t", 1), ("u", 1), 0, "a node"),
     ("256 bytes of host", 256, ("t", 1), ("u", 1), 0, "BadHost"),
@@ -61,7 +61,7 @@ const ALONE: [Row; 10] = [
 ];
 
 /// Configurations with two faults, and what a new broker answers to them.
-const TOGETHER: [Row; 8] = [
+static TOGETHER: [Row; 8] = [
     ("host, count", 256, ("t", 1), ("u", 1), 63, "BadHost"),
     ("host, name", 256, (".", 1), ("u", 1), 0, "BadHost"),
     ("count, name", 9, (".", 1), ("u", 1), 63, "TooManyTopics"),

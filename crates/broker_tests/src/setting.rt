@@ -8,11 +8,11 @@ use std::string::String;
 use streams::{Sink, Source};
 
 /// Of partition 0 of topic `t`, at time -1; behind its size.
-pub(crate) const REQUEST: &[u8] =
+pub(crate) static REQUEST: &[u8] =
     b"\0\0\0\x25\0\x02\0\x01\0\0\0\x07\xff\xff\xff\xff\xff\xff\0\0\0\x01\0\x01t\0\0\0\x01\0\0\0\0\xff\xff\xff\xff\xff\xff\xff\xff";
 
 /// Partition 0 of `t` has code 0, time -1 and offset 0.
-pub(crate) const RESPONSE: &[u8] =
+pub(crate) static RESPONSE: &[u8] =
     b"\0\0\0\x25\0\0\0\x07\0\0\0\x01\0\x01t\0\0\0\x01\0\0\0\0\0\0\xff\xff\xff\xff\xff\xff\xff\xff\0\0\0\0\0\0\0\0";
 
 /// Gives at most `piece` bytes a read, and fails where `fails_at` bytes are left.
@@ -45,7 +45,7 @@ struct Halting<A: Allocator> {
 }
 
 /// The ways in which a writer fails.
-pub(crate) const WAYS: [(&str, Option<ErrorKind>); 3] = [
+pub(crate) static WAYS: [(&str, Option<ErrorKind>); 3] = [
     ("takes 0 bytes", None),
     ("broken", Some(ErrorKind::BrokenPipe)),
     ("interrupted", Some(ErrorKind::Interrupted)),

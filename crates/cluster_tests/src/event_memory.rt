@@ -13,7 +13,7 @@ use std::alloc::{AllocError, Allocator, Global};
 use std::test::Fail;
 
 /// The answers to the events of `events`.
-const ANSWERS: [Answer; 5] = [
+static ANSWERS: [Answer; 5] = [
     Ok(Outcome::Delivered(Delivered::Added)),
     Ok(Outcome::Merged),
     Ok(Outcome::Cleaned(CleanReport {

@@ -38,7 +38,7 @@ fn refused(why: AppendError) -> Answer {
 }
 
 /// The answers to a list of events.
-const ANSWERS: [Answer; 10] = [
+static ANSWERS: [Answer; 10] = [
     Ok(Outcome::Sent { image: 0 }),
     Ok(Outcome::Based {
         base: 0,

@@ -114,7 +114,7 @@ pub(crate) fn drop_one_each<A: Allocator + Copy>(
 }
 
 /// What the merge of two copies gives that lost another record each: it has neither.
-const NEITHER: Wanted<'static> = Wanted {
+static NEITHER: Wanted<'static> = Wanted {
     image: &NONE_OF_TWO,
     rows: &[(b"a", b"5"), (b"b", b"6")],
     seen: &[(0, 3)],

@@ -3,7 +3,7 @@
 use checksum::crc32c;
 
 /// Bytes and their checksum.
-const CHECKSUMS: [(&str, &[u8], u32); 6] = [
+static CHECKSUMS: [(&str, &[u8], u32); 6] = [
     ("no bytes", &[], 0),
     ("the digits", b"123456789", 0xe306_9283),
     ("32 bytes of zeros", &[0; 32], 0x8a91_36aa),

@@ -7,7 +7,7 @@ use std::alloc::Allocator;
 use std::test::Fail;
 
 /// The base, the epoch, and the bytes that differ from the old ones.
-const ROWS: [(&str, i64, i32, &[(usize, u8)]); 4] = [
+static ROWS: [(&str, i64, i32, &[(usize, u8)]); 4] = [
     ("what it was", 0, 0, &[]),
     ("small numbers", 258, 3, &[(6, 1), (7, 2), (15, 3)]),
     (

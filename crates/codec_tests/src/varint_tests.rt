@@ -4,7 +4,7 @@ use std::alloc::Allocator;
 use varint::{VarintError, len_i32, len_i64, one_encoding, put_i32, put_i64, read_i32, read_i64};
 
 /// Numbers, and their bytes worked by hand.
-const NUMBERS: [(i64, &[u8]); 10] = [
+static NUMBERS: [(i64, &[u8]); 10] = [
     (0, &[0x00]),
     (-1, &[0x01]),
     (63, &[0x7e]),
@@ -24,7 +24,7 @@ const NUMBERS: [(i64, &[u8]); 10] = [
 ];
 
 /// Bytes, and their refusal as a number of 32 and of 64 bits.
-const REFUSALS: [(&str, &[u8], VarintError, VarintError); 5] = [
+static REFUSALS: [(&str, &[u8], VarintError, VarintError); 5] = [
     ("no bytes", &[], VarintError::Short, VarintError::Short),
     (
         "one digit of more",

@@ -7,7 +7,7 @@ use std::alloc::{AllocError, Allocator};
 use std::test::Fail;
 
 /// A batch, whether it is whole, and the last record's offset delta, key and value.
-const BATCHES: [(
+static BATCHES: [(
     &str,
     &[u8],
     bool,
@@ -36,7 +36,7 @@ const BATCHES: [(
 ];
 
 /// Changes of the batch of one record, how many of its bytes are there, and the refusal.
-const REFUSALS: [(&str, &[(usize, u8)], usize, BatchError); 14] = [
+static REFUSALS: [(&str, &[(usize, u8)], usize, BatchError); 14] = [
     ("no bytes", &[], 0, BatchError::Short),
     ("cut before the magic", &[], 16, BatchError::Short),
     ("cut behind the magic", &[], 17, BatchError::Short),
@@ -74,7 +74,7 @@ const REFUSALS: [(&str, &[(usize, u8)], usize, BatchError); 14] = [
 ];
 
 /// Changes of the batch of one record, whose crc is set to match, and the refusal.
-const CRC_RIGHT: [(&str, &[(usize, u8)], Option<BatchError>); 18] = [
+static CRC_RIGHT: [(&str, &[(usize, u8)], Option<BatchError>); 18] = [
     ("bits from 7 on", &[(21, 0xff), (22, 0x80)], None),
     ("compression", &[(22, 1)], Some(BatchError::Compressed)),
     (

@@ -47,7 +47,7 @@ type Row = (&'static str, Sent, Answer, usize, bool);
 const GREATEST: i64 = 0x3fff_ffff_ffff_ffff;
 
 /// Batches that are delivered one after another.
-const DELIVERIES: [Row; 13] = [
+static DELIVERIES: [Row; 13] = [
     ("a batch", Sent::NineAt(20), Ok(Delivered::Added), 1, false),
     (
         "three records before it",

@@ -63,7 +63,7 @@ fn has_nine<A: Allocator + Copy>(log: &PartitionLog<VecStore<A>>) -> bool {
 type Row = (&'static str, Sent, Answer);
 
 /// Batches that are sent to an empty log, five of them of a producer.
-const OF_SEVEN: [Row; 11] = [
+static OF_SEVEN: [Row; 11] = [
     ("records missing", Sent::Emptied, Err(AppendError::NotWhole)),
     ("a null key", Sent::WithoutKey, Err(AppendError::NoKey)),
     (
@@ -90,7 +90,7 @@ const OF_SEVEN: [Row; 11] = [
 ];
 
 /// What comes next, some of it again.
-const AGAIN: [Row; 7] = [
+static AGAIN: [Row; 7] = [
     ("the first again", Sent::Of(7, 0, 0), Ok((0, true))),
     ("the fifth again", Sent::Of(7, 0, 4), Ok((4, true))),
     ("the sixth", Sent::Of(7, 0, 5), Ok((6, false))),
@@ -109,7 +109,7 @@ const AGAIN: [Row; 7] = [
 ];
 
 /// What comes last: of another producer and of other epochs.
-const OF_EIGHT: [Row; 8] = [
+static OF_EIGHT: [Row; 8] = [
     ("the last of 8", Sent::Of(8, 0, i32::MAX), Ok((10, false))),
     ("from 0 again", Sent::Of(8, 0, 0), Ok((11, false))),
     (

@@ -2,11 +2,21 @@
 #![tactic(auto)]
 
 #[cfg(test)]
+mod answers;
+#[cfg(test)]
+mod cleaning;
+#[cfg(test)]
 mod delivery;
 #[cfg(test)]
 mod delivery_memory;
 #[cfg(test)]
 mod leader;
+#[cfg(test)]
+mod memory;
+#[cfg(test)]
+mod names;
+#[cfg(test)]
+mod producers;
 #[cfg(test)]
 mod reads;
 #[cfg(test)]

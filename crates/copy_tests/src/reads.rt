@@ -57,7 +57,7 @@ fn knows_both<A: Allocator + Copy>(log: &PartitionLog<VecStore<A>>) -> bool {
 type Fetch = (i64, usize, bool, Option<(usize, usize)>);
 
 /// Fetches from a copy with gaps.
-const FETCHES: [Fetch; 9] = [
+static FETCHES: [Fetch; 9] = [
     (0, 140, false, Some((0, 2))),
     (0, 139, false, Some((0, 1))),
     (0, 69, false, Some((0, 0))),
@@ -93,7 +93,7 @@ fn wrong_fetch<A: Allocator + Copy>(log: &PartitionLog<VecStore<A>>) -> Option<u
 }
 
 /// A time, and the time and the offset of the first record from then on.
-const TIMES: [(i64, Option<(i64, i64)>); 5] = [
+static TIMES: [(i64, Option<(i64, i64)>); 5] = [
     (i64::MIN, Some((1000, 1))),
     (1000, Some((1000, 1))),
     (1001, Some((3000, 3))),

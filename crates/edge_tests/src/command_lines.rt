@@ -47,7 +47,7 @@ fn comes(
 const CUT: &[u8] = b"\0\0\0\x25\0\x02\0\x01\0";
 
 /// The line, the input, the status, and what comes on standard output and on standard error.
-const SESSIONS: [(&str, &[u8], u8, &[u8], &str); 5] = [
+static SESSIONS: [(&str, &[u8], u8, &[u8], &str); 5] = [
     ("kbroker session t:1", b"", 0, b"", ""),
     ("kbroker session t:1", REQUEST, 0, REPLY, ""),
     (
@@ -105,7 +105,7 @@ fn is_refused(alloc: Global, line: &str, name: &str) -> bool {
 }
 
 /// Lines, and the names that refuse them.
-const REFUSED: [(&str, &str); 14] = [
+static REFUSED: [(&str, &str); 14] = [
     ("kbroker session t", "BadTopic"),
     ("kbroker session :1", "BadTopic"),
     ("kbroker session a:b:1", "BadTopic"),
@@ -158,7 +158,7 @@ fn has_port(alloc: Global, listener: &TcpListener, line: &str, port: Option<u16>
 }
 
 /// Lines, and their ports.
-const PORTS: [(&str, Option<u16>); 14] = [
+static PORTS: [(&str, Option<u16>); 14] = [
     ("kbroker serve --port 0 --connections 2 t:1", Some(0)),
     (
         "kbroker serve --connections=4294967295 --port=65535 t:1 u:0",
@@ -210,7 +210,7 @@ fn send(client: &mut TcpStream) -> std::io::Result<()> {
 }
 
 /// The arguments for one connection.
-const SERVE: [&str; 7] = [
+static SERVE: [&str; 7] = [
     "kbroker",
     "serve",
     "--port",

@@ -4,7 +4,7 @@ use std::alloc::Allocator;
 use std::test::Fail;
 
 /// The number that fails, and which of four boxes could be made.
-const ROWS: [(u64, [bool; 4]); 4] = [
+static ROWS: [(u64, [bool; 4]); 4] = [
     (0, [true, true, true, true]),
     (1, [false, true, true, true]),
     (3, [true, true, false, true]),

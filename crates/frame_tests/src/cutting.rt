@@ -8,7 +8,7 @@ use std::alloc::{AllocError, Allocator};
 use std::string::String;
 
 /// Three frames behind their sizes, of 2, 0 and 3 bytes, and two bytes of a fourth's size.
-const STREAM: [u8; 19] = [
+static STREAM: [u8; 19] = [
     0, 0, 0, 2, 0xaa, 0xbb, 0, 0, 0, 0, 0, 0, 0, 3, 1, 2, 3, 0, 0,
 ];
 
@@ -81,7 +81,7 @@ fn pieces_give_the_same_frames(rt: HostRuntime) {
 }
 
 /// Bytes, and what is taken of them, in words.
-const FRONTS: [(&str, &[u8], &str); 8] = [
+static FRONTS: [(&str, &[u8], &str); 8] = [
     ("nothing", b"", "None"),
     ("3 bytes of a size", b"\xff\xff\xff", "None"),
     ("size -1", b"\xff\xff\xff\xff", "NegativeSize"),

@@ -8,10 +8,10 @@ use std::alloc::Allocator;
 const MOST: u64 = 100;
 
 /// Two frames behind their sizes.
-const STREAM: &[u8] = b"\0\0\0\x02ab\0\0\0\x01c";
+static STREAM: &[u8] = b"\0\0\0\x02ab\0\0\0\x01c";
 
 /// The second one.
-const LAST: &[u8] = b"\0\0\0\x01c";
+static LAST: &[u8] = b"\0\0\0\x01c";
 
 /// What came of a call in memory of which one allocation fails.
 #[derive(Clone, Copy, PartialEq, Eq)]

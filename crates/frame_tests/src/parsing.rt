@@ -146,23 +146,22 @@ fn is_answered<A: Allocator + Copy>(alloc: A, frame: &[u8], wanted: &str) -> boo
     }
 }
 
+/// Frames, and what is read of each, in words.
+static REQUESTS: [(&[u8], &str); 6] = [
+    (LIST_OFFSETS, "7 ListOffsets [116] 0 -1"),
+    (PRODUCE, "5 Produce None -1 [116] 5 Some([97, 98]) 6 None"),
+    (FETCH, "8 Fetch 100 [116] 1 2 3 [117]"),
+    (METADATA, "9 Metadata [116] [117, 32, 118]"),
+    (
+        b"\0\x03\0\x01\0\0\0\x09\xff\xff\xff\xff\xff\xff",
+        "9 Metadata of all",
+    ),
+    (b"\0\x03\0\x01\xff\xff\xff\xff\0\0\0\0\0\0", "-1 Metadata"),
+];
+
 #[test]
 fn frames_are_requests(rt: HostRuntime) {
-    let rows = [
-        (LIST_OFFSETS, "7 ListOffsets [116] 0 -1"),
-        (PRODUCE, "5 Produce None -1 [116] 5 Some([97, 98]) 6 None"),
-        (FETCH, "8 Fetch 100 [116] 1 2 3 [117]"),
-        (METADATA, "9 Metadata [116] [117, 32, 118]"),
-        (
-            b"\0\x03\0\x01\0\0\0\x09\xff\xff\xff\xff\xff\xff".as_slice(),
-            "9 Metadata of all",
-        ),
-        (
-            b"\0\x03\0\x01\xff\xff\xff\xff\0\0\0\0\0\0".as_slice(),
-            "-1 Metadata",
-        ),
-    ];
-    for (frame, wanted) in &rows {
+    for (frame, wanted) in &REQUESTS {
         assert!(rt; is_answered(rt.alloc(), frame, wanted), "{frame:?}");
     }
 }
@@ -187,9 +186,12 @@ fn has_trailing_byte<A: Allocator + Copy>(alloc: A, frame: &[u8]) -> bool {
     }
 }
 
+/// Requests that are cut and made longer.
+static WHOLE: [&[u8]; 4] = [LIST_OFFSETS, PRODUCE, FETCH, METADATA];
+
 #[test]
 fn cut_frames_are_short(rt: HostRuntime) {
-    for frame in [LIST_OFFSETS, PRODUCE, FETCH, METADATA] {
+    for frame in &WHOLE {
         let wrong = (
             not_short(rt.alloc(), frame),
             has_trailing_byte(rt.alloc(), frame),
@@ -224,7 +226,7 @@ fn is_named<A: Allocator + Copy>(alloc: A, at: usize, field: [u8; 4], wanted: &s
 }
 
 /// Four bytes of the ListOffsets request, where they stand, and what comes of it.
-const LYING: [(&str, usize, [u8; 4], &str); 15] = [
+static LYING: [(&str, usize, [u8; 4], &str); 15] = [
     ("key 999", 0, [0x03, 0xe7, 0, 1], "UnknownApi"),
     ("key -1", 0, [0xff, 0xff, 0, 1], "UnknownApi"),
     ("version 0", 0, [0, 2, 0, 0], "BadVersion"),
@@ -274,36 +276,38 @@ fn lying_fields_are_named(rt: HostRuntime) {
     }
 }
 
+/// Frames with two faults, and the one that is named. 2147483647 names are announced; the second has
+/// length -1, or its length is cut.
+static LEFTMOST: [(&[u8], &str); 6] = [
+    (
+        b"\0\x03\0\x01\0\0\0\x09\xff\xff\x7f\xff\xff\xff\0\x01t\xff\xff",
+        "Malformed",
+    ),
+    (
+        b"\0\x03\0\x01\0\0\0\x09\xff\xff\x7f\xff\xff\xff\0\x01t\xff",
+        "ShortBody",
+    ),
+    // the client id is refused only in a request that is known
+    (b"\0\x01\0\x03\0\0\0\x09\xff\xfe", "BadVersion"),
+    // a count below -1 is refused where -1 is null
+    (
+        b"\0\x03\0\x01\0\0\0\x09\xff\xff\xff\xff\xff\xfe",
+        "Malformed",
+    ),
+    // records behind a length of -2, and a length of 3 with two bytes behind it
+    (
+        b"\0\0\0\x03\0\0\0\x05\xff\xff\xff\xff\0\0\0\0\0\x09\0\0\0\x01\0\x01t\0\0\0\x01\0\0\0\x05\xff\xff\xff\xfe",
+        "Malformed",
+    ),
+    (
+        b"\0\0\0\x03\0\0\0\x05\xff\xff\xff\xff\0\0\0\0\0\x09\0\0\0\x01\0\x01t\0\0\0\x01\0\0\0\x05\0\0\0\x03ab",
+        "ShortBody",
+    ),
+];
+
 #[test]
 fn the_leftmost_fault_decides(rt: HostRuntime) {
-    // 2147483647 names are announced; the second has length -1, or its length is cut
-    let rows = [
-        (
-            b"\0\x03\0\x01\0\0\0\x09\xff\xff\x7f\xff\xff\xff\0\x01t\xff\xff".as_slice(),
-            "Malformed",
-        ),
-        (
-            b"\0\x03\0\x01\0\0\0\x09\xff\xff\x7f\xff\xff\xff\0\x01t\xff".as_slice(),
-            "ShortBody",
-        ),
-        // the client id is refused only in a request that is known
-        (b"\0\x01\0\x03\0\0\0\x09\xff\xfe".as_slice(), "BadVersion"),
-        // a count below -1 is refused where -1 is null
-        (
-            b"\0\x03\0\x01\0\0\0\x09\xff\xff\xff\xff\xff\xfe".as_slice(),
-            "Malformed",
-        ),
-        // records behind a length of -2, and a length of 3 with two bytes behind it
-        (
-            b"\0\0\0\x03\0\0\0\x05\xff\xff\xff\xff\0\0\0\0\0\x09\0\0\0\x01\0\x01t\0\0\0\x01\0\0\0\x05\xff\xff\xff\xfe".as_slice(),
-            "Malformed",
-        ),
-        (
-            b"\0\0\0\x03\0\0\0\x05\xff\xff\xff\xff\0\0\0\0\0\x09\0\0\0\x01\0\x01t\0\0\0\x01\0\0\0\x05\0\0\0\x03ab".as_slice(),
-            "ShortBody",
-        ),
-    ];
-    for (frame, wanted) in &rows {
+    for (frame, wanted) in &LEFTMOST {
         assert!(rt; is_answered(rt.alloc(), frame, wanted), "{frame:?}");
     }
 }

@@ -30,7 +30,7 @@ fn insert_all<A: Allocator + Copy>(
 type Ranges = &'static [(i64, i64)];
 
 /// What a row is of, the ranges that are inserted, and those of the set then.
-const INSERTIONS: [(&str, Ranges, Ranges); 8] = [
+static INSERTIONS: [(&str, Ranges, Ranges); 8] = [
     ("nothing", &[], &[]),
     (
         "apart",
@@ -73,7 +73,7 @@ fn insertions(rt: HostRuntime) -> Result<(), Fail> {
 }
 
 /// Ranges, and the text of the refusal to make a set of them.
-const REFUSALS: [(Ranges, &str); 10] = [
+static REFUSALS: [(Ranges, &str); 10] = [
     (&[(0, 4), (6, GREATEST)], "none"),
     (&[(0, 4), (6, 5), (6, 6)], "EmptyRange"),
     (&[(-1, -2)], "EmptyRange"),
@@ -129,7 +129,7 @@ fn answers_of<A: Allocator + Copy>(cover: &Cover<A>, first: i64, last: i64) -> A
 }
 
 /// The first and the last offset that are asked for, and the answers.
-const QUESTIONS: [(i64, i64, Answers); 11] = [
+static QUESTIONS: [(i64, i64, Answers); 11] = [
     (0, 0, (true, true, 5)),
     (1, 4, (true, true, 5)),
     (1, 5, (false, true, 5)),
@@ -302,11 +302,11 @@ fn each_allocation_of_insertions_fails(rt: HostRuntime) -> Result<(), Fail> {
 }
 
 /// Two sets, and their union.
-const MINE: [(i64, i64); 6] = [(0, 4), (20, 24), (40, 44), (60, 64), (80, 84), (100, 104)];
+static MINE: [(i64, i64); 6] = [(0, 4), (20, 24), (40, 44), (60, 64), (80, 84), (100, 104)];
 
-const THEIRS: [(i64, i64); 6] = [(3, 9), (30, 34), (45, 59), (70, 74), (90, 94), (105, 109)];
+static THEIRS: [(i64, i64); 6] = [(3, 9), (30, 34), (45, 59), (70, 74), (90, 94), (105, 109)];
 
-const BOTH: [(i64, i64); 8] = [
+static BOTH: [(i64, i64); 8] = [
     (0, 9),
     (20, 24),
     (30, 34),

@@ -30,9 +30,9 @@ fn judge_after(
 const LAST: i32 = i32::MAX;
 
 /// Five batches of one record.
-const FIVE: &[Numbers] = &[(0, 0, 0), (0, 1, 0), (0, 2, 0), (0, 3, 0), (0, 4, 0)];
+static FIVE: &[Numbers] = &[(0, 0, 0), (0, 1, 0), (0, 2, 0), (0, 3, 0), (0, 4, 0)];
 
-const SIX: &[Numbers] = &[
+static SIX: &[Numbers] = &[
     (0, 0, 0),
     (0, 1, 0),
     (0, 2, 0),
@@ -56,7 +56,7 @@ enum Before {
 type Judged = (&'static str, Before, Numbers, Verdict);
 
 /// Verdicts worked by hand.
-const VERDICTS: [Judged; 19] = [
+static VERDICTS: [Judged; 19] = [
     (
         "nothing before",
         Before::Nothing,
@@ -192,7 +192,7 @@ fn verdicts(rt: HostRuntime) -> Result<(), Fail> {
 }
 
 /// A first sequence number, a last offset delta, and the number that comes next.
-const NEXT_NUMBERS: [(i32, i32, i32); 7] = [
+static NEXT_NUMBERS: [(i32, i32, i32); 7] = [
     (0, 0, 1),
     (5, 9, 15),
     (LAST, 0, 0),

@@ -20,10 +20,10 @@ const MOST: u64 = 100;
 const GREATEST: i64 = 0x3fff_ffff_ffff_ffff;
 
 /// The base offsets of five batches.
-const FIVE_BASES: [i64; 5] = [0, 3, 5, 9, GREATEST];
+static FIVE_BASES: [i64; 5] = [0, 3, 5, 9, GREATEST];
 
 /// The base offsets of four batches.
-const FOUR_BASES: [i64; 4] = [0, 3, 5, 6];
+static FOUR_BASES: [i64; 4] = [0, 3, 5, 6];
 
 /// Inserts a batch where it may be inserted.
 fn insert<S: BatchStore>(
@@ -139,7 +139,7 @@ enum Sent {
 type Going = (&'static str, Sent, Option<usize>, usize);
 
 /// Batches that are inserted one after another.
-const GOINGS: [Going; 11] = [
+static GOINGS: [Going; 11] = [
     ("the first", Sent::NineAt(5), Some(0), 1),
     ("after all", Sent::NineAt(9), Some(1), 2),
     ("before all", Sent::Three, Some(0), 3),
@@ -206,7 +206,7 @@ fn insert_five<S: BatchStore>(store: &mut S) -> Result<(), Fail> {
 }
 
 /// An offset, and the index of the first of the five batches from there on.
-const SEARCHES: [(i64, usize); 12] = [
+static SEARCHES: [(i64, usize); 12] = [
     (i64::MIN, 0),
     (-1, 0),
     (0, 0),
@@ -269,7 +269,7 @@ fn takes<S: BatchStore, A: Allocator + Copy>(
 type Taking = (&'static str, (i64, i32), Option<usize>, usize);
 
 /// A batch that takes one base offset after another.
-const TAKINGS: [Taking; 6] = [
+static TAKINGS: [Taking; 6] = [
     ("the first", (5, 7), Some(0), 1),
     ("after all", (11, -1), Some(1), 2),
     ("between", (8, i32::MAX), Some(1), 3),

@@ -47,7 +47,7 @@ type Row = (
     usize,
 );
 
-const ROWS: [Row; 8] = [
+static ROWS: [Row; 8] = [
     ("one byte a read", 1, NONE, None, [1, 1, 1, 0, 0], NONE),
     ("all the room", 2, NONE, None, [2, 1, 0, 0, 0], NONE),
     ("first read fails", 1, 3, BROKEN, [0, 0, 0, 0, 0], 0),

@@ -42,14 +42,14 @@ impl Write for Halting {
 }
 
 // The ways of failing.
-const ROWS: [(&str, Option<ErrorKind>); 3] = [
+static ROWS: [(&str, Option<ErrorKind>); 3] = [
     ("takes 0 bytes", None),
     ("broken", Some(ErrorKind::BrokenPipe)),
     ("interrupted", Some(ErrorKind::Interrupted)),
 ];
 
 /// What is written.
-const BYTES: &[u8] = b"abcde";
+static BYTES: &[u8] = b"abcde";
 
 /// A writer that has taken nothing.
 fn writer_of(alloc: Global, piece: usize, room: usize, error: Option<ErrorKind>) -> Halting {

@@ -4,7 +4,7 @@ use Rattle.std.specs.Int.{w32}
 use Rattle.std.proofs.lemmas.Int.{to_z-of_z}
 use Rattle.request_frames.specs.Fields.{size32, be}
 use Rattle.request_frames.specs.Responses.{framed, response_head, topic_head, produce_head, produced_bytes, produce_tail}
-use Rattle.response_tests.proofs.one.put_one.Goals as goal
+use Rattle.frame_tests.proofs.one.put_one.Goals as goal
 
 -- the parts, as the law names them
 parts : (old head count topic partition tail o0 o1 o2 o3 o4 o5 : List ℕ) → o0 ≡ old → o1 ≡ o0 ++ head → o2 ≡ o1 ++ count → o3 ≡ o2 ++ topic → o4 ≡ o3 ++ partition → o5 ≡ o4 ++ tail
