@@ -1,5 +1,5 @@
 -- The index of an offset among maximal runs, and whether they cover it.
-use Rattle.std.proofs.Common.{◌≡◌, ℕ, ◌+◌, ◌-◌, ◌<◌, ◌≤◌, Bool, true, false, ◌||◌, length, get_or, take, refl, sym, ap, ◌∙◌, subst, ◌⊎◌, inl, inr, arith}
+use Rattle.std.proofs.Common.{◌≡◌, ℕ, ◌+◌, ◌-◌, ◌<◌, ◌≤◌, Bool, true, false, ◌||◌, length, get_or, take, refl, sym, ap, ◌∙◌, subst, ◌⊎◌, inl, inr, arith, w64, to_z, of_z, Result, Ok, Err, OnOk}
 use Rattle.std.specs.Prelude.{ℤ, pos, ◌+ℤ◌, ◌-ℤ◌, ◌<ℤ◌, ◌≤ℤ◌, int_le, int_lt, IsTrue, MatchBool, ◌↔◌}
 use Rattle.std.specs.List.{All, AllWithin, Any}
 use Rattle.std.specs.List.Sorted.{IsPartitionedBy, IsPartitionPoint}
@@ -371,6 +371,58 @@ or_turn true true = refl
 or_turn true false = refl
 or_turn false true = refl
 or_turn false false = refl
+
+-- ---- a run that is passed on by value
+
+pub passed_run : (run : ℤ × ℤ) → IsRun run → (pos 0 ≤ℤ to_z w64 (of_z w64 run.0)) × (to_z w64 (of_z w64 run.0) ≤ℤ to_z w64 (of_z w64 run.1)) × (to_z w64 (of_z w64 run.1) <ℤ OFFSETS_END)
+passed_run run is = (omega (arith, ints), omega (arith, ints), omega (arith, ints))
+
+pub same_passed : (run : ℤ × ℤ) → IsRun run → (run.0 ≡ to_z w64 (of_z w64 run.0)) × (run.1 ≡ to_z w64 (of_z w64 run.1))
+same_passed run is = (omega (arith, ints), omega (arith, ints))
+
+pub held_passed : (runs : Runs) (run : ℤ × ℤ) → IsRun run → (IsTrue true ↔ ((o : ℤ) → to_z w64 (of_z w64 run.0) ≤ℤ o → o ≤ℤ to_z w64 (of_z w64 run.1) → IsTrue (covers runs o)))
+    → (o : ℤ) → run.0 ≤ℤ o → o ≤ℤ run.1 → IsTrue (covers runs o)
+held_passed runs run is says o low high = says.0 refl o (subst (λ (z : ℤ). z ≤ℤ o) (same_passed run is).0 low) (subst (λ (z : ℤ). o ≤ℤ z) (same_passed run is).1 high)
+
+pub more_end_before : (runs : Runs) (at : ℕ) (offset : ℤ) → at < length runs → (get_or runs at (pos 0, pos 0)).1 <ℤ offset → AllWithin (λ run. run.1 <ℤ offset) runs 0 at → AllWithin (λ run. run.1 <ℤ offset) runs 0 (at + 1)
+more_end_before runs at offset there below so_far k d low high =
+    elim (cases_lt k at) [
+      | inl less ↦ so_far k d low less
+      | inr ge ↦ (let same : at ≡ k = omega arith in let Q : ℕ → Type 0 = λ i. (get_or runs i d).1 <ℤ offset in subst Q same (subst (λ (r : ℤ × ℤ). r.1 <ℤ offset) (get_or_default runs at (pos 0, pos 0) d there) below))
+    ]
+
+pub fewer_left : (i n : ℕ) → i < n → n - (i + 1) < n - i
+fewer_left i n less = omega arith
+
+pub adds_passed : {V E : Type 0} (r : Result V E) (old new : Runs) (run : ℤ × ℤ) → IsRun run
+    → OnOk r ((o : ℤ) → covers new o ≡ (covers old o || is_within o (to_z w64 (of_z w64 run.0), to_z w64 (of_z w64 run.1))))
+    → OnOk r ((o : ℤ) → covers new o ≡ (covers old o || is_within o run))
+adds_passed (Ok v) old new run is adds = λ o. adds o ∙ ap (λ (b : Bool). covers old o || b) (same_within o (to_z w64 (of_z w64 run.0)) (to_z w64 (of_z w64 run.1)) run (omega (arith, ints)) (omega (arith, ints)))
+adds_passed (Err e) old new run is adds = tt
+
+-- one range more of one of two lists
+pub united_next : (a : Runs) (i : ℕ) (d : ℤ × ℤ) (before after : Runs) (other : ℤ → Bool) → i < length a
+    → ((o : ℤ) → covers before o ≡ (covers (take i a) o || other o)) → ((o : ℤ) → covers after o ≡ (covers before o || is_within o (get_or a i d)))
+    → (o : ℤ) → covers after o ≡ (covers (take (i + 1) a) o || other o)
+united_next a i d before after other there so_far adds o = united_more a i d o (get_or a i d).0 (get_or a i d).1 (covers before o) (covers after o) (other o) refl refl there (so_far o) (adds o)
+
+-- the second list has a range left where the first has none that comes next
+pub second_there : (i n j m : ℕ) → (n ≤ i) ⊎ (j < m) → (i < n) ⊎ (j < m) → j < m
+second_there i n j m (inr there) some = there
+second_there i n j m (inl le) (inr there) = there
+second_there i n j m (inl le) (inl less) = omega arith
+
+pub one_within : (i n : ℕ) → i < n → i + 1 ≤ n
+one_within i n less = omega arith
+
+pub both_le : (i n : ℕ) → i ≤ n → n ≤ i → i ≡ n
+both_le i n le ge = omega arith
+
+pub fewer_first : (i n j m : ℕ) → i < n → (n - (i + 1)) + (m - j) < (n - i) + (m - j)
+fewer_first i n j m less = omega arith
+
+pub fewer_second : (i n j m : ℕ) → j < m → (n - i) + (m - (j + 1)) < (n - i) + (m - j)
+fewer_second i n j m less = omega arith
 
 -- ---- the first fault
 

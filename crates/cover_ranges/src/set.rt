@@ -1,5 +1,5 @@
 //! The set of offsets.
-ghost use Rattle.std.specs.Prelude.{◌≡◌, ◌<◌, ◌≤◌, ◌+◌, ◌^◌, ◌||◌, ◌↔◌, ℤ, pos, ◌<ℤ◌, ◌≤ℤ◌, [], length, IsTrue, IfOk, IfErr, OnOk, OnErr, IsOk};
+ghost use Rattle.std.specs.Prelude.{◌≡◌, ◌<◌, ◌≤◌, ◌+◌, ◌^◌, ◌||◌, ◌↔◌, ℤ, pos, ◌<ℤ◌, ◌≤ℤ◌, [], length, slice_index_or, IsTrue, IfOk, IfErr, OnOk, OnErr, IsOk};
 ghost use Rattle.cover_ranges.specs.Runs.{is_within, covers, IsCanonical, with_range, union_of, CoversAll, CoversAny, IsSubset};
 ghost use Rattle.cover_ranges.specs.CoverValue.{HasRoom};
 ghost use Rattle.cover_ranges.specs.Refusal.{IsRefusal};
@@ -138,6 +138,18 @@ impl<A: Allocator + Copy> Cover<A> {
         replace(&mut self.ranges, plan.start, plan.end, plan.range)
     }
 
+    /// Adds the offsets of the range at `at` among maximal ranges.
+    fn insert_from(&mut self, ranges: &[(i64, i64)], at: usize) -> Result<(), AllocError>
+        requires is_there { at < length ranges.now }
+        requires canonical { IsCanonical ranges.now }
+        ensures adds_offsets { OnOk result ((o : ℤ) → covers self.new.runs o
+            ≡ (covers self.old.runs o
+            || is_within o (slice_index_or ranges.now at (pos 0, pos 0)))) }
+        ensures canonical { IsCanonical self.new.runs }
+    {
+        self.insert(ranges[at].0, ranges[at].1)
+    }
+
     /// The offsets of either set, in one pass over both.
     pub fn union(&self, other: &Cover<A>) -> Result<Cover<A>, AllocError>
         ensures unites_runs { IfOk result (λ both.
@@ -151,10 +163,10 @@ impl<A: Allocator + Copy> Cover<A> {
         let (mut i, mut j) = (0, 0);
         while i < mine.len() || j < theirs.len() {
             if comes_next(mine, i, theirs, j) {
-                both.insert(mine[i].0, mine[i].1)?;
+                both.insert_from(mine, i)?;
                 i += 1;
             } else {
-                both.insert(theirs[j].0, theirs[j].1)?;
+                both.insert_from(theirs, j)?;
                 j += 1;
             }
         }
