@@ -1,5 +1,5 @@
 -- Batches judged where they stand, one after the other.
-use Rattle.std.proofs.Common.{◌≡◌, ℕ, ◌+◌, ◌-◌, ◌<◌, ℤ, pos, ◌+ℤ◌, Bool, true, false, ◌||◌, ◌&&◌, ◌⊎◌, inl, inr, Some, None, Result, Err, List, [], ◌∷◌, ◌++◌, length, get_or, take, drop, refl, sym, ap, subst, ◌∙◌, append_assoc, append-nil, arith}
+use Rattle.std.proofs.Common.{◌≡◌, ℕ, ◌+◌, ◌-◌, ◌<◌, ◌≤◌, ℤ, pos, ◌+ℤ◌, Bool, true, false, ◌||◌, ◌&&◌, ◌⊎◌, inl, inr, Some, None, Result, Err, List, [], ◌∷◌, ◌++◌, length, get_or, take, drop, refl, sym, ap, subst, ◌∙◌, append_assoc, append-nil, arith}
 use Rattle.std.specs.Prelude.{◌≤ℤ◌, ◌<ℤ◌, int_lt, int_le, IsTrue, ◌↔◌, IsOkAnd, FitsSigned, if◌then◌else◌}
 use Rattle.std.specs.List.{AllByRecursion, flat_map, list_any, fold}
 use Rattle.std.specs.Int.{w64, cast_signed, cast_unsigned}
@@ -19,8 +19,8 @@ use Rattle.content.specs.ByOffset.{look_up}
 use Rattle.content.specs.Records.{IsKeepable}
 use Rattle.content.specs.Content.{IsInRange}
 use Rattle.copy_images.specs.Refusals.{IsNext, end_of_batches}
-use Rattle.copy_images.specs.Judging.{ending_from, first_holds, HasContent, BatchesFault}
-use Rattle.copy_images.specs.declared.error.ImageError.TheVariants.{Outside}
+use Rattle.copy_images.specs.Judging.{ending_from, first_holds, HasContent, HoldsBatches, BatchesFault}
+use Rattle.copy_images.specs.declared.error.ImageError.TheVariants.{BadBatch, Outside, Extra}
 
 abbrev pub Batches : Type 0
 Batches = List BatchValue
@@ -39,6 +39,9 @@ not_next from bytes batch may same asked denied b next =
   where
     both : (t : Bool) → IsTrue t → t ≡ false → ⊥
     both t p q = cc
+
+pub starts_within : (from : ℤ) (b : BatchValue) (rest bytes : List ℕ) → IsNext from b rest → bytes ≡ batch_encoding b → length bytes ≤ length rest
+starts_within from b rest bytes next is = omega (arith, ap length is, ap length next.starts.encoded, length-append (batch_encoding b) next.starts.rest)
 
 -- ---- spans against ranges
 
@@ -265,3 +268,20 @@ pub outside : (ranges : Runs) (bytes : List ℕ) (index count : ℕ) (from : ℤ
 outside ranges bytes index count from rest old left b says canonical j next a no_here lt =
     let few : pos (length j.batches) <ℤ pos count = omega (arith, ints, j.counted, lt) in
     (j.batches, rest, b, j.has, few, subst (λ (o : ℤ). IsNext o b rest) j.ends next, not_seen ranges bytes index from rest old b canonical j next (sym a.says_is ∙ no_here))
+
+pub no_next : (ranges : Runs) (bytes : List ℕ) (index count : ℕ) (from : ℤ) (rest : List ℕ) (left : Runs) → IsJudged ranges bytes index from rest left → ((b : BatchValue) → IsNext from b rest → ⊥) → index < count
+    → BatchesFault ranges (pos count) bytes (BadBatch index)
+no_next ranges bytes index count from rest left j none lt =
+    (j.batches, rest, j.has, j.counted, omega (arith, ints, lt), λ b next. none b (subst (λ (o : ℤ). IsNext o b rest) (sym j.ends) next))
+
+all_counted : (n index count : ℕ) → n ≡ index → index ≤ count → count ≤ index → pos n ≡ pos count
+all_counted n index count is most least = ap pos (omega (arith, is, most, least))
+
+pub extra : (ranges : Runs) (bytes : List ℕ) (index count : ℕ) (from : ℤ) (rest : List ℕ) (left : Runs) → IsJudged ranges bytes index from rest left → index ≤ count → count ≤ index → 0 < length rest
+    → BatchesFault ranges (pos count) bytes Extra
+extra ranges bytes index count from rest left j most least some = (j.batches, rest, j.has, all_counted (length j.batches) index count j.counted most least, some)
+
+pub all_held : (ranges : Runs) (bytes : List ℕ) (index count : ℕ) (from : ℤ) (rest : List ℕ) (left : Runs) → IsJudged ranges bytes index from rest left → index ≤ count → count ≤ index → rest ≡ []
+    → HoldsBatches ranges (pos count) bytes
+all_held ranges bytes index count from rest left j most least none =
+    (j.batches, subst (HasContent ranges j.batches bytes) none j.has, all_counted (length j.batches) index count j.counted most least)

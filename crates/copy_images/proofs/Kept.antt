@@ -179,6 +179,10 @@ same_batches (x ∷ xs) (y ∷ ys) v w e =
 pub some_left : (xs : List ℕ) (empty : Bool) → empty ≡ (length xs == 0) → empty ≡ false → xs ≡ [] → ⊥
 some_left xs empty asked is none = let e : (length xs == 0) ≡ true = ap (λ (ys : List ℕ). length ys == 0) none in cc
 
+pub longer_than_none : (xs : List ℕ) (empty : Bool) → empty ≡ (length xs == 0) → empty ≡ false → 0 < length xs
+longer_than_none [] empty asked is = absurd (grind arith)
+longer_than_none (x ∷ xs) empty asked is = omega arith
+
 pub none_left : (xs : List ℕ) (empty : Bool) → empty ≡ (length xs == 0) → empty ≡ true → xs ≡ []
 none_left [] empty asked is = refl
 none_left (x ∷ xs) empty asked is = absurd (grind arith)

@@ -1,15 +1,17 @@
 -- An image written part by part.
-use Rattle.std.proofs.Common.{◌≡◌, ℕ, ◌+◌, ◌<◌, ℤ, List, [], ◌∷◌, ◌++◌, length, get_or, take, sym, ap, ◌∙◌, append_assoc, append-nil}
+use Rattle.std.proofs.Common.{◌≡◌, ℕ, ◌+◌, ◌<◌, ◌≤◌, ℤ, pos, List, [], ◌∷◌, ◌++◌, length, get_or, take, sym, ap, subst, ◌∙◌, append_assoc, append-nil, arith}
 use Rattle.std.specs.List.{flat_map, HoldsAt}
 use Rattle.std.specs.Prelude.{FitsSigned, Result, Ok, Err, OnOk, is_ok, if◌then◌else◌}
-use Rattle.std.specs.Int.{w64, to_be_bytes, cast_signed, cast_unsigned}
+use Rattle.std.specs.Int.{w16, w32, w64, to_be_bytes, cast_signed, cast_unsigned}
 use Rattle.std.proofs.lemmas.Int.{to_z-of_z}
-use Rattle.std.proofs.lemmas.List.{take_more}
+use Rattle.std.proofs.lemmas.List.{take_all, take_more}
 use Rattle.std.proofs.lemmas.Grind.{flat_map-append}
 use Rattle.batch_codec.specs.Values.{BatchValue}
-use Rattle.batch_codec.specs.Grammar.{batch_encoding}
+use Rattle.batch_codec.specs.Grammar.{fields, signed, batch_encoding}
 use Rattle.cover_ranges.specs.Runs.{Runs}
-use Rattle.copy_images.specs.Images.{range_encoding}
+use Rattle.content.specs.Content.{Content}
+use Rattle.copy_images.specs.declared.layout.TheConstants.{MARK, VERSION, MAX_COUNT}
+use Rattle.copy_images.specs.Images.{range_encoding, front_of, with_crc, image_of}
 
 -- one more of the elements that are written one after the other
 next_written : {X : Type 0} (enc : X → List ℕ) (old out new : List ℕ) (i : ℕ) (xs : List X) (x : X) → i < length xs → out ≡ old ++ flat_map enc (take i xs)
@@ -20,6 +22,10 @@ next_written enc old out new i xs x low so_far e =
     let one : flat_map enc (take (i + 1) xs) ≡ before ++ here =
     ap (flat_map enc) (take_more xs i x low) ∙ flat_map-append enc (take i xs) (get_or xs i x ∷ []) ∙ ap (λ (y : List ℕ). before ++ y) (append-nil here) in
     e ∙ ap (λ (y : List ℕ). y ++ here) so_far ∙ append_assoc old before here ∙ ap (λ (y : List ℕ). old ++ y) (sym one)
+
+-- all elements, where none is left
+pub all_written : {X : Type 0} (enc : X → List ℕ) (old out : List ℕ) (i : ℕ) (xs : List X) → length xs ≤ i → out ≡ old ++ flat_map enc (take i xs) → out ≡ old ++ flat_map enc xs
+all_written enc old out i xs over so_far = so_far ∙ ap (λ ys. old ++ flat_map enc ys) (take_all i xs over)
 
 -- one more batch, whose bytes are those of the batch there
 pub batch_written : (old out new bytes : List ℕ) (i : ℕ) (bs : List BatchValue) (b : BatchValue) → i < length bs → out ≡ old ++ flat_map batch_encoding (take i bs)
@@ -42,3 +48,48 @@ range_put (Ok x) old mid new first last range f g one two m n =
     let a : first ≡ to_be_bytes w64 (cast_unsigned w64 range.0) = one ∙ ap (λ (z : ℤ). to_be_bytes w64 (cast_unsigned w64 z)) (to_z-of_z w64 range.0 f) in
     let b : last ≡ to_be_bytes w64 (cast_unsigned w64 range.1) = two ∙ ap (λ (z : ℤ). to_be_bytes w64 (cast_unsigned w64 z)) (to_z-of_z w64 range.1 g) in
     n ∙ ap (λ (y : List ℕ). y ++ last) m ∙ append_assoc old first last ∙ (λ i. old ++ (a i ++ (b ∙ sym (append-nil (to_be_bytes w64 (cast_unsigned w64 range.1)))) i))
+
+-- the fields before the ranges, as code writes them
+pub head_put : {T E : Type 0} (r : Result T E) (old a b new mark version number : List ℕ) (count : ℤ) → FitsSigned w32 count
+    → mark ≡ fields ((w32, MARK) ∷ []) → version ≡ fields (signed w16 VERSION ∷ []) → number ≡ fields (signed w32 (cast_signed w32 (cast_unsigned w32 count)) ∷ [])
+    → a ≡ old ++ mark → b ≡ a ++ version → new ≡ (if is_ok r then b ++ number else b) → OnOk r (new ≡ old ++ fields ((w32, MARK) ∷ signed w16 VERSION ∷ signed w32 count ∷ []))
+head_put (Err e) old a b new mark version number count f one two three p q n = tt
+head_put (Ok x) old a b new mark version number count f one two three p q n =
+    let same = to_z-of_z w32 count f in
+    n ∙ ap (λ (y : List ℕ). y ++ number) (q ∙ ap (λ (y : List ℕ). y ++ version) p) ∙ append_assoc (old ++ mark) version number ∙ append_assoc old mark (version ++ number)
+    ∙ (λ i. old ++ (one i ++ (two i ++ (three ∙ ap (λ (z : ℤ). fields (signed w32 z ∷ [])) same) i)))
+
+-- what comes before the batches, as code writes it
+pub front_put : {T E : Type 0} (r : Result T E) (old a b new number : List ℕ) (ranges : Runs) (range_count batch_count : ℤ) → FitsSigned w32 range_count → FitsSigned w32 batch_count → range_count ≡ pos (length ranges)
+    → a ≡ old ++ fields ((w32, MARK) ∷ signed w16 VERSION ∷ signed w32 (cast_signed w32 (cast_unsigned w32 range_count)) ∷ []) → b ≡ a ++ flat_map range_encoding ranges
+    → number ≡ fields (signed w32 (cast_signed w32 (cast_unsigned w32 batch_count)) ∷ []) → new ≡ (if is_ok r then b ++ number else b) → OnOk r (new ≡ old ++ front_of ranges batch_count)
+unfolding front_of
+front_put (Err e) old a b new number ranges range_count batch_count f g is p q three n = tt
+front_put (Ok x) old a b new number ranges range_count batch_count f g is p q three n =
+    let middle = flat_map range_encoding ranges in
+    let head : ℤ → List ℕ = λ z. fields ((w32, MARK) ∷ signed w16 VERSION ∷ signed w32 z ∷ []) in
+    let counted : cast_signed w32 (cast_unsigned w32 range_count) ≡ pos (length ranges) = to_z-of_z w32 range_count f ∙ is in
+    let last : number ≡ fields (signed w32 batch_count ∷ []) = three ∙ ap (λ (z : ℤ). fields (signed w32 z ∷ [])) (to_z-of_z w32 batch_count g) in
+    let front : a ≡ old ++ head (pos (length ranges)) = p ∙ ap (λ (z : ℤ). old ++ head z) counted in
+    n ∙ ap (λ (y : List ℕ). y ++ number) (q ∙ ap (λ (y : List ℕ). y ++ middle) front)
+    ∙ append_assoc (old ++ head (pos (length ranges))) middle number ∙ append_assoc old (head (pos (length ranges))) (middle ++ number)
+    ∙ ap (λ (y : List ℕ). old ++ (head (pos (length ranges)) ++ (middle ++ y))) last
+
+-- an image, as code writes it
+pub image_put : {T E : Type 0} (r : Result T E) (old a b new : List ℕ) (c : Content) (ranges : Runs) (count : ℤ) → FitsSigned w32 count → old ≡ [] → ranges ≡ c.cover → count ≡ pos (length c.kept)
+    → a ≡ old ++ front_of ranges (cast_signed w32 (cast_unsigned w32 count)) → b ≡ a ++ flat_map batch_encoding c.kept → OnOk r (new ≡ with_crc b) → OnOk r (new ≡ image_of c)
+image_put (Err e) old a b new c ranges count f none runs is p q n = tt
+image_put (Ok x) old a b new c ranges count f none runs is p q n =
+    let counted : cast_signed w32 (cast_unsigned w32 count) ≡ pos (length c.kept) = to_z-of_z w32 count f ∙ is in
+    let front : a ≡ front_of c.cover (pos (length c.kept)) = p ∙ (λ i. none i ++ front_of (runs i) (counted i)) in
+    n ∙ ap with_crc (q ∙ ap (λ (y : List ℕ). y ++ flat_map batch_encoding c.kept) front)
+
+-- a count as code passes it on
+pub count_passed : (field : ℤ) (n m : ℕ) → field ≡ pos n → n ≤ MAX_COUNT → n ≡ m → cast_signed w32 (cast_unsigned w32 field) ≡ pos m
+count_passed field n m is few same =
+    let fits : FitsSigned w32 field = subst (FitsSigned w32) (sym is) (record { sfits = omega (arith, few) }) in
+    to_z-of_z w32 field fits ∙ is ∙ ap pos same
+
+pub on_ok : {T E : Type 0} (r : Result T E) (P : Type 0) → P → OnOk r P
+on_ok (Ok x) P p = p
+on_ok (Err e) P p = tt

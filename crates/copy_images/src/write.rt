@@ -53,7 +53,6 @@ fn put_range<A: Allocator + Copy>(
 }
 
 /// Appends ranges.
-#[tactic(auto, using(crate::proofs::Written::range_written))]
 fn put_ranges<A: Allocator + Copy>(
     out: &mut Vec<u8, A>,
     ranges: &[(i64, i64)],
@@ -68,7 +67,6 @@ fn put_ranges<A: Allocator + Copy>(
 }
 
 /// Appends the bytes of the kept batches.
-#[tactic(auto, using(crate::proofs::Written::batch_written))]
 fn put_batches<A: Allocator + Copy, S: BatchStore>(
     out: &mut Vec<u8, A>,
     copy: &PartitionLog<S>,
@@ -91,12 +89,59 @@ fn put_crc<A: Allocator + Copy>(out: &mut Vec<u8, A>) -> Result<(), AllocError>
     out.extend_from_slice(&crc.to_be_bytes())
 }
 
+/// Appends what comes before the batches.
+fn put_front<A: Allocator + Copy>(
+    out: &mut Vec<u8, A>,
+    ranges: &[(i64, i64)],
+    range_count: i32,
+    batch_count: i32,
+) -> Result<(), AllocError>
+    requires { range_count ≡ pos (length ranges.now) }
+    ensures { OnOk result (out.new.items ≡ out.old.items ++ front_of ranges.now batch_count) }
+{
+    put_head(out, range_count)?;
+    put_ranges(out, ranges)?;
+    out.extend_from_slice(&batch_count.to_be_bytes())
+}
+
+/// Appends an image to nothing.
+fn put_image<A: Allocator + Copy, S: BatchStore>(
+    out: &mut Vec<u8, A>,
+    copy: &PartitionLog<S>,
+    range_count: i32,
+    batch_count: i32,
+) -> Result<(), AllocError>
+    requires nothing { out.old.items ≡ [] }
+    requires ranges { range_count ≡ pos (length copy.now.cover) }
+    requires batches { batch_count ≡ pos (length copy.now.kept) }
+    ensures { OnOk result (out.new.items ≡ image_of copy.now) }
+{
+    put_front(out, copy.cover().ranges(), range_count, batch_count)?;
+    put_batches(out, copy)?;
+    put_crc(out)
+}
+
+/// A copy's image, given its counts, in memory that is taken at once.
+fn new_image<A: Allocator + Copy, S: BatchStore>(
+    alloc: A,
+    copy: &PartitionLog<S>,
+    range_count: i32,
+    batch_count: i32,
+) -> Result<Vec<u8, A>, AllocError>
+    requires ranges { range_count ≡ pos (length copy.now.cover) }
+    requires batches { batch_count ≡ pos (length copy.now.kept) }
+    ensures { IfOk result (λ image. image.items ≡ image_of copy.now) }
+{
+    let mut out = Vec::with_capacity(alloc, size_of(copy))?;
+    put_image(&mut out, copy, range_count, batch_count)?;
+    Ok(out)
+}
+
 /// Makes the image of a copy. Its memory is taken at once, and each batch's bytes are copied once.
 ///
 /// # Errors
 ///
 /// Out of memory; so it is also of a copy with more than `MAX_COUNT` ranges, or more batches than that.
-#[tactic(auto, unfolding(crate::specs::Images::front_of))]
 pub fn write_image<A: Allocator + Copy, S: BatchStore>(
     alloc: A,
     copy: &PartitionLog<S>,
@@ -105,14 +150,7 @@ pub fn write_image<A: Allocator + Copy, S: BatchStore>(
     ensures counts_the_ranges { OnOk result (length copy.now.cover ≤ MAX_COUNT) }
     ensures counts_the_batches { OnOk result (length copy.now.kept ≤ MAX_COUNT) }
 {
-    let ranges = copy.cover().ranges();
-    let range_count = count_field(ranges.len())?;
+    let range_count = count_field(copy.cover().ranges().len())?;
     let batch_count = count_field(copy.len())?;
-    let mut out = Vec::with_capacity(alloc, size_of(copy))?;
-    put_head(&mut out, range_count)?;
-    put_ranges(&mut out, ranges)?;
-    out.extend_from_slice(&batch_count.to_be_bytes())?;
-    put_batches(&mut out, copy)?;
-    put_crc(&mut out)?;
-    Ok(out)
+    new_image(alloc, copy, range_count, batch_count)
 }

@@ -3,7 +3,8 @@ use Rattle.std.specs.Prelude.{ℤ, ◌^◌, ◌<ℤ◌, FitsSigned}
 use Rattle.std.specs.Int.{w64, cast_signed, cast_unsigned}
 use Rattle.std.proofs.lemmas.Int.{ints}
 use Rattle.copy_images.specs.Judging.{ranges_of}
-use Rattle.copy_images.proofs.Judged.{IsAsked, judged_none, asked, judged_step, outside}
+use Rattle.copy_images.proofs.Judged.{IsAsked, judged_none, asked, judged_step, outside, starts_within, no_next, extra, all_held}
+use Rattle.copy_images.proofs.Kept.{longer_than_none, none_left}
 use Rattle.copy_images.proofs.batches.judge_batches.Goals as goal
 
 pub loop-index-init : goal.loop-index-init
@@ -32,3 +33,20 @@ loop-index-preserved c =
     let one_more : cast_signed w64 (cast_unsigned w64 (cast_signed w64 (cast_unsigned w64 c.last_offset-last.result) +ℤ pos 1)) ≡ c.last_offset-last.result +ℤ pos 1 = omega (arith, ints) in
     let from = one_more ∙ ap (λ (z : ℤ). z +ℤ pos 1) end in
     judged_step (ranges_of c.args.ranges.now) c.args.bytes.now c.loop-index.index _ _ c.loop-index.rest.now old left b _ c.first_holds.result c.requires c.loop-index.invariant c.in-Some.ensures a c.if-not-first_holds.false (ap length c.bytes.ensures.encoding) from
+
+pub slice_bounds-rest-count : goal.slice_bounds-rest-count
+slice_bounds-rest-count c = starts_within _ c.in-Some.batch c.loop-index.rest.now c.bytes.result.now c.in-Some.ensures c.bytes.ensures.encoding
+
+pub returns-in-None-clause-refuses : goal.returns-in-None-clause-refuses
+returns-in-None-clause-refuses c =
+    no_next (ranges_of c.args.ranges.now) c.args.bytes.now c.loop-index.index c.args.count _ c.loop-index.rest.now (ranges_of c.loop-index.left.now) c.loop-index.invariant c.in-None.ensures c.loop-index-test.true
+
+pub returns-then-not-is_empty-clause-refuses : goal.returns-then-not-is_empty-clause-refuses
+returns-then-not-is_empty-clause-refuses c =
+    extra (ranges_of c.args.ranges.now) c.args.bytes.now c.loop-index.index c.args.count _ c.loop-index.rest.now (ranges_of c.loop-index.left.now) c.loop-index.invariant c.loop-index.auto.index-end c.loop-index-test.false
+    (longer_than_none c.loop-index.rest.now c.is_empty.result c.is_empty.ensures c.if-not-is_empty.true)
+
+pub returns-clause-accepts : goal.returns-clause-accepts
+returns-clause-accepts c =
+    all_held (ranges_of c.args.ranges.now) c.args.bytes.now c.loop-index.index c.args.count _ c.loop-index.rest.now (ranges_of c.loop-index.left.now) c.loop-index.invariant c.loop-index.auto.index-end c.loop-index-test.false
+    (none_left c.loop-index.rest.now c.is_empty.result c.is_empty.ensures c.if-not-is_empty.false)

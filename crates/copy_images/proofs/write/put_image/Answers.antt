@@ -1,0 +1,8 @@
+use Rattle.std.proofs.Common.{◌∙◌}
+use Rattle.copy_images.proofs.Written.{image_put}
+use Rattle.copy_images.proofs.write.put_image.Goals as goal
+
+pub returns : goal.returns
+returns g c =
+    image_put c.put_crc.result c.args.out.now.items c.put_front.new.out.items c.put_batches.new.out.items c.put_crc.new.out.items c.args.copy.now c.ranges-2.result.now c.args.batch_count
+    c.ranges.batch_count c.requires.nothing (c.ranges-2.ensures.lists_runs ∙ c.cover.ensures) c.requires.batches c.in_ok-put_front.ensures c.in_ok-put_batches.ensures c.put_crc.ensures
