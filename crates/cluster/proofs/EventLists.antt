@@ -1,11 +1,14 @@
 -- One event more at the end of a list.
-use Rattle.std.proofs.Common.{◌≡◌, ℕ, ◌+◌, ◌<◌, Result, List, [], ◌∷◌, ◌++◌, length, get_or, take, refl, sym, ap, subst, ◌∙◌}
-use Rattle.std.proofs.lemmas.List.{take_more}
+use Rattle.std.proofs.Common.{◌≡◌, ℕ, ◌+◌, ◌<◌, ◌≤◌, Result, List, [], ◌∷◌, ◌++◌, length, get_or, take, refl, sym, ap, subst, ◌∙◌}
+use Rattle.std.proofs.lemmas.List.{take_all, take_more}
 use Rattle.cluster.specs.declared.event.Event.{Event}
 use Rattle.cluster.specs.declared.event.Outcome.{Outcome}
 use Rattle.cluster.specs.declared.event.EventError.{EventError}
 use Rattle.cluster.specs.Worlds.{World}
 use Rattle.cluster.specs.Events.{Steps, Runs}
+
+pub none_run : (A : Type 0) (w : World) (rs : List (Result Outcome EventError)) → rs ≡ [] → Runs {A = A} w [] rs w
+none_run A w rs none = subst (λ (x : List (Result Outcome EventError)). Runs {A = A} w [] x w) (sym none) refl
 
 module _ {A : Type 0} where
   longer : (w m after : World) (es : List (Event A)) (rs : List (Result Outcome EventError)) (e : Event A) (r : Result Outcome EventError) → Runs w es rs m → Steps m e after r → Runs w (es ++ e ∷ []) (rs ++ r ∷ []) after
@@ -19,3 +22,6 @@ module _ {A : Type 0} where
   one_more w m after es i rs rs' e d r lt is runs does grows =
       subst (λ (x : List (Event A)). Runs w x rs' after) (ap (λ (x : Event A). take i es ++ x ∷ []) is ∙ sym (take_more es i d lt))
       (subst (λ (x : List (Result Outcome EventError)). Runs w (take i es ++ e ∷ []) x after) (sym grows) (longer w m after (take i es) rs e r runs does))
+
+  pub all_run : (w after : World) (es : List (Event A)) (i : ℕ) (rs : List (Result Outcome EventError)) → length es ≤ i → Runs w (take i es) rs after → Runs w es rs after
+  all_run w after es i rs over runs = subst (λ (x : List (Event A)). Runs w x rs after) (take_all i es over) runs

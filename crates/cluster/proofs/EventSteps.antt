@@ -1,6 +1,6 @@
 -- What each event makes of the world of the copies.
 use Rattle.std.proofs.Common.{◌≡◌, ℕ, zero, suc, ◌+◌, ◌<◌, ℤ, pos, ◌+ℤ◌, Bool, ◌⊎◌, inl, inr, Result, Ok, Err, List, [], ◌∷◌, length, get_or, set, Some, None, refl, sym, ap, subst, ◌∙◌, cond, arith, true, false, true≢false}
-use Rattle.std.specs.Prelude.{slice_get, ◌↔◌}
+use Rattle.std.specs.Prelude.{slice_get, IsErrAnd, ◌↔◌}
 use Rattle.batch_codec.specs.Values.{BatchValue}
 use Rattle.batch_codec.specs.Offsets.{first_offset, IsWhole, HasKeys}
 use Rattle.content.specs.declared.delivery.Delivered.{Delivered}
@@ -20,7 +20,7 @@ use Rattle.cluster.specs.declared.event.Outcome.TheVariants as outcome
 use Rattle.cluster.specs.declared.event.EventError.{EventError}
 use Rattle.cluster.specs.declared.event.EventError.TheVariants.{NoCopy, LeaderCopy, NoBatch, NoImage, BadBatch, Extra, Append, OutOfMemory}
 use Rattle.cluster.specs.Worlds.{World, copy_at, with_copy}
-use Rattle.cluster.specs.Events.{IsFollower, Delivers}
+use Rattle.cluster.specs.Events.{IsFollower, RefusesFollower, RefusesDelivery, RefusesMerge, Delivers, Merges}
 use Rattle.cluster.specs.Parts.{DeliversTo}
 use Rattle.cluster.specs.Headline.{IsCopyOf, IsConsistent}
 use Rattle.cluster.proofs.WorldSteps.{copy_is, after_change, start_of_add}
@@ -161,3 +161,33 @@ pub no_batch : (W w : World) (copy i batch : ℕ) (archive : List BatchValue) �
 no_batch W w copy i batch archive view number lt log at =
     let follows = a_follower w copy i number lt in
     (follows.0, follows.1, ap (λ (x : World). slice_get x.log batch) (sym view) ∙ ap (λ (xs : List BatchValue). slice_get xs batch) (sym log) ∙ sym at)
+
+-- ---- a number that is no follower's
+
+refuses_delivery : (w : World) (copy batch : ℕ) (e : EventError) → RefusesFollower w copy e → RefusesDelivery w copy batch e
+refuses_delivery w copy batch NoCopy refuses = refuses
+refuses_delivery w copy batch LeaderCopy refuses = refuses
+refuses_delivery w copy batch NoBatch refuses = absurd refuses
+refuses_delivery w copy batch NoImage refuses = absurd refuses
+refuses_delivery w copy batch (BadBatch x) refuses = absurd refuses
+refuses_delivery w copy batch Extra refuses = absurd refuses
+refuses_delivery w copy batch (Append x) refuses = absurd refuses
+refuses_delivery w copy batch OutOfMemory refuses = absurd refuses
+
+refuses_merge : (w : World) (copy image : ℕ) (e : EventError) → RefusesFollower w copy e → RefusesMerge w copy image e
+refuses_merge w copy image NoCopy refuses = refuses
+refuses_merge w copy image LeaderCopy refuses = refuses
+refuses_merge w copy image NoBatch refuses = absurd refuses
+refuses_merge w copy image NoImage refuses = absurd refuses
+refuses_merge w copy image (BadBatch x) refuses = absurd refuses
+refuses_merge w copy image Extra refuses = absurd refuses
+refuses_merge w copy image (Append x) refuses = absurd refuses
+refuses_merge w copy image OutOfMemory refuses = absurd refuses
+
+pub no_delivery : (w : World) (copy batch : ℕ) (r : Result Outcome EventError) (e : EventError) → IsErrAnd r (λ x. x ≡ e) → RefusesFollower w copy e → Delivers w copy batch w r
+no_delivery w copy batch (Ok x) e is refuses = absurd is
+no_delivery w copy batch (Err x) e is refuses = (refuses_delivery w copy batch x (subst (RefusesFollower w copy) (sym is) refuses), refl)
+
+pub no_merge : (w : World) (copy image : ℕ) (r : Result Outcome EventError) (e : EventError) → IsErrAnd r (λ x. x ≡ e) → RefusesFollower w copy e → Merges w copy image w r
+no_merge w copy image (Ok x) e is refuses = absurd is
+no_merge w copy image (Err x) e is refuses = (refuses_merge w copy image x (subst (RefusesFollower w copy) (sym is) refuses), refl)

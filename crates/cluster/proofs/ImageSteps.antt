@@ -12,8 +12,8 @@ use Rattle.copy_images.specs.Images.{image_of, IsImage}
 use Rattle.copy_images.specs.declared.layout.TheConstants.{MAX_COUNT}
 use Rattle.cluster.specs.Worlds.{World, copy_at, with_copy}
 use Rattle.cluster.specs.Headline.{IsCopyOf, IsConsistent}
-use Rattle.cluster.specs.Events.{IsFollower, Merges}
-use Rattle.cluster.specs.Parts.{MergesImage}
+use Rattle.cluster.specs.Events.{IsFollower, Sends, Merges}
+use Rattle.cluster.specs.Parts.{WritesImage, KeepsImage, MergesImage}
 use Rattle.cluster.specs.declared.event.Outcome.{Outcome}
 use Rattle.cluster.specs.declared.event.Outcome.TheVariants as outcome
 use Rattle.cluster.specs.declared.event.EventError.{EventError}
@@ -24,13 +24,35 @@ use Rattle.cluster.proofs.WorldSteps.{copy_is, image_is, after_image, after_chan
 pub sent_image : (c : Content) → IsContent c → c.start ≡ pos 0 → length c.cover ≤ MAX_COUNT → length c.kept ≤ MAX_COUNT → IsImage (image_of c) c
 sent_image c content start few_ranges few_batches = record { content = content; start = start; ranges = few_ranges; batches = few_batches; encoded = refl }
 
-pub after_sent : (W w : World) (copy : ℕ) (c : Content) (bytes : List ℕ) (images : List (List ℕ)) → W ≡ w → IsConsistent W → copy_at w copy ≡ Some c → c.start ≡ pos 0
-    → length c.cover ≤ MAX_COUNT → length c.kept ≤ MAX_COUNT → bytes ≡ image_of c → images ≡ W.images ++ bytes ∷ [] → IsConsistent (record W { images = images })
-after_sent W w copy c bytes images view is there start few_ranges few_batches encoded grows =
-    let copies : IsCopyOf W.log c = copy_is W is copy c (ap (λ (x : World). copy_at x copy) view ∙ there) in
-    let image : IsImage (image_of c) c = record { content = copies.0; start = start; ranges = few_ranges; batches = few_batches; encoded = refl } in
-    let same : images ≡ W.images ++ image_of c ∷ [] = grows ∙ ap (λ (x : List ℕ). W.images ++ x ∷ []) encoded in
-    subst (λ (x : List (List ℕ)). IsConsistent (record W { images = x })) (sym same) (after_image W is c copies image)
+kept_steps : (w : World) → IsConsistent w → (copy : ℕ) (bytes : List ℕ) (after : List (List ℕ)) (r : Result Outcome EventError) → WritesImage w copy bytes → KeepsImage w.images bytes after r
+    → IsConsistent (record w { images = after }) × Sends w copy (record w { images = after }) r
+kept_steps w is copy bytes after (Ok (outcome.Sent number)) (c, there, few_ranges, few_batches, encoded) (grows, counted) =
+    let copies : IsCopyOf w.log c = copy_is w is copy c there in
+    let image : IsImage (image_of c) c = sent_image c copies.0 copies.2 few_ranges few_batches in
+    let same : after ≡ w.images ++ image_of c ∷ [] = grows ∙ ap (λ (x : List ℕ). w.images ++ x ∷ []) encoded in (
+      subst (λ (x : List (List ℕ)). IsConsistent (record w { images = x })) (sym same) (after_image w is c copies image),
+      (c, there, image, ap (λ (x : List (List ℕ)). record w { images = x }) same, counted),
+    )
+kept_steps w is copy bytes after (Err OutOfMemory) (c, there, few_ranges, few_batches, encoded) same =
+    (subst (λ (x : List (List ℕ)). IsConsistent (record w { images = x })) (sym same) is, ((c, there), ap (λ (x : List (List ℕ)). record w { images = x }) same))
+kept_steps w is copy bytes after (Ok (outcome.Based x y)) writes keeps = absurd keeps
+kept_steps w is copy bytes after (Ok (outcome.Delivered x)) writes keeps = absurd keeps
+kept_steps w is copy bytes after (Ok (outcome.Cleaned x)) writes keeps = absurd keeps
+kept_steps w is copy bytes after (Ok outcome.Merged) writes keeps = absurd keeps
+kept_steps w is copy bytes after (Err NoCopy) writes keeps = absurd keeps
+kept_steps w is copy bytes after (Err LeaderCopy) writes keeps = absurd keeps
+kept_steps w is copy bytes after (Err NoBatch) writes keeps = absurd keeps
+kept_steps w is copy bytes after (Err NoImage) writes keeps = absurd keeps
+kept_steps w is copy bytes after (Err (BadBatch x)) writes keeps = absurd keeps
+kept_steps w is copy bytes after (Err Extra) writes keeps = absurd keeps
+kept_steps w is copy bytes after (Err (Append x)) writes keeps = absurd keeps
+
+-- the same, as code finds the images
+pub after_kept : (W w : World) (copy : ℕ) (bytes : List ℕ) (images : List (List ℕ)) (r : Result Outcome EventError) → W ≡ w → IsConsistent W → WritesImage w copy bytes → KeepsImage W.images bytes images r
+    → IsConsistent (record W { images = images }) × Sends w copy (record W { images = images }) r
+after_kept W w copy bytes images r view is writes keeps =
+    let done = kept_steps W is copy bytes images r (subst (λ (x : World). WritesImage x copy bytes) (sym view) writes) keeps in
+    (done.0, subst (λ (x : World). Sends x copy (record W { images = images }) r) view done.1)
 
 -- nothing was appended, seen or sent
 pub new_consistent : (log : List BatchValue) (leader : Content) (followers : List Content) (images : List (List ℕ)) (n : ℕ) → log ≡ [] → leader ≡ empty → followers ≡ replicate n empty → images ≡ []

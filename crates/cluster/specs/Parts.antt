@@ -1,5 +1,5 @@
 -- Words of private clauses: what an event makes of the parts of a cluster.
-use Rattle.std.specs.Prelude.{◌≡◌, ◌≢◌, ◌↔◌, ℕ, true, false, List, [], ◌∷◌, ◌++◌, Result, Ok, Err}
+use Rattle.std.specs.Prelude.{◌≡◌, ◌≢◌, ◌≤◌, ◌↔◌, ℕ, Some, length, true, false, List, [], ◌∷◌, ◌++◌, Result, Ok, Err}
 use Rattle.std.specs.declared.alloc.AllocError.{AllocError}
 use Rattle.batch_codec.specs.Values.{BatchValue}
 use Rattle.content.specs.declared.report.CleanReport.{CleanReport}
@@ -7,12 +7,14 @@ use Rattle.content.specs.declared.verdict.Verdict.TheVariants as verdict
 use Rattle.content.specs.declared.delivery.Delivered.TheVariants.{Repeat}
 use Rattle.content.specs.Content.{Content, end, add, has_seen_all, HasSeenNone}
 use Rattle.content.specs.Joins.{join}
-use Rattle.copy_images.specs.Images.{IsImage}
+use Rattle.copy_images.specs.declared.layout.TheConstants.{MAX_COUNT}
+use Rattle.copy_images.specs.Images.{image_of, IsImage}
 use Rattle.partition_log.specs.Appends.{IsSendable, kept_verdict, at_end, IsNew, RefusesAppend}
 use Rattle.partition_log.specs.declared.leader.AppendError.{AppendError}
 use Rattle.partition_log.specs.declared.leader.AppendError.TheVariants as append
+use Rattle.cluster.specs.Worlds.{World, copy_at}
 use Rattle.cluster.specs.declared.event.Outcome.{Outcome}
-use Rattle.cluster.specs.declared.event.Outcome.TheVariants.{Based, Delivered, Cleaned, Merged}
+use Rattle.cluster.specs.declared.event.Outcome.TheVariants.{Based, Delivered, Cleaned, Sent, Merged}
 use Rattle.cluster.specs.declared.event.EventError.{EventError}
 use Rattle.cluster.specs.declared.event.EventError.TheVariants.{Append, OutOfMemory}
 
@@ -37,6 +39,17 @@ AppendsTo c log b after longer (Err _) = ⊥
 abbrev pub clean_outcome : Result CleanReport AllocError → Result Outcome EventError
 clean_outcome (Ok report) = Ok (Cleaned report)
 clean_outcome (Err error) = Err OutOfMemory
+
+-- the image of a copy of the cluster, whose ranges and batches can be counted
+abbrev pub WritesImage : World → (copy : ℕ) → List ℕ → Type 0
+WritesImage w copy bytes =
+    (c : Content) × (copy_at w copy ≡ Some c) × (length c.cover ≤ MAX_COUNT) × (length c.kept ≤ MAX_COUNT) × (bytes ≡ image_of c)
+
+-- what the images become, given one more
+abbrev pub KeepsImage : List (List ℕ) → List ℕ → List (List ℕ) → Result Outcome EventError → Type 0
+KeepsImage images bytes after (Ok (Sent image)) = (after ≡ images ++ bytes ∷ []) × (image ≡ length images)
+KeepsImage images bytes after (Err OutOfMemory) = after ≡ images
+KeepsImage images bytes after _ = ⊥
 
 -- what a copy becomes, given an image that it agrees with
 abbrev pub MergesImage : Content → List ℕ → Content → Result Outcome EventError → Type 0

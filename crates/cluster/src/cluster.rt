@@ -60,7 +60,7 @@ fn empty_copies<S: BatchStore>(
 {
     let mut copies = Vec::with_capacity(alloc, count)?;
     for _ in 0..count {
-        copies.push(PartitionLog::new(alloc))?;
+        copies.push_reserved(PartitionLog::new(alloc));
     }
     Ok(copies)
 }

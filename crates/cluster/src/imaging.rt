@@ -1,12 +1,12 @@
 //! Images of copies, sent and merged.
 
-ghost use Rattle.std.specs.Prelude.{◌≡◌, map, slice_get};
+ghost use Rattle.std.specs.Prelude.{◌≡◌, map, slice_get, IfOk, IfErr};
 ghost use Rattle.std.specs.Option.{option_map};
 ghost use Rattle.content.specs.Content.{Content};
 ghost use Rattle.content.specs.Joins.{Agree};
 ghost use Rattle.copy_images.specs.Images.{IsImage};
-ghost use Rattle.cluster.specs.Events.{Sends, Merges};
-ghost use Rattle.cluster.specs.Parts.{MergesImage};
+ghost use Rattle.cluster.specs.Events.{RefusesCopy, Sends, Merges};
+ghost use Rattle.cluster.specs.Parts.{WritesImage, KeepsImage, MergesImage};
 
 use crate::cluster::Cluster;
 use crate::event::{EventError, Outcome};
@@ -43,25 +43,45 @@ fn merge_image<S: BatchStore>(
     }
 }
 
+/// Keeps an image that was written, behind all others.
+fn keep_image<A: Allocator + Copy>(
+    images: &mut Vec<Vec<u8, A>, A>,
+    image: Vec<u8, A>,
+) -> Result<Outcome, EventError>
+    ensures { KeepsImage (map (λ image. image.items) images.old.items) image.items
+        (map (λ image. image.items) images.new.items) result }
+{
+    let number = images.len();
+    let Ok(()) = images.push(image) else {
+        return Err(EventError::OutOfMemory);
+    };
+    Ok(Outcome::Sent { image: number })
+}
+
 impl<S: BatchStore> Cluster<S> {
-    /// Sends an image of a copy.
-    #[tactic(auto, using(crate::proofs::ImageSteps::sent_image))]
-    pub(crate) fn send(&mut self, copy: usize) -> Result<Outcome, EventError>
-        ensures { Sends self.old copy self.new result }
+    /// The image of a copy, by the copy's number.
+    fn written(&self, copy: usize) -> Result<Vec<u8, S::Alloc>, EventError>
+        ensures writes { IfOk result (λ image. WritesImage self.now copy image.items) }
+        ensures refuses { IfErr result (RefusesCopy self.now copy) }
     {
         let Some(copy) = self.copy(copy) else {
             return Err(EventError::NoCopy);
         };
-        let _ = copy.start();
-        let _ = copy.end();
-        let number = self.images.len();
-        let Ok(image) = write_image(self.alloc, copy) else {
-            return Err(EventError::OutOfMemory);
+        match write_image(self.alloc, copy) {
+            Ok(image) => Ok(image),
+            Err(_) => Err(EventError::OutOfMemory),
+        }
+    }
+
+    /// Sends an image of a copy.
+    pub(crate) fn send(&mut self, copy: usize) -> Result<Outcome, EventError>
+        ensures { Sends self.old copy self.new result }
+    {
+        let image = match self.written(copy) {
+            Ok(image) => image,
+            Err(error) => return Err(error),
         };
-        let Ok(()) = self.images.push(image) else {
-            return Err(EventError::OutOfMemory);
-        };
-        Ok(Outcome::Sent { image: number })
+        keep_image(&mut self.images, image)
     }
 
     /// Merges an image that was sent into a follower.

@@ -2,7 +2,7 @@ use Rattle.std.proofs.Common.{◌≡◌, ◌<◌, List, length, Some, ap, sym, r
 use Rattle.std.specs.Prelude.{slice_get}
 use Rattle.batch_codec.specs.Values.{BatchValue}
 use Rattle.cluster.specs.Worlds.{World}
-use Rattle.cluster.proofs.EventSteps.{at_index, on_log, follower_copy, after_delivery, no_batch}
+use Rattle.cluster.proofs.EventSteps.{at_index, on_log, follower_copy, after_delivery, no_batch, no_delivery}
 use Rattle.cluster.proofs.cluster.Cluster.deliver.Goals as goal
 
 pub deliver_to-requires : goal.deliver_to-requires
@@ -31,3 +31,6 @@ returns-in-None g c = (
       c.self.view_is c.in_ok-follower.ensures.follows.0 c.in_ok-follower.ensures.follows.1 c.deref.ensures.value (sym (sym c.archived_at.ensures ∙ c.in-None.is)),
   refl,
 )
+
+pub returns-in_err-follower : goal.returns-in_err-follower
+returns-in_err-follower g c = no_delivery c.args.self.now c.args.copy c.args.batch c.from_residual.result c.in_err-follower.field-0.0 c.from_residual.ensures.1 c.in_err-follower.ensures.refuses

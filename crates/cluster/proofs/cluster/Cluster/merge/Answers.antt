@@ -1,5 +1,6 @@
 use Rattle.std.proofs.Common.{refl, map, ap}
 use Rattle.cluster.proofs.ImageSteps.{after_merge, agrees_with_image, no_image}
+use Rattle.cluster.proofs.EventSteps.{no_merge}
 use Rattle.cluster.proofs.cluster.Cluster.merge.Goals as goal
 
 pub merge_image-requires : goal.merge_image-requires
@@ -25,3 +26,6 @@ returns-in-None g c = (
       c.in_ok-follower.ensures.follows.0 c.in_ok-follower.ensures.follows.1 (ap (λ images. map (λ image. image.items) images) c.deref.ensures.value) c.in-None.ensures,
   refl,
 )
+
+pub returns-in_err-follower : goal.returns-in_err-follower
+returns-in_err-follower g c = no_merge c.args.self.now c.args.copy c.args.image c.from_residual.result c.in_err-follower.field-0.0 c.from_residual.ensures.1 c.in_err-follower.ensures.refuses
