@@ -1,6 +1,6 @@
 -- Turns and batches that are added to a plan.
-use Rattle.std.proofs.Common.{◌≡◌, Bool, true, List, [], ◌∷◌, ◌++◌, inl, Some, None, refl, sym, ap, subst, ◌∙◌, arith}
-use Rattle.std.specs.Prelude.{if◌then◌else◌}
+use Rattle.std.proofs.Common.{◌≡◌, Bool, true, List, [], ◌∷◌, ◌++◌, inl, Some, None, Result, Ok, Err, refl, sym, ap, subst, ◌∙◌, arith}
+use Rattle.std.specs.Prelude.{OnOk, if◌then◌else◌}
 use Rattle.std.proofs.lemmas.Int.{ints}
 use Rattle.std.proofs.lemmas.List.{append-nil, append_assoc}
 use Rattle.batch_codec.specs.Values.{BatchValue}
@@ -53,3 +53,18 @@ nothing ts ms = nothing_comes ts ts ms ms refl refl
 
 pub nothing_where : (seen : Bool) (y : BatchValue) (ts : List Turn) (ms : Batches) → seen ≡ true → Adds None (if seen then None else Some y) ts ts ms ms
 nothing_where seen y ts ms is = subst (λ (t : Bool). Adds None (if t then None else Some y) ts ts ms ms) (sym is) (nothing ts ms)
+
+-- ---- the same, of what may lack memory
+
+pub stays_on_ok : {T E : Type 0} (r : Result T E) (x z : BatchValue) (ts us : List Turn) (ms ns : Batches) → z ≡ x → OnOk r (us ≡ ts ++ Stay ∷ []) → ns ≡ ms → OnOk r (Adds (Some x) (Some z) ts us ms ns)
+stays_on_ok (Err e) x z ts us ms ns same turns more = tt
+stays_on_ok (Ok u) x z ts us ms ns same turns more = subst (λ (b : BatchValue). Adds (Some x) (Some b) ts us ms ns) (sym same) (stays x ts us ms ns turns more)
+
+pub replaced_on_ok : {T E : Type 0} (r : Result T E) (z : BatchValue) (ts us vs : List Turn) (ms ls ns : Batches) → us ≡ ts ++ Go ∷ [] → ls ≡ ms → OnOk r (vs ≡ us ++ Come ∷ []) → OnOk r (ns ≡ ls ++ z ∷ [])
+    → OnOk r ((x : BatchValue) → Adds (Some x) (Some z) ts vs ms ns)
+replaced_on_ok (Err e) z ts us vs ms ls ns goes same comes more = tt
+replaced_on_ok (Ok u) z ts us vs ms ls ns goes same comes more = λ x. replaced x z ts us vs ms ns goes comes (more ∙ ap (λ (bs : Batches). bs ++ z ∷ []) same)
+
+pub replaced_by : {T E : Type 0} (r : Result T E) (x z w : BatchValue) (ts us : List Turn) (ms ns : Batches) → z ≡ w → OnOk r ((x : BatchValue) → Adds (Some x) (Some z) ts us ms ns) → OnOk r (Adds (Some x) (Some w) ts us ms ns)
+replaced_by (Err e) x z w ts us ms ns same does = tt
+replaced_by (Ok u) x z w ts us ms ns same does = subst (λ (b : BatchValue). Adds (Some x) (Some b) ts us ms ns) same (does x)

@@ -61,6 +61,12 @@ records_of_rise b w = deltas_rise b.head (negsuc 0) b.recs w.valid.records
 pub common_of : (x y : BatchValue) → Writable x → Writable y → walk_common x.recs y.recs ≡ (with_common_records x y).recs
 common_of x y is_x is_y = common_is (pos 0) (pos 0) x.recs y.recs y.recs (records_of_rise x is_x) (records_of_rise y is_y) (λ k le. refl)
 
+pub common_is_batch : (x y : BatchValue) (head : BatchHead) (recs kept : List RecordValue) → Writable x → Writable y → record { head = head; recs = recs } ≡ x → kept ≡ walk_common recs y.recs
+    → record { head = head; recs = kept } ≡ with_common_records x y
+common_is_batch x y head recs kept is_x is_y is common =
+    let all : kept ≡ (with_common_records x y).recs = common ∙ ap (λ (b : BatchValue). walk_common b.recs y.recs) is ∙ common_of x y is_x is_y in
+    λ i. record { head = (is i).head; recs = all i }
+
 pub all_of : (x y : BatchValue) → Writable x → Writable y → walk_has_all x.recs y.recs ≡ true → with_common_records x y ≡ x
 all_of x y is_x is_y e =
     let same : (with_common_records x y).recs ≡ x.recs = sym (common_of x y is_x is_y) ∙ has_all_common x.recs y.recs e in

@@ -60,7 +60,6 @@ fn common_records<'a, A: Allocator + Copy>(
 }
 
 /// A batch with only those records at whose offsets the other has one too.
-#[tactic(auto, using(crate::proofs::Walks::common_of))]
 pub(crate) fn common_batch<'a, A: Allocator + Copy>(
     alloc: A,
     x: &BatchView<'a>,

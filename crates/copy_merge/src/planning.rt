@@ -71,6 +71,22 @@ fn bring_encoded<S: BatchStore, A: Allocator + Copy>(
     }
 }
 
+/// Lets the first copy's next batch go, and brings in another in its place.
+fn replace<S: BatchStore, A: Allocator + Copy>(
+    plan: &mut Plan<S>,
+    alloc: A,
+    batch: &Batch<A>,
+) -> Result<(), AllocError>
+    requires in_range { IsInRange batch.now }
+    requires behind { EndBefore (first_offset batch.now) (S.batches plan.old.more) }
+    ensures { OnOk result ((x : BatchValue) → Adds (Some x) (Some batch.now)
+        plan.old.turns.items plan.new.turns.items
+        (S.batches plan.old.more) (S.batches plan.new.more)) }
+{
+    add_turn(plan, Turn::Go)?;
+    bring_encoded(plan, alloc, batch)
+}
+
 /// What becomes of a batch that the first copy keeps alone: it goes if the second one has seen it.
 fn plan_left<S: BatchStore>(
     plan: &mut Plan<S>,
@@ -127,8 +143,7 @@ fn plan_both<'a, S: BatchStore>(
         return add_turn(plan, Turn::Stay);
     }
     let batch = common_batch(alloc, x, y)?;
-    add_turn(plan, Turn::Go)?;
-    bring_encoded(plan, alloc, &batch)
+    replace(plan, alloc, &batch)
 }
 
 /// What becomes of the batches that come next.
