@@ -73,8 +73,6 @@ enum Asked<'a, A: Allocator + Copy> {
     Events(&'a [Event<A>]),
     /// That it answers batches that are sent, one after the other.
     Batches,
-    /// That it refuses numbers that nothing has.
-    Numbers,
 }
 
 /// What is wrong of a cluster; `None` where it does what is asked.
@@ -93,7 +91,6 @@ fn wrong_of<A: Allocator + Copy>(
         }
         Asked::Events(events) => first_wrong(&facts(cluster, events)),
         Asked::Batches => first_wrong(&sent_batches(alloc, cluster)),
-        Asked::Numbers => wrong_refusal(alloc, cluster),
     }
 }
 
@@ -294,83 +291,5 @@ fn sent_batches<A: Allocator + Copy>(
 #[test]
 fn batches_that_are_sent(rt: HostRuntime) {
     let wrong = wrong_of_new(rt.alloc(), 2, &Asked::Batches);
-    assert_eq!(rt; wrong, Ok(None));
-}
-
-/// Whether the delivery of a batch is answered so.
-fn delivers<A: Allocator + Copy>(
-    cluster: &mut Cluster<VecStore<A>>,
-    copy: usize,
-    batch: usize,
-    why: EventError,
-) -> bool {
-    answers(cluster, &Event::Deliver { copy, batch }, Err(why))
-}
-
-/// Whether the merge of an image is answered so.
-fn merges<A: Allocator + Copy>(
-    cluster: &mut Cluster<VecStore<A>>,
-    copy: usize,
-    image: usize,
-    why: EventError,
-) -> bool {
-    answers(cluster, &Event::Merge { copy, image }, Err(why))
-}
-
-/// Whether the sending of a copy is answered so.
-fn sends<A: Allocator + Copy>(
-    cluster: &mut Cluster<VecStore<A>>,
-    copy: usize,
-    why: EventError,
-) -> bool {
-    answers(cluster, &Event::Send { copy }, Err(why))
-}
-
-/// Whether the cleaning of a copy is answered so.
-fn cleans<A: Allocator + Copy>(
-    cluster: &mut Cluster<VecStore<A>>,
-    copy: usize,
-    why: EventError,
-) -> bool {
-    let event = Event::Clean {
-        copy,
-        upto: 9,
-        tomb_before: 9,
-    };
-    answers(cluster, &event, Err(why))
-}
-
-/// Events with numbers that a cluster of two copies and one batch doesn't have, by name, and whether it
-/// answers them right.
-fn refusals<A: Allocator + Copy>(cluster: &mut Cluster<VecStore<A>>) -> [(&'static str, bool); 8] {
-    let leader = EventError::LeaderCopy;
-    let no_copy = EventError::NoCopy;
-    [
-        ("a batch to the leader", delivers(cluster, 0, 9, leader)),
-        ("a batch to copy 2", delivers(cluster, 2, 9, no_copy)),
-        ("batch 1", delivers(cluster, 1, 1, EventError::NoBatch)),
-        ("an image to the leader", merges(cluster, 0, 9, leader)),
-        ("an image to copy 2", merges(cluster, 2, 9, no_copy)),
-        ("image 0", merges(cluster, 1, 0, EventError::NoImage)),
-        ("an image of copy 2", sends(cluster, 2, no_copy)),
-        ("a cleaning of copy 2", cleans(cluster, 2, no_copy)),
-    ]
-}
-
-/// The first of them that is answered wrong, once the cluster has the batch.
-fn wrong_refusal<A: Allocator + Copy>(
-    alloc: A,
-    cluster: &mut Cluster<VecStore<A>>,
-) -> Option<&'static str> {
-    if answers_to(alloc, cluster, &sent(7, 0, 0), based(0)) {
-        first_wrong(&refusals(cluster))
-    } else {
-        Some("the batch")
-    }
-}
-
-#[test]
-fn numbers_that_nothing_has(rt: HostRuntime) {
-    let wrong = wrong_of_new(rt.alloc(), 2, &Asked::Numbers);
     assert_eq!(rt; wrong, Ok(None));
 }

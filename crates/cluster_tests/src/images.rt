@@ -12,8 +12,6 @@ use std::alloc::Allocator;
 /// What is asked of a copy that was read from an image.
 #[derive(Clone, Copy)]
 pub(crate) enum Asked {
-    /// Nothing more.
-    Nothing,
     /// That it has the same image.
     Image,
     /// That the copies made of its parts have the same image.
@@ -30,7 +28,6 @@ fn does<A: Allocator + Copy, B: Allocator + Copy>(
     asked: Asked,
 ) -> bool {
     match asked {
-        Asked::Nothing => true,
         Asked::Image => has_image(inner, copy, image),
         Asked::Parts => is_made_of_parts(copy, image),
         Asked::Merge => is_received(copy),
@@ -48,11 +45,6 @@ pub(crate) fn read<A: Allocator + Copy, B: Allocator + Copy>(
         Ok(copy) => Ok(does(inner, &copy, image, asked)),
         Err(why) => Err(why),
     }
-}
-
-/// The refusal of bytes as an image, in memory that suffices.
-pub(crate) fn refusal<A: Allocator + Copy>(alloc: A, bytes: &[u8]) -> Option<ImageError> {
-    read(alloc, alloc, bytes, Asked::Nothing).err()
 }
 
 /// Whether the copy that is read from an image does what is asked, in memory that suffices.
@@ -106,34 +98,28 @@ fn images_are_read_and_written(rt: HostRuntime) {
     assert_eq!(rt; first_wrong(&rows), None);
 }
 
-/// The refusal of the image `B_IS_2` with one byte changed.
-fn changed_byte(at: usize) -> ImageError {
-    match at {
-        0..4 => ImageError::BadMark,
-        4..6 => ImageError::BadVersion,
-        _ => ImageError::BadCrc,
+/// Whether a refusal is printed so.
+fn prints<A: Allocator>(alloc: A, error: ImageError, name: &str) -> bool {
+    match format!(in alloc; "{error}") {
+        Ok(printed) => printed.as_str() == name,
+        Err(_) => false,
     }
 }
 
 #[test]
-fn an_image_that_is_cut(rt: HostRuntime) {
-    for len in 0..B_IS_2.len() {
-        let wanted = if len < 18 {
-            ImageError::Short
-        } else {
-            ImageError::BadCrc
-        };
-        let cut = refusal(rt.alloc(), &B_IS_2[..len]);
-        assert_eq!(rt; cut, Some(wanted), "{len} bytes");
-    }
-}
-
-#[test]
-fn an_image_that_is_changed(rt: HostRuntime) {
-    for at in 0..B_IS_2.len() {
-        let mut bytes = B_IS_2;
-        bytes[at] ^= 0x10;
-        let changed = refusal(rt.alloc(), &bytes);
-        assert_eq!(rt; changed, Some(changed_byte(at)), "byte {at}");
+fn refusals_print_their_names(rt: HostRuntime) {
+    let rows = [
+        (ImageError::Short, "Short"),
+        (ImageError::BadMark, "BadMark"),
+        (ImageError::BadVersion, "BadVersion"),
+        (ImageError::BadCrc, "BadCrc"),
+        (ImageError::BadCover, "BadCover"),
+        (ImageError::BadBatch(7), "BadBatch 7"),
+        (ImageError::Outside, "Outside"),
+        (ImageError::Extra, "Extra"),
+        (ImageError::OutOfMemory, "OutOfMemory"),
+    ];
+    for (error, name) in rows {
+        assert!(rt; prints(rt.alloc(), error, name), "{name}");
     }
 }

@@ -1,14 +1,47 @@
 //! Copies that were read from an image, and then lead.
 
 use crate::copies::{VecLog, first_wrong, has_image};
-use crate::refusals::image_with;
 use batch_codec::view;
+use checksum::crc32c;
 use copy_images::{read_image, write_image};
 use outside_batches::{A_IS_1, one, sent};
 use partition_log::{AppendError, Appended, CleanReport, LeaderLog, PartitionLog};
 use segment::VecStore;
-use std::alloc::Allocator;
+use std::alloc::{AllocError, Allocator};
 use std::test::Fail;
+
+/// Adds bytes in the form of an image, up to its crc.
+fn add_body<A: Allocator>(
+    out: &mut Vec<u8, A>,
+    range_count: i32,
+    ranges: &[(i64, i64)],
+    batch_count: i32,
+    batches: &[u8],
+) -> Result<(), AllocError> {
+    out.extend_from_slice(b"KCPY\0\0")?;
+    out.extend_from_slice(&range_count.to_be_bytes())?;
+    for (first, last) in ranges {
+        out.extend_from_slice(&first.to_be_bytes())?;
+        out.extend_from_slice(&last.to_be_bytes())?;
+    }
+    out.extend_from_slice(&batch_count.to_be_bytes())?;
+    out.extend_from_slice(batches)
+}
+
+/// Bytes in the form of an image, with the crc that they should have.
+fn image_with<A: Allocator>(
+    alloc: A,
+    range_count: i32,
+    ranges: &[(i64, i64)],
+    batch_count: i32,
+    batches: &[u8],
+) -> Result<Vec<u8, A>, AllocError> {
+    let mut bytes = Vec::new(alloc);
+    add_body(&mut bytes, range_count, ranges, batch_count, batches)?;
+    let crc = crc32c(&bytes);
+    bytes.extend_from_slice(&crc.to_be_bytes())?;
+    Ok(bytes)
+}
 
 /// What the leader answers: the base offset, and whether it had the batch.
 type Answer = Result<(i64, bool), AppendError>;

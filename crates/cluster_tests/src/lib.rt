@@ -19,5 +19,3 @@ mod merging;
 mod outside;
 #[cfg(test)]
 mod parts;
-#[cfg(test)]
-mod refusals;

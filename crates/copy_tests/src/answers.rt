@@ -1,6 +1,6 @@
-//! What a leader's log answers to a batch.
+//! What a leader's log and a copy answer to a batch.
 use batch_codec::view;
-use partition_log::{AppendError, LeaderLog};
+use partition_log::{AppendError, Delivered, LeaderLog, PartitionLog};
 use segment::VecStore;
 use std::alloc::Allocator;
 
@@ -18,5 +18,16 @@ pub(crate) fn answer<A: Allocator + Copy>(log: &mut VecLeader<A>, bytes: &[u8]) 
             Err(why) => Err(why),
         }),
         Err(_) => None,
+    }
+}
+
+/// Whether a batch is delivered to a copy as a new one.
+pub(crate) fn is_added<A: Allocator + Copy>(
+    copy: &mut PartitionLog<VecStore<A>>,
+    bytes: &[u8],
+) -> bool {
+    match view(bytes) {
+        Ok(batch) => copy.deliver(&batch) == Ok(Delivered::Added),
+        Err(_) => false,
     }
 }

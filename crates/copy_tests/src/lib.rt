@@ -4,13 +4,9 @@
 #[cfg(test)]
 mod answers;
 #[cfg(test)]
-mod cleaning;
-#[cfg(test)]
 mod delivery;
 #[cfg(test)]
 mod delivery_memory;
-#[cfg(test)]
-mod leader;
 #[cfg(test)]
 mod memory;
 #[cfg(test)]
@@ -19,5 +15,3 @@ mod names;
 mod producers;
 #[cfg(test)]
 mod reads;
-#[cfg(test)]
-mod steps;

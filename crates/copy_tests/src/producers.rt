@@ -1,9 +1,8 @@
 //! A leader's log of many producers: what it answers to each, with an index of producers and without, and
 //! where memory lacks for the index.
-use crate::answers::{Answer, VecLeader, answer};
-use crate::cleaning::is_delivered;
+use crate::answers::{Answer, VecLeader, answer, is_added};
 use outside_batches::{one, sent};
-use partition_log::{AppendError, CleanReport, Delivered, LeaderLog, PartitionLog};
+use partition_log::{AppendError, CleanReport, LeaderLog, PartitionLog};
 use refusing_alloc::Refusing;
 use segment::VecStore;
 use std::alloc::{AllocError, Allocator};
@@ -222,8 +221,8 @@ fn copy_of_two<A: Allocator + Copy>(heap: A) -> Option<PartitionLog<VecStore<A>>
     // its base offset
     second[7] = 1;
     let mut copy = PartitionLog::<VecStore<_>>::new(heap);
-    let is_first = is_delivered(&mut copy, &first, Ok(Delivered::Added));
-    if is_first && is_delivered(&mut copy, &second, Ok(Delivered::Added)) {
+    let is_first = is_added(&mut copy, &first);
+    if is_first && is_added(&mut copy, &second) {
         Some(copy)
     } else {
         None
