@@ -2,6 +2,7 @@
 
 It shares nothing with the program that is tested on them.
 """
+import re
 import struct
 
 import batches
@@ -29,7 +30,7 @@ def ranges_of(words):
     """FIRST-LAST with commas between, or `none`."""
     if words == "none":
         return []
-    return [tuple(int(it) for it in each.split("-")) for each in words.split(",")]
+    return [tuple(int(it) for it in re.fullmatch(r"(-?\d+)-(-?\d+)", each).groups()) for each in words.split(",")]
 
 
 def image_of(words, root):
@@ -42,6 +43,15 @@ def image_of(words, root):
         name, colon, rest = words.partition(":")
     ranges, _, forms = words.partition(" ")
     return image(ranges_of(ranges), [input_of(it, root) for it in forms.split(" + ") if it], fields)
+
+
+def flipped(data, at):
+    """The bytes with a bit of one of them turned."""
+    return data[:at] + bytes([data[at] ^ 0x10]) + data[at + 1 :]
+
+
+# what becomes of bytes and a number
+CHANGES = {"cut": lambda data, size: data[:size], "flip": flipped}
 
 
 def input_of(words, root):
@@ -59,6 +69,9 @@ def input_of(words, root):
     if kind == "sized":
         data = input_of(rest, root)
         return struct.pack(">i", len(data)) + data
+    if kind in ("cut", "flip"):
+        number, _, form = rest.partition(" ")
+        return CHANGES[kind](input_of(form, root), int(number))
     return frames.input_of(words, root)
 
 

@@ -8,6 +8,8 @@ mod delivery;
 #[cfg(test)]
 mod delivery_memory;
 #[cfg(test)]
+mod leader;
+#[cfg(test)]
 mod memory;
 #[cfg(test)]
 mod names;

@@ -7,7 +7,8 @@ use Rattle.broker_node.specs.State.{ConfigValue, TopicConfig}
 use Rattle.broker_node.specs.declared.config.Role.{Role}
 use Rattle.broker_node.specs.declared.config.Role.TheVariants.{Leader, Follower}
 use Rattle.clap.specs.Lexer.{usize_max}
-use Rattle.clap.specs.Words.{App, IsAmong, Kinds, Row, Rule, Shape, Text, new_app, new_rule, with_rule, with_subcommand, first_of, one_of, all_of, fault_of, subcommand_of}
+use Rattle.clap.specs.Words.{App, IsAmong, Kinds, Row, Rule, Shape, Text, AddsSubcommand, app_of, new_app, new_rule, with_rule, with_subcommand, first_of, one_of, all_of, fault_of, subcommand_of}
+use Rattle.clap.specs.declared.builder.command.Command.{Command}
 use Rattle.clap.specs.declared.builder.value_parser.ValueParser.{ValueParser}
 use Rattle.clap.specs.declared.builder.value_parser.ValueParser.TheVariants as parsers
 use Rattle.clap.specs.declared.error.kind.ErrorKind.TheVariants as kind
@@ -48,6 +49,11 @@ session_app roles = with_rule (with_rule (new_app (codes "session")) (role_rule 
 abbrev pub serve_app : Roles → App
 serve_app roles = with_rule (with_rule (with_rule (with_rule (new_app (codes "serve"))
     port_rule) (role_rule roles)) connections_rule) topics_rule
+
+-- added to a command, it is a subcommand with these rules
+abbrev pub IsSubcommand : App → Command → Type 0
+IsSubcommand app command = (old new : Command) → AddsSubcommand old command new
+    → app_of new ≡ with_subcommand (app_of old) app.top
 
 -- the settings of `kbroker` itself: it has a version, and a subcommand has to be named
 abbrev pub top : Shape

@@ -1,8 +1,8 @@
 //! The commands and arguments that the program takes.
 
-ghost use Rattle.std.specs.Prelude.{◌≡◌, IfOk, false};
-ghost use Rattle.clap.specs.Words.{app_of, rule_of, with_subcommand};
-ghost use Rattle.tcp_edge.specs.CommandLine.{IsRoles, Roles, kbroker, session_app, serve_app, role_rule, topics_rule, port_rule, connections_rule};
+ghost use Rattle.std.specs.Prelude.{◌≡◌, [], IfOk, codes, false};
+ghost use Rattle.clap.specs.Words.{App, app_of, new_app, rule_of, with_subcommand};
+ghost use Rattle.tcp_edge.specs.CommandLine.{IsRoles, IsSubcommand, Roles, kbroker, session_app, serve_app, role_rule, top, topics_rule, port_rule, connections_rule};
 
 use clap::{Arg, Command, value_parser};
 use std::alloc::{AllocError, Global};
@@ -114,40 +114,75 @@ fn connections_arg<'a>(alloc: Global) -> Arg<'a>
         .value_parser(value_parser!(u32))
 }
 
-/// The command, with the subcommand `session`.
-fn with_session<'a>(
-    kbroker: Command<'a>,
-    alloc: Global,
-    roles: &'a [&'a str],
-) -> Result<Command<'a>, AllocError>
-    ensures { IfOk result (λ command.
-        app_of command ≡ with_subcommand (app_of kbroker.entry) (session_app roles.entry).top) }
+/// The subcommand `session`.
+fn session<'a>(alloc: Global, roles: &'a [&'a str]) -> Result<Command<'a>, AllocError>
+    ensures { IfOk result (IsSubcommand (session_app roles.entry)) }
 {
-    let session = Command::new(alloc, "session")
+    Command::new(alloc, "session")
         .about(ABOUT_SESSION)
         .after_help(EXAMPLE_SESSION)
         .arg(role_arg(alloc, roles))?
-        .arg(topics_arg(alloc))?;
-    kbroker.subcommand(session)
+        .arg(topics_arg(alloc))
 }
 
-/// The command, with the subcommand `serve`.
-fn with_serve<'a>(
-    kbroker: Command<'a>,
-    alloc: Global,
-    roles: &'a [&'a str],
-) -> Result<Command<'a>, AllocError>
-    ensures { IfOk result (λ command.
-        app_of command ≡ with_subcommand (app_of kbroker.entry) (serve_app roles.entry).top) }
+/// The subcommand `serve`.
+fn serve<'a>(alloc: Global, roles: &'a [&'a str]) -> Result<Command<'a>, AllocError>
+    ensures { IfOk result (IsSubcommand (serve_app roles.entry)) }
 {
-    let serve = Command::new(alloc, "serve")
+    Command::new(alloc, "serve")
         .about(ABOUT_SERVE)
         .after_help(EXAMPLE_SERVE)
         .arg(port_arg(alloc))?
         .arg(role_arg(alloc, roles))?
         .arg(connections_arg(alloc))?
-        .arg(topics_arg(alloc))?;
-    kbroker.subcommand(serve)
+        .arg(topics_arg(alloc))
+}
+
+/// The command, with a subcommand more. Only here a command is let go, where the subcommand couldn't be made.
+fn add_subcommand<'a>(
+    kbroker: Command<'a>,
+    subcommand: Result<Command<'a>, AllocError>,
+) -> Result<Command<'a>, AllocError>
+    ensures { IfOk result (λ command. (app : App) → IfOk subcommand.entry (IsSubcommand app)
+        → app_of command ≡ with_subcommand (app_of kbroker.entry) app.top) }
+{
+    match subcommand {
+        Ok(subcommand) => kbroker.subcommand(subcommand),
+        Err(error) => Err(error),
+    }
+}
+
+/// The subcommand `replay`.
+fn replay<'a>(alloc: Global) -> Command<'a>
+    ensures { IsSubcommand (new_app (codes "replay")) result }
+{
+    Command::new(alloc, "replay")
+        .about(ABOUT_REPLAY)
+        .after_help(SCRIPT)
+}
+
+/// The subcommand `merge`.
+fn merge<'a>(alloc: Global) -> Command<'a>
+    ensures { IsSubcommand (new_app (codes "merge")) result }
+{
+    Command::new(alloc, "merge").about(ABOUT_MERGE)
+}
+
+/// The subcommand `table`.
+fn table<'a>(alloc: Global) -> Command<'a>
+    ensures { IsSubcommand (new_app (codes "table")) result }
+{
+    Command::new(alloc, "table").about(ABOUT_TABLE)
+}
+
+/// The command, without its subcommands.
+fn alone<'a>(alloc: Global) -> Command<'a>
+    ensures { app_of result ≡ record { top = top; subs = [] } }
+{
+    Command::new(alloc, "kbroker")
+        .version("0.1.0")
+        .about(ABOUT)
+        .subcommand_required(true)
 }
 
 /// What the program can be asked for.
@@ -156,17 +191,9 @@ pub(crate) fn command<'a>(alloc: Global) -> Result<Command<'a>, AllocError>
         × (app_of command ≡ kbroker roles)) }
 {
     let roles = roles();
-    let table = Command::new(alloc, "table").about(ABOUT_TABLE);
-    let first = Command::new(alloc, "kbroker")
-        .version("0.1.0")
-        .about(ABOUT)
-        .subcommand_required(true)
-        .subcommand(table)?;
-    let second = with_session(first, alloc, roles)?;
-    let third = with_serve(second, alloc, roles)?;
-    let replay = Command::new(alloc, "replay")
-        .about(ABOUT_REPLAY)
-        .after_help(SCRIPT);
-    let merge = Command::new(alloc, "merge").about(ABOUT_MERGE);
-    third.subcommand(replay)?.subcommand(merge)
+    let first = add_subcommand(alone(alloc), Ok(table(alloc)))?;
+    let second = add_subcommand(first, session(alloc, roles))?;
+    let third = add_subcommand(second, serve(alloc, roles))?;
+    let fourth = add_subcommand(third, Ok(replay(alloc)))?;
+    add_subcommand(fourth, Ok(merge(alloc)))
 }

@@ -1,19 +1,15 @@
-use Rattle.std.proofs.Common.{rules, refl, [], ap, ap₂, ◌≡◌, ◌∙◌, codes}
+use Rattle.std.proofs.Common.{[], ap, ◌≡◌, ◌∙◌, codes}
 use Rattle.std.proofs.lemmas.Result.{IfOk-weaker}
-use Rattle.clap.specs.Words.{App, Shape, app_of, new_app, with_subcommand}
-use Rattle.clap.specs.Simple.{app_of_fields}
+use Rattle.clap.specs.Words.{App, app_of, new_app, with_subcommand}
 use Rattle.tcp_edge.specs.CommandLine.{Roles, session_app, serve_app, top}
 use Rattle.tcp_edge.proofs.commands.command.Goals as goal
 
-abbrev top_of : App → Shape
-top_of a = a.top
-
 -- the command with its first subcommands
-abbrev with_table : App
-with_table = with_subcommand (record { top = top; subs = [] }) (new_app (codes "table")).top
+abbrev up_to_table : App
+up_to_table = with_subcommand (record { top = top; subs = [] }) (new_app (codes "table")).top
 
 abbrev up_to_session : Roles → App
-up_to_session roles = with_subcommand with_table (session_app roles).top
+up_to_session roles = with_subcommand up_to_table (session_app roles).top
 
 abbrev up_to_serve : Roles → App
 up_to_serve roles = with_subcommand (up_to_session roles) (serve_app roles).top
@@ -21,24 +17,23 @@ up_to_serve roles = with_subcommand (up_to_session roles) (serve_app roles).top
 abbrev up_to_replay : Roles → App
 up_to_replay roles = with_subcommand (up_to_serve roles) (new_app (codes "replay")).top
 
+-- one subcommand more
+with_more : (a b : App) (sub : App) → a ≡ b → with_subcommand a sub.top ≡ with_subcommand b sub.top
+with_more a b sub e = ap (λ x. with_subcommand x sub.top) e
+
 pub returns : goal.returns
 returns c =
     let roles = c.roles-roles.result in
-    let none_is : app_of c.subcommand_required.result ≡ record { top = top; subs = [] } = search rules in
-    let alone_is : app_of c.about-table.result ≡ new_app (codes "table") = ap app_of_fields c.about-table.ensures ∙ c.new.ensures.app in
-    let replay_is : app_of c.after_help-replay.result ≡ new_app (codes "replay") =
-    ap app_of_fields c.after_help-replay.ensures ∙ ap app_of_fields c.about-2.ensures ∙ c.new-3.ensures.app in
-    let merge_is : app_of c.about-merge.result ≡ new_app (codes "merge") = ap app_of_fields c.about-merge.ensures ∙ c.new-4.ensures.app in
-    let first_is : app_of c.in_ok-first.first ≡ with_table =
-    c.in_ok-first.ensures.shape (rw c.about-table.ensures c.new.ensures.local) ∙ ap₂ with_subcommand none_is (ap top_of alone_is) in
+    let first_is : app_of c.in_ok-first.first ≡ up_to_table =
+    c.in_ok-first.ensures (new_app (codes "table")) c.table.ensures ∙ with_more _ _ (new_app (codes "table")) c.alone.ensures in
     let second_is : app_of c.in_ok-second.second ≡ up_to_session roles =
-    c.in_ok-second.ensures ∙ ap₂ with_subcommand first_is refl in
+    c.in_ok-second.ensures (session_app roles) c.session.ensures ∙ with_more _ _ (session_app roles) first_is in
     let third_is : app_of c.in_ok-third.third ≡ up_to_serve roles =
-    c.in_ok-third.ensures ∙ ap₂ with_subcommand second_is refl in
-    let fourth_is : app_of c.in_ok-subcommand.field-0 ≡ up_to_replay roles =
-    c.in_ok-subcommand.ensures.shape (rw (c.after_help-replay.ensures, c.about-2.ensures) c.new-3.ensures.local) ∙ ap₂ with_subcommand third_is (ap top_of replay_is) in
-    IfOk-weaker c.subcommand-3.result _ _ (λ command h. (
+    c.in_ok-third.ensures (serve_app roles) c.serve.ensures ∙ with_more _ _ (serve_app roles) second_is in
+    let fourth_is : app_of c.in_ok-fourth.fourth ≡ up_to_replay roles =
+    c.in_ok-fourth.ensures (new_app (codes "replay")) c.replay.ensures ∙ with_more _ _ (new_app (codes "replay")) third_is in
+    IfOk-weaker c.add_subcommand-5.result _ _ (λ command h. (
       roles,
       c.roles-roles.ensures,
-      h.shape (rw c.about-merge.ensures c.new-4.ensures.local) ∙ ap₂ with_subcommand fourth_is (ap top_of merge_is),
-    )) c.subcommand-3.ensures
+      h (new_app (codes "merge")) c.merge.ensures ∙ with_more _ _ (new_app (codes "merge")) fourth_is,
+    )) c.add_subcommand-5.ensures

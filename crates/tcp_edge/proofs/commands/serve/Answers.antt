@@ -3,7 +3,7 @@ use Rattle.std.proofs.lemmas.Result.{IfOk-weaker}
 use Rattle.clap.specs.Words.{App, Shape, app_of, new_app, with_rule, with_subcommand}
 use Rattle.clap.specs.Simple.{app_of_fields}
 use Rattle.tcp_edge.specs.CommandLine.{serve_app}
-use Rattle.tcp_edge.proofs.commands.with_serve.Goals as goal
+use Rattle.tcp_edge.proofs.commands.serve.Goals as goal
 
 abbrev top_of : App → Shape
 top_of a = a.top
@@ -12,13 +12,8 @@ pub returns : goal.returns
 returns c =
     let is_new : app_of c.after_help.result ≡ new_app (codes "serve") =
     ap app_of_fields c.after_help.ensures ∙ ap app_of_fields c.about.ensures ∙ c.new.ensures.app in
-    let serve_is : app_of c.in_ok-serve.serve ≡ serve_app c.args.roles = c.in_ok-serve.ensures.shape c.topics_arg.ensures.local
-    ∙ ap₂ with_rule (c.in_ok-arg-3.ensures.shape c.connections_arg.ensures.local
-    ∙ ap₂ with_rule (c.in_ok-arg-2.ensures.shape c.role_arg.ensures.local
-    ∙ ap₂ with_rule (c.in_ok-arg.ensures.shape c.port_arg.ensures.local
-    ∙ ap₂ with_rule is_new c.port_arg.ensures.rule) c.role_arg.ensures.rule) c.connections_arg.ensures.rule) c.topics_arg.ensures.rule in
-    IfOk-weaker c.subcommand.result _ _ (λ command h. h.shape (rw (
-      c.in_ok-serve.ensures.globals,
+    IfOk-weaker c.arg-4.result _ _ (λ command h old new adds. adds.shape (rw (
+      h.globals,
       c.topics_arg.ensures.local,
       c.in_ok-arg-3.ensures.globals,
       c.connections_arg.ensures.local,
@@ -29,4 +24,10 @@ returns c =
       c.after_help.ensures,
       c.about.ensures,
       c.new.ensures.local,
-    ) refl) ∙ ap (with_subcommand (app_of c.args.kbroker)) (ap top_of serve_is)) c.subcommand.ensures
+    ) refl) ∙ ap (with_subcommand (app_of old)) (ap top_of (
+    h.shape c.topics_arg.ensures.local
+    ∙ ap₂ with_rule (c.in_ok-arg-3.ensures.shape c.connections_arg.ensures.local
+    ∙ ap₂ with_rule (c.in_ok-arg-2.ensures.shape c.role_arg.ensures.local
+    ∙ ap₂ with_rule (c.in_ok-arg.ensures.shape c.port_arg.ensures.local
+    ∙ ap₂ with_rule is_new c.port_arg.ensures.rule) c.role_arg.ensures.rule) c.connections_arg.ensures.rule) c.topics_arg.ensures.rule
+    ))) c.arg-4.ensures
