@@ -144,6 +144,17 @@ def produced_and_sent():
     return produced(["send 0"], ["image 0"])
 
 
+def received(more=(), answers=()):
+    """Batches of many records, an image of them merged into an empty copy, and then these lines."""
+    given, wanted = produced(["send 0", "merge 1 0", *more], ["image 0", "merged", *answers])
+    return given.replace(b"copies 1", b"copies 2", 1), wanted
+
+
+def received_again():
+    """Those, the image merged again: it is read, and nothing of it is taken."""
+    return received(["merge 1 0"], ["merged"])
+
+
 # ---- images
 
 
