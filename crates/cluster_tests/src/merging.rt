@@ -1,9 +1,11 @@
-//! `merge` and `merge_into`: merges worked by hand, with the bytes of their images.
+//! `merge` and `merge_into`: merges worked by hand, with the bytes of their images, and copies that
+//! disagree.
 
-use crate::copies::{VecLog, are_added, are_cleaned, has_image, shows};
-use crate::outside::{A_AND_B, B_IS_2, NONE_OF_TWO};
-use copy_merge::{merge, merge_into};
-use outside_batches::{null_at, one};
+use crate::copies::{VecLog, are_added, are_cleaned, first_wrong, has_image, shows};
+use crate::outside::{A_AND_B, B_IS_2, NONE_OF_TWO, TWO};
+use copy_images::write_image;
+use copy_merge::{MergeError, merge, merge_into};
+use outside_batches::{nine_at, null_at, one, three_at};
 use partition_log::{CleanReport, PartitionLog};
 use std::alloc::Allocator;
 
@@ -136,13 +138,60 @@ fn records_stay_that_both_have(rt: HostRuntime) {
     assert!(rt; is_right(rt.alloc(), &Pair::Superseded));
 }
 
-/// Two copies that merge.
+/// Whether both calls refuse the second copy at this base beside the first, which keeps this image.
+fn refuse<A: Allocator + Copy>(
+    alloc: A,
+    (left, right): (&VecLog<A>, &VecLog<A>),
+    base: i64,
+    image: &[u8],
+) -> bool {
+    let wanted = MergeError::Disagree { base };
+    match left.try_clone() {
+        Ok(mut changed) => {
+            let answers = [
+                merge(left, right).err() == Some(wanted),
+                merge_into(&mut changed, right) == Err(wanted),
+                has_image(alloc, &changed, image),
+            ];
+            answers == [true; 3]
+        }
+        Err(_) => false,
+    }
+}
+
+/// Whether both calls refuse the second copy at this base beside the first, which stays as it is.
+fn refuse_in_order<A: Allocator + Copy>(
+    alloc: A,
+    left: &VecLog<A>,
+    right: &VecLog<A>,
+    base: i64,
+) -> bool {
+    match write_image(alloc, left) {
+        Ok(image) => refuse(alloc, (left, right), base, &image),
+        Err(_) => false,
+    }
+}
+
+/// Whether both calls, in both orders, refuse two copies at this base, and change nothing.
+fn disagree<A: Allocator + Copy>(alloc: A, left: &VecLog<A>, right: &VecLog<A>, base: i64) -> bool {
+    refuse_in_order(alloc, left, right, base) && refuse_in_order(alloc, right, left, base)
+}
+
+/// Two copies that merge, or don't.
 #[derive(Clone, Copy)]
 enum Pair<'a> {
     /// The first dropped the record of this batch, and the second has it.
-    Dropped { batch: &'a [u8] },
+    Dropped {
+        batch: &'a [u8],
+    },
     /// Each superseded another record of one batch.
     Superseded,
+    /// They have these batches, and disagree at this base.
+    Apart {
+        left: &'a [&'a [u8]],
+        right: &'a [&'a [u8]],
+        base: i64,
+    },
 }
 
 /// Whether two new copies become such a pair.
@@ -154,10 +203,11 @@ fn become_pair<A: Allocator + Copy>(
     match pair {
         Pair::Dropped { batch } => drops_a(first, batch) && are_added(second, &[batch]),
         Pair::Superseded => drop_one_each(first, second),
+        Pair::Apart { left, right, .. } => are_added(first, left) && are_added(second, right),
     }
 }
 
-/// Whether the two copies of such a pair merge as they should.
+/// Whether the two copies of such a pair merge, or don't, as they should.
 fn merge_as_pair<A: Allocator + Copy>(
     alloc: A,
     first: &VecLog<A>,
@@ -167,10 +217,11 @@ fn merge_as_pair<A: Allocator + Copy>(
     match pair {
         Pair::Dropped { .. } => stays_gone(alloc, first, second),
         Pair::Superseded => both_go(alloc, first, second),
+        Pair::Apart { base, .. } => disagree(alloc, first, second, *base),
     }
 }
 
-/// Whether two new copies become such a pair, and merge as they should.
+/// Whether two new copies become such a pair, and merge, or don't, as they should.
 fn are_right<A: Allocator + Copy>(
     alloc: A,
     first: &mut VecLog<A>,
@@ -185,4 +236,44 @@ fn is_right<A: Allocator + Copy>(alloc: A, pair: &Pair<'_>) -> bool {
     let mut first = PartitionLog::new(alloc);
     let mut second = PartitionLog::new(alloc);
     are_right(alloc, &mut first, &mut second, pair)
+}
+
+/// Whether copies of these batches disagree so.
+fn apart<A: Allocator + Copy>(alloc: A, left: &[&[u8]], right: &[&[u8]], base: i64) -> bool {
+    is_right(alloc, &Pair::Apart { left, right, base })
+}
+
+/// Batches of two logs, by name, and whether copies of them disagree as they should.
+fn of_two_logs<A: Allocator + Copy>(alloc: A) -> [(&'static str, bool); 5] {
+    let first = one(0, 0, b'a', b'1');
+    let value = one(0, 0, b'a', b'2');
+    let time = one(0, 1, b'a', b'1');
+    let second = one(1, 0, b'a', b'2');
+    let within = nine_at(6);
+    let around = three_at(5);
+    [
+        ("another value", apart(alloc, &[&first], &[&value], 0)),
+        ("another time", apart(alloc, &[&first], &[&time], 0)),
+        ("another span", apart(alloc, &[&TWO], &[&first], 0)),
+        (
+            "the second offset alone",
+            apart(alloc, &[&TWO], &[&second], 0),
+        ),
+        ("an offset within", apart(alloc, &[&within], &[&around], 5)),
+    ]
+}
+
+#[test]
+fn copies_of_two_logs(rt: HostRuntime) {
+    assert_eq!(rt; first_wrong(&of_two_logs(rt.alloc())), None);
+}
+
+#[test]
+fn the_least_base_at_fault(rt: HostRuntime) {
+    let first = one(0, 0, b'a', b'1');
+    let second = one(1, 0, b'a', b'2');
+    let third = one(2, 0, b'a', b'8');
+    let left: &[&[u8]] = &[&first, &nine_at(1), &nine_at(2)];
+    let right: &[&[u8]] = &[&third, &second, &first];
+    assert!(rt; apart(rt.alloc(), left, right, 1));
 }
