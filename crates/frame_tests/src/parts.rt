@@ -20,81 +20,50 @@ pub(crate) const STORED: ProducedPartition = ProducedPartition {
     base: 72_623_859_790_382_856,
 };
 
-pub(crate) const STORED_FIRST: ProducedPartition = ProducedPartition {
-    index: 0,
-    code: 0,
-    base: 0,
-};
-
-pub(crate) const NOT_STORED: ProducedPartition = ProducedPartition {
-    index: 2,
-    code: 3,
-    base: -1,
-};
-
-pub(crate) const READ: FetchedPartition = FetchedPartition {
+const READ: FetchedPartition = FetchedPartition {
     index: 0,
     code: 0,
     end: 5,
 };
 
-pub(crate) const NOT_READ: FetchedPartition = FetchedPartition {
-    index: 7,
-    code: 1,
-    end: -1,
-};
-
-pub(crate) const FOUND: ListedPartition = ListedPartition {
+const FOUND: ListedPartition = ListedPartition {
     index: 0,
     code: 0,
     time: 1_700_000_000_000,
     offset: 3,
 };
 
-pub(crate) const NOT_FOUND: ListedPartition = ListedPartition {
-    index: 1,
-    code: 42,
-    time: -1,
-    offset: -1,
-};
-
-pub(crate) const BROKER: MetadataBroker<'static> = MetadataBroker {
+const BROKER: MetadataBroker<'static> = MetadataBroker {
     node_id: 1,
     host: b"h.eu",
     port: 9092,
 };
 
-pub(crate) const INTERNAL: MetadataTopic<'static> = MetadataTopic {
+const INTERNAL: MetadataTopic<'static> = MetadataTopic {
     code: 0,
     name: b"ab",
     is_internal: true,
 };
 
-pub(crate) const UNKNOWN: MetadataTopic<'static> = MetadataTopic {
-    code: 3,
-    name: b"c",
-    is_internal: false,
-};
-
-pub(crate) const LED: MetadataPartition = MetadataPartition {
+const LED: MetadataPartition = MetadataPartition {
     code: 0,
     index: 0,
     leader: Some(1),
 };
 
-pub(crate) const LEADERLESS: MetadataPartition = MetadataPartition {
+const LEADERLESS: MetadataPartition = MetadataPartition {
     code: 5,
     index: 1,
     leader: None,
 };
 
 /// The number of parts that `put_part` knows.
-pub(crate) const PARTS: u32 = 13;
+pub(crate) const PARTS: usize = 13;
 
 /// Appends the part of that number.
 pub(crate) fn put_part<A: Allocator + Copy>(
     out: &mut Vec<u8, A>,
-    part: u32,
+    part: usize,
 ) -> Result<(), AllocError> {
     match part {
         0 => begin_response(out, 258),
