@@ -1,28 +1,17 @@
-//! Tests of brokers: which configurations are refused, what a new broker holds, and how it handles
-//! requests; `tests/rows/requests.rows` has each code of each request. Tests of sessions: requests in
-//! pieces, refused frames, failing streams, failing allocations, and a client that waits for each
-//! reply.
+//! Tests of brokers: which hosts they may have, what a new broker holds, the answers of requests and of
+//! sessions, streams that fail, and each allocation failing in turn. `tests/rows` has the codes of
+//! requests, refused frames and topics, and clients that wait for each reply.
 #![tactic(auto)]
 
 #[cfg(test)]
-mod configs;
+mod brokers;
 #[cfg(test)]
-mod handling;
-#[cfg(test)]
-mod logs;
+mod frames;
 #[cfg(test)]
 mod memory;
 #[cfg(test)]
-mod producing;
+mod new_brokers;
 #[cfg(test)]
-mod reading;
+mod pieces;
 #[cfg(test)]
-mod refusals;
-#[cfg(test)]
-mod serving;
-#[cfg(test)]
-mod session_memory;
-#[cfg(test)]
-mod setting;
-#[cfg(test)]
-mod waiting;
+mod sessions;

@@ -1,141 +1,206 @@
-//! A new broker under each allocation failing in turn: it answers so, and is made later.
+//! A broker in memory of which one allocation fails: one call lacks memory and changes nothing, and
+//! made again it does what it is to do.
 
-use crate::configs::configured;
-use broker_core::{Config, ConfigError, Node, Role};
+use crate::brokers::{end_of, has_logs, leader, prints};
+use crate::frames::{
+    ACKS, DESCRIBE, DESCRIBED, FETCH, FETCHED, LIST, LISTED_AT_1, NOT_STORED, PRODUCE, STORED,
+    repeated,
+};
+use crate::pieces::{reader_of, writer_of};
+use crate::sessions::session;
+use broker_core::{Answer, Node};
 use refusing_alloc::Refusing;
-use segment::{BatchStore, VecStore};
-use std::alloc::{AllocError, Allocator};
+use request_frames::parse;
+use segment::BatchStore;
+use std::alloc::Allocator;
 use std::test::Fail;
 
-/// More allocations than a new broker asks for.
-const MOST: u64 = 100;
+// The calls that may lack memory, each a bit of a number, in the order in which they are made.
+const CONFIG: u32 = 1;
 
-/// What came of a call in memory of which one allocation fails.
-#[derive(Clone, Copy, Debug, PartialEq, Eq)]
-pub(crate) enum Came {
-    /// It succeeded: that allocation wasn't asked for.
-    AtOnce,
-    /// It lacked memory and gave nothing, and it succeeded when it was made again.
-    Later,
-    /// Something else.
-    Wrong,
-}
+const NEW: u32 = 2;
 
-/// What came of a call that succeeded, and did this rightly or not.
-pub(crate) fn at_once(is_right: bool) -> Came {
-    if is_right { Came::AtOnce } else { Came::Wrong }
-}
+const PRODUCE_RESPONSE: u32 = 4;
 
-/// What came of a call that failed, and did all else rightly or not.
-pub(crate) fn later(is_right: bool) -> Came {
-    if is_right { Came::Later } else { Came::Wrong }
-}
+const BATCH: u32 = 8;
 
-/// What came of a call that asked for the failing allocation or not: it comes later where it asked, and
-/// nowhere else.
-pub(crate) fn came_of(came: Came, is_asked: bool) -> Came {
-    if is_asked == (came == Came::Later) {
-        came
-    } else {
-        Came::Wrong
+const FETCH_RESPONSE: u32 = 16;
+
+const METADATA_RESPONSE: u32 = 32;
+
+const LIST_RESPONSE: u32 = 64;
+
+const SESSION: u32 = 128;
+
+/// Something else came of a call. No sum with it is a bit.
+const WRONG: u32 = 1000;
+
+/// More allocations than all calls ask for.
+const MOST: u64 = 200;
+
+/// The call that lacks memory where a request isn't answered, the request and its response.
+static REQUESTS: [(u32, &[u8], &[u8]); 4] = [
+    (PRODUCE_RESPONSE, PRODUCE, STORED),
+    (FETCH_RESPONSE, FETCH, FETCHED),
+    (METADATA_RESPONSE, DESCRIBE, DESCRIBED),
+    (LIST_RESPONSE, LIST, LISTED_AT_1),
+];
+
+/// The answer to a frame behind its size; `None` where there was no memory for it, or it is no request.
+fn answer<S: BatchStore, A: Allocator + Copy>(
+    node: &mut Node<S>,
+    frame: &[u8],
+    out: &mut Vec<u8, A>,
+) -> Option<Answer> {
+    match parse(frame.get(4..).unwrap_or(b"")) {
+        Ok(request) => node.handle(&request, out).ok(),
+        Err(_) => None,
     }
 }
 
-/// The same configuration twice.
-fn twice<A: Allocator + Copy>(alloc: A) -> Result<(Config<A>, Config<A>), AllocError> {
-    let topics = [("t", 2), ("u", 9)];
-    let config = configured(alloc, Role::Leader, 9, &topics, 0)?;
-    let again = configured(alloc, Role::Leader, 9, &topics, 0)?;
-    Ok((config, again))
+/// Which call lacked memory, and left nothing behind the output; 0 where the response stands there.
+fn lack_of(is_answered: bool, out: &[u8], call: u32, response: &[u8]) -> u32 {
+    if !is_answered && out.is_empty() {
+        call
+    } else if is_answered && out == response {
+        0
+    } else if is_answered && call == PRODUCE_RESPONSE && out == NOT_STORED {
+        BATCH
+    } else {
+        WRONG
+    }
 }
 
-/// Whether a broker's last log is there, and empty.
-fn has_log<S: BatchStore>(node: &Node<S>) -> bool {
-    node.log(b"u", 8).is_some_and(|log| log.end() == 0)
+/// Sends a request, and again where memory lacked, which changes nothing. Gives the call that lacked it.
+fn sends<S: BatchStore, A: Allocator + Copy>(
+    node: &mut Node<S>,
+    row: &(u32, &[u8], &[u8]),
+    out: &mut Vec<u8, A>,
+) -> u32 {
+    let end = end_of(node);
+    let is_answered = answer(node, row.1, out) == Some(Answer::Reply);
+    let lack = lack_of(is_answered, out, row.0, row.2);
+    if lack == 0 {
+        return 0;
+    }
+    let is_same = end_of(node) == end;
+    out.clear();
+    let is_done = answer(node, row.1, out) == Some(Answer::Reply) && out.as_slice() == row.2;
+    if is_same && is_done { lack } else { WRONG }
 }
 
-/// Whether a refusal is printed as out of memory.
-fn is_out_of_memory<A: Allocator + Copy>(alloc: A, why: ConfigError) -> bool {
-    match format!(in alloc; "{why}") {
-        Ok(text) => text.as_str() == "OutOfMemory",
+/// The calls of a session of two requests that lacked memory behind whole replies; a second one answers both.
+fn serves<S: BatchStore, A: Allocator + Copy>(
+    alloc: A,
+    node: &mut Node<S>,
+    input: &[u8],
+    replies: &[u8],
+) -> u32 {
+    let came = session(alloc, node, reader_of(input, 30), writer_of(replies, 100));
+    if came == ("ended", 2, 0, 0, 4) {
+        return 0;
+    }
+    let lacks = came.0 == "memory" && (came.3 == 82 || came.3 == 41);
+    let again = session(alloc, node, reader_of(input, 30), writer_of(replies, 100));
+    if lacks && again == ("ended", 2, 0, 0, 4) {
+        SESSION
+    } else {
+        WRONG
+    }
+}
+
+/// Which calls of a broker lack memory in this heap.
+fn lacking_of<S: BatchStore, A: Allocator + Copy>(
+    heap: A,
+    node: &mut Node<S>,
+    input: &[u8],
+    replies: &[u8],
+) -> u32 {
+    let mut lacking = 0_u32;
+    for row in &REQUESTS {
+        lacking = lacking.saturating_add(sends(node, row, &mut Vec::new(heap)));
+    }
+    lacking.saturating_add(serves(heap, node, input, replies))
+}
+
+/// Whether a broker is made.
+fn is_made<A: Allocator + Copy>(alloc: A) -> bool {
+    match leader(alloc) {
+        Ok(node) => has_logs(&node),
         Err(_) => false,
     }
 }
 
-/// Whether a broker is made by this configuration.
-fn is_made<A: Allocator + Copy>(heap: A, config: Config<A>) -> Result<bool, ConfigError> {
-    let node = Node::<VecStore<A>>::new(heap, config)?;
-    Ok(has_log(&node))
-}
-
-/// Makes a broker, by the other configuration where the first is refused.
-fn made<A: Allocator + Copy, B: Allocator + Copy>(
-    inner: B,
-    heap: A,
-    config: Config<A>,
-    again: Config<A>,
-) -> Came {
-    match is_made(heap, config) {
-        Ok(is_right) => at_once(is_right),
-        Err(why) => {
-            let is_told = is_out_of_memory(inner, why);
-            later(is_told && matches!(is_made(heap, again), Ok(true)))
-        }
+/// Which calls lack memory in this heap.
+fn lacking<A: Allocator + Copy>(heap: A, input: &[u8], replies: &[u8]) -> u32 {
+    match leader(heap) {
+        Ok(mut node) => lacking_of(heap, &mut node, input, replies),
+        Err(None) => CONFIG,
+        Err(Some(why)) if prints(heap, why, "OutOfMemory") && is_made(heap) => NEW,
+        Err(Some(_)) => WRONG,
     }
 }
 
-/// Makes two configurations, and a broker.
-fn tries<A: Allocator + Copy, B: Allocator + Copy>(inner: B, heap: A) -> Came {
-    match twice(heap) {
-        Ok((config, again)) => made(inner, heap, config, again),
-        Err(_) => Came::Wrong,
-    }
-}
-
-/// The same in memory of which this allocation fails.
-fn tries_without<A: Allocator + Copy>(inner: A, refused: u64) -> Came {
+/// Which calls lack memory where this allocation fails, and whether it is asked for.
+fn lacking_without<A: Allocator + Copy>(
+    inner: A,
+    refused: u64,
+    input: &[u8],
+    replies: &[u8],
+) -> (u32, bool) {
     let heap = Refusing::new(inner, refused);
-    let came = tries(inner, &heap);
-    came_of(came, heap.calls() >= refused)
+    let lacking = lacking(&heap, input, replies);
+    (lacking, heap.calls() >= refused)
 }
 
-/// The first allocation behind those of the configurations with which a broker isn't made later, and what
-/// came of it.
-fn first_at_once<A: Allocator + Copy>(inner: A, made: u64) -> (u64, Came) {
-    let mut last = (0, Came::Later);
-    for more in 1..MOST {
-        if last.1 == Came::Later {
-            last = (more, tries_without(inner, made.saturating_add(more)));
+#[test]
+fn one_allocation_fails(rt: HostRuntime) -> Result<(), Fail> {
+    let input = repeated(rt.alloc(), b"", LIST, 2)?;
+    let replies = repeated(rt.alloc(), b"", LISTED_AT_1, 2)?;
+    let mut last = CONFIG;
+    let mut is_asked = true;
+    for refused in 1..MOST {
+        if is_asked {
+            let (lacking, asked) = lacking_without(rt.alloc(), refused, &input, &replies);
+            // the same call as before or the next, and none where the allocation isn't asked for
+            let is_next = lacking == last || lacking == last.saturating_mul(2);
+            assert!(rt;
+                if asked { is_next } else { lacking == 0 },
+                "{refused}: {lacking}, {last}"
+            );
+            is_asked = asked;
+            last = if asked { lacking } else { last };
         }
     }
-    last
+    assert!(rt; last == SESSION && !is_asked, "{last}");
+    Ok(())
 }
 
-/// Whether two configurations are made.
-fn are_made<A: Allocator + Copy>(alloc: A) -> bool {
-    twice(alloc).is_ok()
+/// Whether a broker doesn't answer a request, leaves the output as it is, and stores its batch.
+fn is_silent<S: BatchStore, A: Allocator + Copy>(
+    node: &mut Node<S>,
+    frame: &[u8],
+    out: &mut Vec<u8, A>,
+) -> bool {
+    let is_silent = answer(node, frame, out) == Some(Answer::Silent);
+    is_silent && out.as_slice() == STORED && end_of(node) == 1
 }
 
-/// How many allocations two configurations ask for; 0 where they aren't made.
-fn calls_of_both<A: Allocator + Copy>(inner: A) -> u64 {
-    let counted = Refusing::new(inner, 0);
-    if are_made(&counted) {
-        counted.calls()
-    } else {
-        0
+/// The same of a new broker.
+fn is_led_silently<A: Allocator + Copy>(alloc: A, frame: &[u8], out: &mut Vec<u8, A>) -> bool {
+    match leader(alloc) {
+        Ok(mut node) => is_silent(&mut node, frame, out),
+        Err(_) => false,
     }
 }
 
 #[test]
-fn a_node_comes_once_there_is_memory(rt: HostRuntime) -> Result<(), Fail> {
-    // The configurations have memory; one allocation behind them fails.
-    let made = calls_of_both(rt.alloc());
-    assert!(rt; made > 0);
-    let (more, came) = first_at_once(rt.alloc(), made);
-    // At the first allocation it would take no memory.
-    assert!(rt;
-        came == Came::AtOnce && more > 1,
-        "allocation {more} fails: {came:?}"
-    );
+fn no_answer_to_acks_0(rt: HostRuntime) -> Result<(), Fail> {
+    let mut frame = Vec::from_slice(rt.alloc(), PRODUCE)?;
+    if let Some(acks) = frame.get_mut(ACKS) {
+        *acks = 0;
+    }
+    let mut out = Vec::from_slice(rt.alloc(), STORED)?;
+    assert!(rt; is_led_silently(rt.alloc(), &frame, &mut out));
     Ok(())
 }

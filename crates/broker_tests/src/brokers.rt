@@ -1,0 +1,106 @@
+//! The brokers of the tests: topics of one name with two partitions, and `u` with nine.
+
+use broker_core::{Config, ConfigError, Node, Role, TopicConfig};
+use segment::{BatchStore, VecStore};
+use std::alloc::{AllocError, Allocator};
+use std::string::String;
+
+/// A host of so many bytes.
+fn host_of<A: Allocator + Copy>(alloc: A, bytes: u32) -> Result<String<A>, AllocError> {
+    let mut host = String::new(alloc);
+    for _ in 0..bytes {
+        host.push('h')?;
+    }
+    Ok(host)
+}
+
+/// Adds a topic.
+fn add_topic<A: Allocator + Copy>(
+    alloc: A,
+    topics: &mut Vec<TopicConfig<A>, A>,
+    name: &str,
+    partitions: u32,
+) -> Result<(), AllocError> {
+    let name = String::from_str(alloc, name)?;
+    topics.push(TopicConfig { name, partitions })?;
+    Ok(())
+}
+
+/// So many topics of this name, and `u`.
+fn topics_of<A: Allocator + Copy>(
+    alloc: A,
+    name: &str,
+    count: u32,
+) -> Result<Vec<TopicConfig<A>, A>, AllocError> {
+    let mut topics = Vec::new(alloc);
+    for _ in 0..count {
+        add_topic(alloc, &mut topics, name, 2)?;
+    }
+    add_topic(alloc, &mut topics, "u", 9)?;
+    Ok(topics)
+}
+
+/// A configuration of a host of so many bytes and so many topics of this name.
+fn configured<A: Allocator + Copy>(
+    alloc: A,
+    role: Role,
+    bytes: u32,
+    name: &str,
+    count: u32,
+) -> Result<Config<A>, AllocError> {
+    let host = host_of(alloc, bytes)?;
+    let topics = topics_of(alloc, name, count)?;
+    Ok(Config {
+        role,
+        node_id: 1,
+        host,
+        port: 9092,
+        topics,
+    })
+}
+
+/// A new broker.
+///
+/// # Errors
+///
+/// Why its configuration is refused; `None` where there is no memory for the configuration.
+pub(crate) fn new_node<A: Allocator + Copy>(
+    alloc: A,
+    role: Role,
+    bytes: u32,
+    name: &str,
+    count: u32,
+) -> Result<Node<VecStore<A>>, Option<ConfigError>> {
+    match configured(alloc, role, bytes, name, count) {
+        Ok(config) => Node::new(alloc, config).map_err(Some),
+        Err(_) => Err(None),
+    }
+}
+
+/// A leader at the host `hhh` with the topics `t` and `u`.
+pub(crate) fn leader<A: Allocator + Copy>(
+    alloc: A,
+) -> Result<Node<VecStore<A>>, Option<ConfigError>> {
+    new_node(alloc, Role::Leader, 3, "t", 1)
+}
+
+/// The end of partition 0 of `t`.
+pub(crate) fn end_of<S: BatchStore>(node: &Node<S>) -> i64 {
+    node.log(b"t", 0).map_or(-1, |log| log.end())
+}
+
+/// Whether the last partition of `u` has a log, which is empty, and there is no other behind it.
+pub(crate) fn has_logs<S: BatchStore>(node: &Node<S>) -> bool {
+    match (node.log(b"u", 8), node.log(b"u", 9)) {
+        (Some(log), None) => log.len() == 0 && log.end() == 0,
+        _ => false,
+    }
+}
+
+/// Whether a refusal is printed so.
+pub(crate) fn prints<A: Allocator + Copy>(alloc: A, why: ConfigError, wanted: &str) -> bool {
+    match format!(in alloc; "{why}") {
+        Ok(text) => text.as_str() == wanted,
+        Err(_) => false,
+    }
+}
