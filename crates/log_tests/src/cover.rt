@@ -12,34 +12,17 @@ const GREATEST: i64 = OFFSETS_END - 1;
 /// More allocations than any run below asks for.
 const MANY_ALLOCATIONS: u64 = 100;
 
-/// Inserts the ranges one after another.
-fn insert_all<A: Allocator + Copy>(
-    cover: &mut Cover<A>,
-    ranges: &[(i64, i64)],
-) -> Result<(), Fail> {
-    for &(first, last) in ranges {
-        if first < 0 || last < first || last >= OFFSETS_END {
-            return Err("a row that can't be inserted".into());
-        }
-        cover.insert(first, last)?;
-    }
-    Ok(())
-}
-
 /// Ranges as offsets, each its first and its last one.
 type Ranges = &'static [(i64, i64)];
 
 /// What a row is of, the ranges that are inserted, and those of the set then.
-static INSERTIONS: [(&str, Ranges, Ranges); 8] = [
+static INSERTIONS: [(&str, Ranges, Ranges); 5] = [
     ("nothing", &[], &[]),
     (
         "apart",
         &[(10, 12), (20, 25), (0, 4)],
         &[(0, 4), (10, 12), (20, 25)],
     ),
-    ("touching the one behind", &[(10, 12), (5, 9)], &[(5, 12)]),
-    ("touching the one before", &[(5, 9), (10, 12)], &[(5, 12)]),
-    ("closing a gap", &[(0, 8), (10, 13), (9, 9)], &[(0, 13)]),
     (
         "over several",
         &[(0, 1), (4, 5), (8, 9), (12, 13), (3, 8)],
@@ -53,14 +36,19 @@ static INSERTIONS: [(&str, Ranges, Ranges); 8] = [
     ),
 ];
 
-/// Whether a set has these ranges after those were inserted.
+/// Whether a set has these ranges after those were inserted; not where one of them can't be.
 fn inserts_to<A: Allocator + Copy>(
     alloc: A,
     ranges: &[(i64, i64)],
     wanted: &[(i64, i64)],
-) -> Result<bool, Fail> {
+) -> Result<bool, AllocError> {
     let mut cover = Cover::new(alloc);
-    insert_all(&mut cover, ranges)?;
+    for &(first, last) in ranges {
+        if first < 0 || last < first || last >= OFFSETS_END {
+            return Ok(false);
+        }
+        cover.insert(first, last)?;
+    }
     Ok(cover.ranges() == wanted)
 }
 
@@ -72,9 +60,9 @@ fn insertions(rt: HostRuntime) -> Result<(), Fail> {
     Ok(())
 }
 
-/// Ranges, and the text of the refusal to make a set of them.
+/// Ranges, and the text of the refusal to make a set of them where there is no memory.
 static REFUSALS: [(Ranges, &str); 10] = [
-    (&[(0, 4), (6, GREATEST)], "none"),
+    (&[(0, 4), (6, GREATEST)], "OutOfMemory"),
     (&[(0, 4), (6, 5), (6, 6)], "EmptyRange"),
     (&[(-1, -2)], "EmptyRange"),
     (&[(0, 4), (5, 9)], "NotRising"),
@@ -86,47 +74,41 @@ static REFUSALS: [(Ranges, &str); 10] = [
     (&[(0, 4), (6, OFFSETS_END), (5, 1)], "OutOfBounds"),
 ];
 
-/// The refusal to make a set of these ranges; `None` where there is a set.
-fn refusal<A: Allocator + Copy>(alloc: A, ranges: &[(i64, i64)]) -> Option<CoverError> {
-    match Cover::from_ranges(alloc, ranges) {
-        Ok(_) => None,
-        Err(error) => Some(error),
+/// The text of the refusal to make a set of these ranges in this memory.
+fn is_refused<A: Allocator + Copy, B: Allocator + Copy>(
+    heap: A,
+    alloc: B,
+    ranges: &[(i64, i64)],
+    wanted: &str,
+) -> Result<bool, AllocError> {
+    match Cover::from_ranges(heap, ranges) {
+        Ok(_) => Ok(false),
+        Err(error) => Ok(format!(in alloc; "{error}")?.as_str() == wanted),
     }
 }
 
-/// Whether a refusal, or none, has this text.
-fn has_text<A: Allocator + Copy>(
+/// Whether the refusal has this text where there is no memory, which is asked for only if no range is at fault.
+fn is_refused_without_memory<A: Allocator + Copy>(
     alloc: A,
-    refusal: Option<CoverError>,
+    ranges: &[(i64, i64)],
     wanted: &str,
 ) -> Result<bool, AllocError> {
-    match refusal {
-        None => Ok(wanted == "none"),
-        Some(error) => Ok(format!(in alloc; "{error}")?.as_str() == wanted),
-    }
+    let heap = Refusing::new(alloc, 1);
+    let is_right = is_refused(&heap, alloc, ranges, wanted)?;
+    Ok(is_right && (heap.calls() == 1) == (wanted == "OutOfMemory"))
 }
 
 #[test]
 fn the_first_range_at_fault_decides(rt: HostRuntime) -> Result<(), Fail> {
     for (ranges, wanted) in REFUSALS {
-        let refusal = refusal(rt.alloc(), ranges);
-        assert!(rt;
-            has_text(rt.alloc(), refusal, wanted)?,
-            "{wanted}: {ranges:?}"
-        );
+        let is_right = is_refused_without_memory(rt.alloc(), ranges, wanted)?;
+        assert!(rt; is_right, "{wanted}: {ranges:?}");
     }
     Ok(())
 }
 
 /// Whether all and whether some offsets from the first to the last are in the set, and its first gap.
 type Answers = (bool, bool, i64);
-
-/// What a set answers of these offsets.
-fn answers_of<A: Allocator + Copy>(cover: &Cover<A>, first: i64, last: i64) -> Answers {
-    let all = cover.has_all(first, last);
-    let any = cover.has_any(first, last);
-    (all, any, cover.first_gap(first))
-}
 
 /// The first and the last offset that are asked for, and the answers.
 static QUESTIONS: [(i64, i64, Answers); 11] = [
@@ -143,55 +125,23 @@ static QUESTIONS: [(i64, i64, Answers); 11] = [
     (i64::MAX, i64::MAX, (false, false, i64::MAX)),
 ];
 
-/// Whether a set gives these answers, and has the first offset where that is no gap.
-fn answers<A: Allocator + Copy>(cover: &Cover<A>, first: i64, last: i64, wanted: Answers) -> bool {
-    answers_of(cover, first, last) == wanted && cover.contains(first) == (wanted.2 != first)
+/// The first offset of the first question that a set answers otherwise; it has that offset where it is no gap.
+fn answered_otherwise<A: Allocator + Copy>(cover: &Cover<A>) -> Option<i64> {
+    for &(first, last, wanted) in &QUESTIONS {
+        let all = cover.has_all(first, last);
+        let any = cover.has_any(first, last);
+        let has_first = cover.contains(first) == (wanted.2 != first);
+        if !has_first || (all, any, cover.first_gap(first)) != wanted {
+            return Some(first);
+        }
+    }
+    None
 }
 
 #[test]
 fn questions_take_any_numbers(rt: HostRuntime) -> Result<(), Fail> {
     let cover = Cover::from_ranges(rt.alloc(), &[(0, 4), (10, 12), (20, GREATEST)])?;
-    for (first, last, wanted) in QUESTIONS {
-        assert!(rt; answers(&cover, first, last, wanted), "{first} to {last}");
-    }
-    Ok(())
-}
-
-/// Whether the second set is the first with an offset more.
-fn is_more<A: Allocator + Copy>(left: &Cover<A>, more: &Cover<A>) -> bool {
-    left.is_subset(more) && !more.is_subset(left)
-}
-
-/// The set with the offset 100, which it has not.
-fn with_hundred<A: Allocator + Copy>(cover: &Cover<A>) -> Result<Cover<A>, AllocError> {
-    let mut copy = cover.try_clone()?;
-    copy.insert(100, 100)?;
-    Ok(copy)
-}
-
-/// Whether the union of two sets has these ranges, and each of them within it.
-fn unites_to<A: Allocator + Copy>(
-    left: &Cover<A>,
-    right: &Cover<A>,
-    wanted: &[(i64, i64)],
-) -> Result<bool, AllocError> {
-    let both = left.union(right)?;
-    Ok(both.ranges() == wanted && is_more(left, &both) && is_more(right, &both))
-}
-
-/// Whether each of two sets is within itself, the left one within what is more, and the right one not within
-/// the left.
-fn compares<A: Allocator + Copy>(left: &Cover<A>, right: &Cover<A>) -> Result<bool, AllocError> {
-    let is_within = left.is_subset(left) && right.is_subset(right) && !right.is_subset(left);
-    Ok(is_within && is_more(left, &with_hundred(left)?))
-}
-
-#[test]
-fn two_sets(rt: HostRuntime) -> Result<(), Fail> {
-    let left = Cover::from_ranges(rt.alloc(), &[(0, 4), (10, 12), (30, 31)])?;
-    let right = Cover::from_ranges(rt.alloc(), &[(3, 6), (13, 15), (40, 40)])?;
-    let wanted = [(0, 6), (10, 15), (30, 31), (40, 40)];
-    assert!(rt; unites_to(&left, &right, &wanted)? && compares(&left, &right)?);
+    assert_eq!(rt; answered_otherwise(&cover), None);
     Ok(())
 }
 
@@ -205,72 +155,58 @@ fn start_of(n: u8) -> i64
     if n % 2 == 0 { 1000 + step } else { 1000 - step }
 }
 
-/// Reserves room, again where memory lacked at the first time, and tells how often it lacked.
-fn reserve<A: Allocator + Copy>(cover: &mut Cover<A>) -> Result<u8, AllocError> {
+/// Reserves room, again where memory lacked, and tells whether the set was then as the other one.
+fn reserves_later<A: Allocator + Copy, B: Allocator + Copy>(
+    cover: &mut Cover<A>,
+    other: &Cover<B>,
+) -> Result<bool, AllocError> {
     if cover.reserve_one().is_ok() {
-        return Ok(0);
+        return Ok(true);
     }
+    let is_same = cover.ranges() == other.ranges();
     cover.reserve_one()?;
-    Ok(1)
+    Ok(is_same)
 }
 
-/// Inserts the five offsets from this one on, which touch no range, again where memory lacked; tells how
-/// often it lacked, or `None` where the set wasn't as before then, or hasn't one range more now.
-fn inserts_after<A: Allocator + Copy>(
+/// Inserts the five offsets from this one on into both sets, again where memory lacked, and tells whether the
+/// first set was then as the other one, and is so now.
+fn inserts_later<A: Allocator + Copy, B: Allocator + Copy>(
     cover: &mut Cover<A>,
+    other: &mut Cover<B>,
     first: i64,
-    before: &[(i64, i64)],
-) -> Result<Option<u8>, AllocError>
+) -> Result<bool, AllocError>
     requires at_least { pos 0 ≤ℤ first }
     requires at_most { first ≤ℤ pos 1400 }
 {
-    let failures = u8::from(cover.insert(first, first + 4).is_err());
-    let mut is_right = true;
-    if failures > 0 {
-        is_right = cover.ranges() == before;
+    if cover.insert(first, first + 4).is_err() {
+        if cover.ranges() != other.ranges() {
+            return Ok(false);
+        }
         cover.insert(first, first + 4)?;
     }
-    is_right = is_right
-        && cover.has_all(first, first + 4)
-        && cover.ranges().len() == before.len().saturating_add(1);
-    Ok(if is_right { Some(failures) } else { None })
+    other.insert(first, first + 4)?;
+    Ok(cover.ranges() == other.ranges())
 }
 
-/// Inserts those five offsets.
-fn inserts<A: Allocator + Copy, B: Allocator + Copy>(
-    inner: B,
-    cover: &mut Cover<A>,
-    first: i64,
-) -> Result<Option<u8>, AllocError>
-    requires at_least { pos 0 ≤ℤ first }
-    requires at_most { first ≤ℤ pos 1400 }
-{
-    let before = cover.ranges().to_vec(inner)?;
-    inserts_after(cover, first, &before)
-}
-
-/// Inserts 40 ranges, and tells how often memory lacked; `None` where something was wrong.
+/// Inserts 40 ranges, which touch none, into both sets, and tells whether all was right, and none was asked for
+/// memory where there was room.
 fn insert_forty<A: Allocator + Copy, B: Allocator + Copy>(
-    inner: B,
     heap: &Refusing<B>,
     cover: &mut Cover<A>,
+    other: &mut Cover<B>,
     reserving: bool,
-) -> Result<Option<u8>, AllocError> {
-    let mut failures = 0u8;
+) -> Result<bool, AllocError> {
     for n in 0..40u8 {
-        if reserving {
-            failures = failures.saturating_add(reserve(cover)?);
+        if reserving && !reserves_later(cover, other)? {
+            return Ok(false);
         }
         let calls = heap.calls();
-        let Some(more) = inserts(inner, cover, start_of(n))? else {
-            return Ok(None);
-        };
-        if reserving && heap.calls() != calls {
-            return Ok(None);
+        let is_right = inserts_later(cover, other, start_of(n))?;
+        if !is_right || (reserving && heap.calls() != calls) {
+            return Ok(false);
         }
-        failures = failures.saturating_add(more);
     }
-    Ok(Some(failures))
+    Ok(cover.ranges().len() == 40)
 }
 
 /// Inserts 40 ranges into a set of this memory.
@@ -278,27 +214,9 @@ fn inserts_forty<B: Allocator + Copy>(
     inner: B,
     heap: &Refusing<B>,
     reserving: bool,
-) -> Result<Option<u8>, AllocError> {
+) -> Result<bool, AllocError> {
     let mut cover = Cover::new(heap);
-    insert_forty(inner, heap, &mut cover, reserving)
-}
-
-#[test]
-fn each_allocation_of_insertions_fails(rt: HostRuntime) -> Result<(), Fail> {
-    for reserving in [false, true] {
-        let mut passed = false;
-        for failing in 1..MANY_ALLOCATIONS {
-            let heap = Refusing::new(rt.alloc(), failing);
-            let failures = inserts_forty(rt.alloc(), &heap, reserving)?;
-            passed = heap.calls() < failing;
-            assert!(rt; failures == Some(u8::from(!passed)), "{failing}");
-            if passed {
-                break;
-            }
-        }
-        assert!(rt; passed);
-    }
-    Ok(())
+    insert_forty(heap, &mut cover, &mut Cover::new(inner), reserving)
 }
 
 /// Two sets, and their union.
@@ -317,91 +235,94 @@ static BOTH: [(i64, i64); 8] = [
     (100, 109),
 ];
 
-/// Whether the union of these two sets is theirs; `None` where memory lacks.
-fn united<A: Allocator + Copy>(mine: &Cover<A>, theirs: &Cover<A>) -> Option<bool> {
+/// Makes a set, again where memory lacked.
+fn made_later<A: Allocator + Copy>(heap: A, ranges: &[(i64, i64)]) -> Result<Cover<A>, CoverError> {
+    match Cover::from_ranges(heap, ranges) {
+        Err(CoverError::OutOfMemory) => Cover::from_ranges(heap, ranges),
+        made => made,
+    }
+}
+
+/// Unites two sets, again where memory lacked.
+fn united_later<A: Allocator + Copy>(
+    mine: &Cover<A>,
+    theirs: &Cover<A>,
+) -> Result<Cover<A>, AllocError> {
     match mine.union(theirs) {
-        Ok(union) => Some(union.ranges() == BOTH.as_slice()),
-        Err(_) => None,
+        Ok(both) => Ok(both),
+        Err(_) => mine.union(theirs),
     }
 }
 
-/// Unites two sets, again where memory lacked, and tells whether it lacked; `None` where the union is wrong,
-/// or a set is not as it was.
-fn unites_later<A: Allocator + Copy>(mine: &Cover<A>, theirs: &Cover<A>) -> Option<bool> {
-    let first = united(mine, theirs);
-    let is_right = match first {
-        Some(is_right) => is_right,
-        None => united(mine, theirs) == Some(true),
+/// Whether a copy of a set, made again where memory lacked, has these ranges.
+fn is_copied_later<A: Allocator + Copy>(
+    cover: &Cover<A>,
+    wanted: &[(i64, i64)],
+) -> Result<bool, AllocError> {
+    let copy = match cover.try_clone() {
+        Ok(copy) => copy,
+        Err(_) => cover.try_clone()?,
     };
-    let is_same = mine.ranges() == MINE.as_slice() && theirs.ranges() == THEIRS.as_slice();
-    if is_right && is_same {
-        Some(first.is_none())
-    } else {
-        None
+    Ok(copy.ranges() == wanted && cover.ranges() == wanted)
+}
+
+/// Whether two sets are as they were, each within their union, and neither the union nor the other within the first.
+fn are_within<A: Allocator + Copy>(mine: &Cover<A>, theirs: &Cover<A>, both: &Cover<A>) -> bool {
+    let are_same = mine.ranges() == MINE.as_slice() && theirs.ranges() == THEIRS.as_slice();
+    let is_within = mine.is_subset(both) && theirs.is_subset(both);
+    are_same && is_within && !both.is_subset(mine) && !theirs.is_subset(mine)
+}
+
+/// Unites two sets and copies the union, again where memory lacked.
+fn unites_later<A: Allocator + Copy>(
+    mine: &Cover<A>,
+    theirs: &Cover<A>,
+) -> Result<bool, AllocError> {
+    let both = united_later(mine, theirs)?;
+    Ok(are_within(mine, theirs, &both) && is_copied_later(&both, BOTH.as_slice())?)
+}
+
+/// Makes two sets of this memory and their union.
+fn sets_come_later<A: Allocator + Copy>(heap: A) -> Result<bool, Fail> {
+    let mine = made_later(heap, &MINE)?;
+    let theirs = made_later(heap, &THEIRS)?;
+    Ok(unites_later(&mine, &theirs)?)
+}
+
+/// What takes memory.
+static RUNS: [&str; 3] = ["insertions", "insertions with room", "sets and their union"];
+
+/// Makes the calls of a run.
+fn succeeds_later<B: Allocator + Copy>(
+    inner: B,
+    heap: &Refusing<B>,
+    run: &str,
+) -> Result<bool, Fail> {
+    if run == "sets and their union" {
+        return sets_come_later(heap);
     }
+    Ok(inserts_forty(inner, heap, run == "insertions with room")?)
 }
 
-/// Unites two sets of this memory.
-fn unites<A: Allocator + Copy>(heap: A) -> Result<Option<bool>, CoverError> {
-    let mine = Cover::from_ranges(heap, &MINE)?;
-    let theirs = Cover::from_ranges(heap, &THEIRS)?;
-    Ok(unites_later(&mine, &theirs))
-}
-
-#[test]
-fn each_allocation_of_a_union_fails(rt: HostRuntime) -> Result<(), Fail> {
-    let mut passed = false;
-    // The first two allocations are for the two sets.
-    for failing in 3..MANY_ALLOCATIONS {
+/// Makes the calls of a run, each allocation failing in turn, until one doesn't ask for the one that would fail,
+/// and tells whether all was right.
+fn each_succeeds_later(rt: &HostRuntime, run: &str) -> Result<bool, Fail> {
+    for failing in 1..MANY_ALLOCATIONS {
         let heap = Refusing::new(rt.alloc(), failing);
-        let lacked = unites(&heap)?;
-        passed = heap.calls() < failing;
-        assert!(rt; lacked == Some(!passed), "{failing}");
-        if passed {
-            break;
+        if !succeeds_later(rt.alloc(), &heap, run)? {
+            return Ok(false);
+        }
+        if heap.calls() < failing {
+            return Ok(failing > 1);
         }
     }
-    assert!(rt; passed);
-    Ok(())
+    Ok(false)
 }
 
-/// What comes of making a set of these ranges: the refusal, or whether it has them.
-fn made<A: Allocator + Copy>(heap: A, ranges: &[(i64, i64)]) -> Result<bool, CoverError> {
-    Ok(Cover::from_ranges(heap, ranges)?.ranges() == ranges)
-}
-
-/// Whether a copy of the set has its ranges; `None` where memory lacks.
-fn copied<A: Allocator + Copy>(cover: &Cover<A>) -> Option<bool> {
-    match cover.try_clone() {
-        Ok(copy) => Some(copy.ranges() == cover.ranges()),
-        Err(_) => None,
+#[test]
+fn each_allocation_fails(rt: HostRuntime) -> Result<(), Fail> {
+    for run in RUNS {
+        assert!(rt; each_succeeds_later(&rt, run)?, "{run}");
     }
-}
-
-#[test]
-fn out_of_memory_comes_after_every_fault(rt: HostRuntime) -> Result<(), Fail> {
-    let heap = Refusing::new(rt.alloc(), 1);
-    let ranges = [(0, 4), (6, 9)];
-    let faulty = made(&heap, &[(0, 4), (5, 9)]);
-    assert!(rt; matches!(faulty, Err(CoverError::NotRising)) && heap.calls() == 0);
-    let failed = made(&heap, &ranges);
-    assert!(rt; matches!(failed, Err(CoverError::OutOfMemory)) && heap.calls() == 1);
-    assert!(rt; made(&heap, &ranges)?);
-    Ok(())
-}
-
-/// Whether a copy of the set lacks memory at the second allocation, and comes after it.
-fn comes_later<A: Allocator + Copy, B: Allocator + Copy>(
-    heap: &Refusing<B>,
-    cover: &Cover<A>,
-) -> bool {
-    copied(cover).is_none() && heap.calls() == 2 && copied(cover) == Some(true)
-}
-
-#[test]
-fn a_copy_of_a_set_comes_later(rt: HostRuntime) -> Result<(), Fail> {
-    let heap = Refusing::new(rt.alloc(), 2);
-    let cover = Cover::from_ranges(&heap, &[(0, 4), (6, 9)])?;
-    assert!(rt; comes_later(&heap, &cover));
     Ok(())
 }

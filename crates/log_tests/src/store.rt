@@ -7,33 +7,28 @@ ghost use Rattle.batch_codec.specs.Rebase.{with_base};
 ghost use Rattle.segment.specs.BatchLists.{IsBatchList};
 
 use batch_codec::{Batch, BatchView, set_base, view};
-use outside_batches::{EMPTIED, THREE, nine_at};
+use outside_batches::{EMPTIED, NINE, THREE, nine_at};
 use refusing_alloc::Refusing;
 use segment::{BatchStore, VecStore, can_insert};
 use std::alloc::{AllocError, Allocator};
 use std::test::Fail;
 
-/// More allocations than any run below asks for.
-const MOST: u64 = 100;
-
 /// The greatest offset.
 const GREATEST: i64 = 0x3fff_ffff_ffff_ffff;
 
-/// The base offsets of five batches.
-static FIVE_BASES: [i64; 5] = [0, 3, 5, 9, GREATEST];
+/// More allocations than any run below asks for.
+const MOST: u64 = 500;
 
-/// The base offsets of four batches.
-static FOUR_BASES: [i64; 4] = [0, 3, 5, 6];
+/// More batches than one block of a store takes.
+const MANY: u16 = 140;
 
-/// Inserts a batch where it may be inserted.
-fn insert<S: BatchStore>(
-    store: &mut S,
-    batch: &BatchView<'_>,
-) -> Result<Option<usize>, AllocError> {
+/// Inserts a batch, and tells whether it might be inserted, and is at the index that was answered.
+fn insert<S: BatchStore>(store: &mut S, batch: &BatchView<'_>) -> Result<bool, AllocError> {
     if !can_insert(store, batch) {
-        return Ok(None);
+        return Ok(false);
     }
-    Ok(Some(store.insert(batch)?))
+    let i = store.insert(batch)?;
+    Ok(i < store.len() && store.bytes_of(i) == batch.bytes())
 }
 
 /// The bytes of a batch with another base offset and leader epoch.
@@ -83,35 +78,6 @@ fn has_bases<S: BatchStore>(store: &S, bases: &[i64]) -> bool {
     true
 }
 
-/// Inserts a batch at another base offset, a second time where an allocation failed, and answers
-/// whether the store was then as it had been.
-fn rebases_again<S: BatchStore, A: Allocator + Copy>(
-    alloc: A,
-    store: &mut S,
-    batch: &BatchView<'_>,
-    base: i64,
-) -> Result<bool, AllocError> {
-    let bases = read_bases(alloc, store)?;
-    if insert_rebased(alloc, store, batch, base, 1).is_ok() {
-        return Ok(true);
-    }
-    let same = has_bases(store, &bases);
-    insert_rebased(alloc, store, batch, base, 1)?;
-    Ok(same)
-}
-
-/// The base offsets of a store's batches.
-fn read_bases<S: BatchStore, A: Allocator + Copy>(
-    alloc: A,
-    store: &S,
-) -> Result<Vec<i64, A>, AllocError> {
-    let mut bases = Vec::new(alloc);
-    for i in 0..store.len() {
-        bases.push(store.at(i).head().base)?;
-    }
-    Ok(bases)
-}
-
 /// The batches of a store, read into memory.
 fn read_all<S: BatchStore, A: Allocator + Copy>(
     alloc: A,
@@ -127,86 +93,76 @@ fn read_all<S: BatchStore, A: Allocator + Copy>(
     Ok(list)
 }
 
-/// A batch of one record at this offset, or one of three offsets at 0, with its records or without.
-#[derive(Clone, Copy)]
-enum Sent {
-    NineAt(i64),
-    Three,
-    Emptied,
-}
+/// What a place is, the batch that goes there, the base offset and the leader epoch that it gets, its index, and the
+/// base offsets then.
+type Going = (
+    &'static str,
+    &'static [u8],
+    (i64, i32),
+    Option<usize>,
+    &'static [i64],
+);
 
-/// What a batch is, the batch, where it goes, and how many batches there are then.
-type Going = (&'static str, Sent, Option<usize>, usize);
-
-/// Batches that are inserted one after another.
-static GOINGS: [Going; 11] = [
-    ("the first", Sent::NineAt(5), Some(0), 1),
-    ("after all", Sent::NineAt(9), Some(1), 2),
-    ("before all", Sent::Three, Some(0), 3),
-    ("between", Sent::NineAt(3), Some(1), 4),
-    ("a base that is taken", Sent::NineAt(5), None, 4),
-    ("inside a span", Sent::NineAt(2), None, 4),
-    ("a span over two", Sent::Emptied, None, 4),
-    ("below 0", Sent::NineAt(-1), None, 4),
-    ("the last offset", Sent::NineAt(GREATEST), Some(4), 5),
-    ("past the last offset", Sent::NineAt(GREATEST + 1), None, 5),
-    ("the greatest number", Sent::NineAt(i64::MAX), None, 5),
+/// Batches that are inserted one after another: of three offsets, of one, and of four.
+static GOINGS: [Going; 14] = [
+    ("the first", &THREE, (5, 7), Some(0), &[5]),
+    ("after all", &THREE, (11, -1), Some(1), &[5, 11]),
+    ("between", &THREE, (8, i32::MAX), Some(1), &[5, 8, 11]),
+    ("before all", &THREE, (0, 0), Some(0), &[0, 5, 8, 11]),
+    ("in a gap", &NINE, (3, 1), Some(1), &[0, 3, 5, 8, 11]),
+    (
+        "the last offset",
+        &NINE,
+        (GREATEST, 0),
+        Some(5),
+        &[0, 3, 5, 8, 11, GREATEST],
+    ),
+    ("a taken base", &NINE, (5, 7), None, &SIX_BASES),
+    ("inside a span", &NINE, (2, 7), None, &SIX_BASES),
+    ("into a span", &THREE, (3, 7), None, &SIX_BASES),
+    ("over two", &EMPTIED, (0, 7), None, &SIX_BASES),
+    ("below 0", &NINE, (-1, 7), None, &SIX_BASES),
+    ("past the last", &NINE, (GREATEST + 1, 7), None, &SIX_BASES),
+    ("over the last", &THREE, (GREATEST, 7), None, &SIX_BASES),
+    ("the greatest", &NINE, (i64::MAX, 7), None, &SIX_BASES),
 ];
 
-/// Whether there are so many batches of the table, with their base offsets.
-fn has_so_many<S: BatchStore>(store: &S, count: usize) -> bool {
-    match count {
-        1 => has_bases(store, &[5]),
-        2 => has_bases(store, &[5, 9]),
-        3 => has_bases(store, &[0, 5, 9]),
-        4 => has_bases(store, &[0, 3, 5, 9]),
-        5 => has_bases(store, &FIVE_BASES),
-        _ => false,
+/// The base offsets of the batches that were inserted.
+const SIX_BASES: [i64; 6] = [0, 3, 5, 8, 11, GREATEST];
+
+/// Whether there is a batch at an index, if any is named, and it has this leader epoch.
+fn has_epoch<S: BatchStore>(store: &S, index: Option<usize>, epoch: i32) -> bool {
+    match index {
+        Some(i) => i < store.len() && store.at(i).head().leader_epoch == epoch,
+        None => true,
     }
 }
 
-/// Inserts the bytes of a batch.
-fn insert_bytes<S: BatchStore>(store: &mut S, bytes: &[u8]) -> Result<Option<usize>, Fail> {
-    Ok(insert(store, &view(bytes)?)?)
+/// Whether a batch goes where it should.
+fn goes<S: BatchStore, A: Allocator + Copy>(
+    alloc: A,
+    store: &mut S,
+    (_, bytes, (base, epoch), wanted, bases): Going,
+) -> Result<bool, Fail> {
+    let found = insert_rebased(alloc, store, &view(bytes)?, base, epoch)?;
+    Ok(found == wanted && has_epoch(store, found, epoch) && has_bases(store, bases))
 }
 
-/// Inserts a batch of the table.
-fn send<S: BatchStore>(store: &mut S, batch: Sent) -> Result<Option<usize>, Fail> {
-    match batch {
-        Sent::NineAt(base) => insert_bytes(store, &nine_at(base)),
-        Sent::Three => insert_bytes(store, &THREE),
-        Sent::Emptied => insert_bytes(store, &EMPTIED),
-    }
-}
-
-/// Inserts the batches of these rows, each of which must go where it should.
-fn insert_all<S: BatchStore>(store: &mut S, rows: &[Going]) -> Result<(), Fail> {
-    for (name, batch, wanted, count) in rows {
-        if send(store, *batch)? != *wanted || !has_so_many(store, *count) {
-            return Err(Fail::new(*name));
+/// The first batch of the table that goes elsewhere; `None` where there is none.
+fn went_otherwise<S: BatchStore, A: Allocator + Copy>(
+    alloc: A,
+    store: &mut S,
+) -> Result<Option<&'static str>, Fail> {
+    for row in &GOINGS {
+        if !goes(alloc, store, *row)? {
+            return Ok(Some(row.0));
         }
     }
-    Ok(())
+    Ok(None)
 }
 
-#[test]
-fn batches_go_in_order(rt: HostRuntime) -> Result<(), Fail> {
-    let mut store = VecStore::new(rt.alloc());
-    assert!(rt; has_bases(&store, &[]) && store.first_from(0) == 0);
-    insert_all(&mut store, &GOINGS)
-}
-
-/// Inserts five batches at those offsets.
-fn insert_five<S: BatchStore>(store: &mut S) -> Result<(), Fail> {
-    insert_bytes(store, &THREE)?;
-    for base in [3, 5, 9, GREATEST] {
-        insert_bytes(store, &nine_at(base))?;
-    }
-    Ok(())
-}
-
-/// An offset, and the index of the first of the five batches from there on.
-static SEARCHES: [(i64, usize); 12] = [
+/// An offset, and the index of the first of the six batches from there on.
+static SEARCHES: [(i64, usize); 14] = [
     (i64::MIN, 0),
     (-1, 0),
     (0, 0),
@@ -214,136 +170,69 @@ static SEARCHES: [(i64, usize); 12] = [
     (3, 1),
     (4, 2),
     (5, 2),
-    (6, 3),
-    (9, 3),
-    (10, 4),
-    (GREATEST, 4),
-    (i64::MAX, 5),
+    (7, 2),
+    (8, 3),
+    (10, 3),
+    (13, 4),
+    (14, 5),
+    (GREATEST, 5),
+    (i64::MAX, 6),
 ];
 
-/// The first offset of the table from which another batch is found; `None` where there is none.
-fn found_otherwise<S: BatchStore>(store: &S) -> Option<i64> {
+/// Whether the batches of the table are found from its offsets.
+fn are_found<S: BatchStore>(store: &S) -> bool {
     for (offset, wanted) in &SEARCHES {
         if store.first_from(*offset) != *wanted {
-            return Some(*offset);
+            return false;
         }
     }
-    None
-}
-
-/// Inserts the five batches, and tells whether they are there, and that offset.
-fn search_five<S: BatchStore>(store: &mut S) -> Result<(bool, Option<i64>), Fail> {
-    insert_five(store)?;
-    Ok((has_bases(store, &FIVE_BASES), found_otherwise(store)))
+    true
 }
 
 #[test]
-fn batches_are_found(rt: HostRuntime) -> Result<(), Fail> {
+fn batches_go_in_order_and_are_found(rt: HostRuntime) -> Result<(), Fail> {
     let mut store = VecStore::new(rt.alloc());
-    assert_eq!(rt; search_five(&mut store)?, (true, None));
+    let went = went_otherwise(rt.alloc(), &mut store)?;
+    assert_eq!(rt; (went, are_found(&store)), (None, true));
     Ok(())
 }
 
-/// Whether a batch that went there has these bytes.
-fn has_bytes<S: BatchStore>(store: &S, place: Option<usize>, bytes: &[u8]) -> bool {
-    match place {
-        Some(i) => i < store.len() && store.bytes_of(i) == bytes,
-        None => true,
-    }
-}
-
-/// Inserts a batch at another base offset and leader epoch, and tells whether it went there, with its bytes.
-fn takes<S: BatchStore, A: Allocator + Copy>(
+/// Inserts a batch at another base offset, again where memory lacked, and tells whether the batches had these
+/// base offsets then, and have those now.
+fn goes_later<S: BatchStore, A: Allocator + Copy>(
     alloc: A,
     store: &mut S,
-    (base, epoch): (i64, i32),
-    wanted: Option<usize>,
-) -> Result<bool, Fail> {
-    let batch = view(&THREE)?;
-    let found = insert_rebased(alloc, store, &batch, base, epoch)?;
-    let bytes = rebased(alloc, &batch, base, epoch)?;
-    Ok(found == wanted && has_bytes(store, found, &bytes))
-}
-
-/// What a place is, the base offset and the leader epoch, the index there, and how many batches there are then.
-type Taking = (&'static str, (i64, i32), Option<usize>, usize);
-
-/// A batch that takes one base offset after another.
-static TAKINGS: [Taking; 6] = [
-    ("the first", (5, 7), Some(0), 1),
-    ("after all", (11, -1), Some(1), 2),
-    ("between", (8, i32::MAX), Some(1), 3),
-    ("its own base", (0, 0), Some(0), 4),
-    ("inside a span", (3, 7), None, 4),
-    ("below 0", (-1, 7), None, 4),
-];
-
-/// Whether there are so many batches of the table, with their base offsets.
-fn took_so_many<S: BatchStore>(store: &S, count: usize) -> bool {
-    match count {
-        1 => has_bases(store, &[5]),
-        2 => has_bases(store, &[5, 11]),
-        3 => has_bases(store, &[5, 8, 11]),
-        4 => has_bases(store, &[0, 5, 8, 11]),
-        _ => false,
-    }
-}
-
-/// Inserts the batch at the place of each of these rows, where it must go as it should.
-fn take_all<S: BatchStore, A: Allocator + Copy>(
-    alloc: A,
-    store: &mut S,
-    rows: &[Taking],
-) -> Result<(), Fail> {
-    for (name, place, wanted, count) in rows {
-        if !takes(alloc, store, *place, *wanted)? || !took_so_many(store, *count) {
-            return Err(Fail::new(*name));
-        }
-    }
-    Ok(())
-}
-
-#[test]
-fn a_batch_takes_another_base(rt: HostRuntime) -> Result<(), Fail> {
-    let mut store = VecStore::new(rt.alloc());
-    take_all(rt.alloc(), &mut store, &TAKINGS)
-}
-
-/// Inserts a batch, again where memory lacked, and tells whether the batches had these base offsets then, and
-/// have those now.
-fn goes_later<S: BatchStore>(
-    store: &mut S,
-    bytes: &[u8],
-    wanted: usize,
+    base: i64,
     (before, after): (&[i64], &[i64]),
 ) -> Result<bool, Fail> {
-    let batch = view(bytes)?;
-    let is_right = match insert(store, &batch) {
-        Ok(found) => found == Some(wanted),
-        Err(_) => has_bases(store, before) && insert(store, &batch) == Ok(Some(wanted)),
-    };
-    Ok(is_right && has_bases(store, after))
+    let batch = view(&THREE)?;
+    if insert_rebased(alloc, store, &batch, base, 1).is_err() {
+        if !has_bases(store, before) {
+            return Ok(false);
+        }
+        insert_rebased(alloc, store, &batch, base, 1)?;
+    }
+    Ok(has_bases(store, after))
 }
 
-/// Inserts four batches, each again where memory lacked.
-fn four_go_later<S: BatchStore, A: Allocator + Copy>(
+/// Inserts two batches into the one store, and one into the other, each again where memory lacked.
+fn are_inserted_later<S: BatchStore, A: Allocator + Copy>(
     alloc: A,
     store: &mut S,
+    other: &mut S,
 ) -> Result<bool, Fail> {
-    let went = goes_later(store, &nine_at(5), 0, (&[], &[5]))?
-        && goes_later(store, &THREE, 0, (&[5], &[0, 5]))?
-        && goes_later(store, &nine_at(3), 1, (&[0, 5], &[0, 3, 5]))?;
-    let three = view(&THREE)?;
-    Ok(went && rebases_again(alloc, store, &three, 6)? && has_bases(store, &FOUR_BASES))
+    let first = goes_later(alloc, store, 6, (&[], &[6]))?;
+    let second = goes_later(alloc, store, 3, (&[6], &[3, 6]))?;
+    Ok(first && second && goes_later(alloc, other, 0, (&[], &[0]))?)
 }
 
-/// Copies a store of the four batches, again where memory lacked.
+/// Copies a store of two batches, again where memory lacked.
 fn is_copied_later<A: Allocator + Copy>(store: &VecStore<A>) -> Result<bool, AllocError> {
     let copy = match store.try_clone() {
         Ok(copy) => copy,
         Err(_) => store.try_clone()?,
     };
-    Ok(has_bases(&copy, &FOUR_BASES))
+    Ok(has_bases(&copy, &[3, 6]))
 }
 
 /// Puts the batches of the second store in the place of the first one's.
@@ -355,69 +244,35 @@ fn replace<S: BatchStore, T: BatchStore, A: Allocator + Copy>(
     store.replace(read_all(alloc, other)?)
 }
 
-/// Puts four batches in the place of one, again where memory lacked.
+/// Puts two batches in the place of one, again where memory lacked.
 fn is_replaced_later<S: BatchStore, T: BatchStore, A: Allocator + Copy>(
     alloc: A,
     store: &mut S,
     other: &T,
-) -> Result<bool, Fail> {
-    let mut is_right = goes_later(store, &EMPTIED, 0, (&[], &[0]))?;
+) -> Result<bool, AllocError> {
     if replace(alloc, store, other).is_err() {
-        is_right = is_right && has_bases(store, &[0]);
+        if !has_bases(store, &[0]) {
+            return Ok(false);
+        }
         replace(alloc, store, other)?;
     }
-    Ok(is_right && has_bases(store, &FOUR_BASES))
+    Ok(has_bases(store, &[3, 6]))
 }
 
-/// Makes each call on this store and on others of its memory, again where that lacked.
-fn all_succeed_later<A: Allocator + Copy, B: Allocator + Copy>(
+/// Makes each other call on two stores, again where memory lacked.
+fn others_succeed_later<A: Allocator + Copy, B: Allocator + Copy>(
     alloc: B,
     store: &mut VecStore<A>,
     other: &mut VecStore<A>,
 ) -> Result<bool, Fail> {
-    let went = four_go_later(alloc, store)? && is_copied_later(store)?;
-    Ok(went && is_replaced_later(alloc, other, store)? && has_bases(store, &FOUR_BASES))
-}
-
-/// Makes each call on stores of this memory, again where it lacked.
-fn succeeds_later<A: Allocator + Copy, B: Allocator + Copy>(
-    heap: A,
-    alloc: B,
-) -> Result<bool, Fail> {
-    let mut store = VecStore::new(heap);
-    let mut other = VecStore::new(heap);
-    all_succeed_later(alloc, &mut store, &mut other)
-}
-
-#[test]
-fn a_list_is_as_before_an_allocation_that_fails(rt: HostRuntime) -> Result<(), Fail> {
-    let mut passed = false;
-    for refused in 1..MOST {
-        let heap = Refusing::new(rt.alloc(), refused);
-        assert!(rt;
-            succeeds_later(&heap, rt.alloc())?,
-            "allocation {refused} fails"
-        );
-        passed = heap.calls() < refused;
-        if passed {
-            break;
-        }
+    if !are_inserted_later(alloc, store, other)? {
+        return Ok(false);
     }
-    assert!(rt; passed);
-    Ok(())
+    Ok(is_copied_later(store)? && is_replaced_later(alloc, other, store)?)
 }
-
-/// More batches than one block of a store takes.
-const MANY: u16 = 140;
-
-/// Each batch asks for an allocation at least, so this one comes before the first block is full.
-const FIRST_FOR_MANY: u64 = 120;
-
-/// More allocations than so many batches ask for.
-const MOST_FOR_MANY: u64 = 500;
 
 /// The order in which batches with the base offsets from 0 to below [`MANY`] come.
-#[derive(Clone, Copy, Debug)]
+#[derive(Clone, Copy)]
 enum Order {
     Rising,
     Falling,
@@ -452,51 +307,60 @@ fn first_bases<A: Allocator + Copy>(
     Ok(bases)
 }
 
-/// Inserts many batches, one of them again where an allocation failed, and answers whether the store
-/// was as it had been then, and has them all.
-fn insert_many<S: BatchStore>(rt: &HostRuntime, store: &mut S, order: Order) -> Result<bool, Fail> {
+/// Inserts many batches, each again where memory lacked, and tells whether the store was as it had been
+/// then, and has them all.
+fn insert_many<S: BatchStore, A: Allocator + Copy>(
+    alloc: A,
+    store: &mut S,
+    order: Order,
+) -> Result<bool, Fail> {
     for i in 0..MANY {
         let bytes = nine_at(order.base(i));
         let batch = view(&bytes)?;
-        if insert(store, &batch).is_err() {
-            if !has_bases(store, &first_bases(rt.alloc(), order, i)?) {
-                return Ok(false);
-            }
-            insert(store, &batch)?;
+        let went = match insert(store, &batch) {
+            Ok(went) => went,
+            Err(_) => { has_bases(store, &first_bases(alloc, order, i)?) && insert(store, &batch)? }
+        };
+        if !went {
+            return Ok(false);
         }
     }
-    Ok(has_bases(store, &first_bases(rt.alloc(), order, MANY)?))
+    Ok(has_bases(store, &first_bases(alloc, order, MANY)?))
 }
 
-/// Inserts many batches into a store of this memory.
-fn many_go_later<A: Allocator + Copy>(
-    rt: &HostRuntime,
+/// Inserts many batches into a store of this memory in that order, or makes each other call where there is none.
+fn succeeds_later<A: Allocator + Copy, B: Allocator + Copy>(
     heap: A,
-    order: Order,
+    alloc: B,
+    order: Option<Order>,
 ) -> Result<bool, Fail> {
     let mut store = VecStore::new(heap);
-    insert_many(rt, &mut store, order)
+    match order {
+        Some(order) => insert_many(alloc, &mut store, order),
+        None => others_succeed_later(alloc, &mut store, &mut VecStore::new(heap)),
+    }
 }
 
-/// Inserts many batches, each allocation from `FIRST_FOR_MANY` on failing in turn, until a run doesn't ask
-/// for the one that would fail, and tells whether the store was right each time, and one failed at all.
-fn each_succeeds_later(rt: &HostRuntime, order: Order) -> Result<bool, Fail> {
-    for refused in FIRST_FOR_MANY..MOST_FOR_MANY {
+/// Makes the calls, each allocation failing in turn, until a run doesn't ask for the one that would fail, and
+/// tells whether the stores were right each time, and one failed at all.
+fn each_succeeds_later(rt: &HostRuntime, order: Option<Order>) -> Result<bool, Fail> {
+    for refused in 1..MOST {
         let heap = Refusing::new(rt.alloc(), refused);
-        if !many_go_later(rt, &heap, order)? {
+        if !succeeds_later(&heap, rt.alloc(), order)? {
             return Ok(false);
         }
         if heap.calls() < refused {
-            return Ok(refused > FIRST_FOR_MANY);
+            return Ok(refused > 1);
         }
     }
     Ok(false)
 }
 
 #[test]
-fn many_batches_are_as_before_an_allocation_that_fails(rt: HostRuntime) -> Result<(), Fail> {
+fn a_list_is_as_before_an_allocation_that_fails(rt: HostRuntime) -> Result<(), Fail> {
+    assert!(rt; each_succeeds_later(&rt, None)?, "a few");
     for order in [Order::Rising, Order::Falling, Order::FromTheMiddle] {
-        assert!(rt; each_succeeds_later(&rt, order)?, "{order:?}");
+        assert!(rt; each_succeeds_later(&rt, Some(order))?, "many");
     }
     Ok(())
 }

@@ -24,98 +24,51 @@ static NUMBERS: [(i64, &[u8]); 10] = [
 ];
 
 /// Bytes, and their refusal as a number of 32 and of 64 bits.
-static REFUSALS: [(&str, &[u8], VarintError, VarintError); 5] = [
-    ("no bytes", &[], VarintError::Short, VarintError::Short),
+static REFUSALS: [(&[u8], VarintError, VarintError); 5] = [
+    (&[], VarintError::Short, VarintError::Short),
+    (&[0x80], VarintError::Short, VarintError::Short),
     (
-        "one digit of more",
-        &[0x80],
-        VarintError::Short,
-        VarintError::Short,
-    ),
-    (
-        "a last digit 0",
         &[0x80, 0x00],
         VarintError::NotShortest,
         VarintError::NotShortest,
     ),
-    (
-        "nine digits and no last",
-        &[0x80; 9],
-        VarintError::TooLong,
-        VarintError::Short,
-    ),
-    (
-        "ten digits and no last",
-        &[0x80; 10],
-        VarintError::TooLong,
-        VarintError::TooLong,
-    ),
+    (&[0x80; 9], VarintError::TooLong, VarintError::Short),
+    (&[0x80; 10], VarintError::TooLong, VarintError::TooLong),
 ];
 
-/// Whether a number of 64 bits is written as these bytes.
-fn is_written_of_64<A: Allocator + Copy>(alloc: A, value: i64, bytes: &[u8]) -> bool {
+/// Whether a number of 64 bits is written as these bytes, and these are read as that number.
+fn is_of_64<A: Allocator + Copy>(alloc: A, value: i64, bytes: &[u8]) -> bool {
     let mut out = Vec::new(alloc);
-    match put_i64(&mut out, value) {
-        Ok(()) => out.as_slice() == bytes,
-        Err(_) => false,
-    }
+    let is_written = put_i64(&mut out, value).is_ok() && out.as_slice() == bytes;
+    is_written && len_i64(value) == bytes.len() && read_i64(bytes) == Ok((value, bytes.len()))
 }
 
-/// Whether a number of 32 bits is written as these bytes.
-fn is_written_of_32<A: Allocator + Copy>(alloc: A, value: i32, bytes: &[u8]) -> bool {
+/// Whether a number of 32 bits is written as these bytes, and these are read as that number.
+fn is_of_32<A: Allocator + Copy>(alloc: A, value: i32, bytes: &[u8]) -> bool {
     let mut out = Vec::new(alloc);
-    match put_i32(&mut out, value) {
-        Ok(()) => out.as_slice() == bytes,
-        Err(_) => false,
-    }
-}
-
-/// Whether these bytes are a number of 64 bits, and all of them.
-fn is_read_of_64(value: i64, bytes: &[u8]) -> bool {
-    len_i64(value) == bytes.len() && read_i64(bytes) == Ok((value, bytes.len()))
-}
-
-/// Whether these bytes are a number of 32 bits, and all of them.
-fn is_read_of_32(value: i32, bytes: &[u8]) -> bool {
-    len_i32(value) == bytes.len() && read_i32(bytes) == Ok((value, bytes.len()))
+    let is_written = put_i32(&mut out, value).is_ok() && out.as_slice() == bytes;
+    is_written && len_i32(value) == bytes.len() && read_i32(bytes) == Ok((value, bytes.len()))
 }
 
 #[test]
 fn numbers_and_their_bytes(rt: HostRuntime) {
-    let alloc = rt.alloc();
     for (value, bytes) in &NUMBERS {
-        let is_written = is_written_of_64(alloc, *value, bytes);
-        assert!(rt; is_written && is_read_of_64(*value, bytes), "at {value}");
-    }
-}
-
-#[test]
-fn numbers_of_32_bits(rt: HostRuntime) {
-    let alloc = rt.alloc();
-    for (value, bytes) in &NUMBERS {
-        let is_right = match i32::try_from(*value) {
-            Ok(small) => is_written_of_32(alloc, small, bytes) && is_read_of_32(small, bytes),
+        let is_right = is_of_64(rt.alloc(), *value, bytes);
+        let is_right_of_32 = match i32::try_from(*value) {
+            Ok(small) => is_of_32(rt.alloc(), small, bytes),
             Err(_) => true,
         };
-        assert!(rt; is_right, "at {value}, 32 bits");
+        assert!(rt; is_right && is_right_of_32, "at {value}");
     }
-}
-
-/// Whether these bytes are refused so as a number of 32 and of 64 bits.
-fn is_refused(bytes: &[u8], of_32_bits: VarintError, of_64_bits: VarintError) -> bool {
-    read_i32(bytes) == Err(of_32_bits) && read_i64(bytes) == Err(of_64_bits)
 }
 
 #[test]
 fn refusals(rt: HostRuntime) {
     one_encoding();
-    for (name, bytes, of_32_bits, of_64_bits) in &REFUSALS {
-        assert!(rt; is_refused(bytes, *of_32_bits, *of_64_bits), "{name}");
+    for (bytes, of_32_bits, of_64_bits) in &REFUSALS {
+        let is_refused = read_i32(bytes) == Err(*of_32_bits) && read_i64(bytes) == Err(*of_64_bits);
+        assert!(rt; is_refused, "{bytes:?}");
     }
-}
-
-#[test]
-fn a_fifth_digit_past_32_bits(rt: HostRuntime) {
-    let read = read_i32(&[0xff, 0xff, 0xff, 0xff, 0x1f]);
-    assert_eq!(rt; read, Err(VarintError::TooLong));
+    let past_32_bits = read_i32(&[0xff, 0xff, 0xff, 0xff, 0x1f]);
+    assert_eq!(rt; past_32_bits, Err(VarintError::TooLong));
 }
