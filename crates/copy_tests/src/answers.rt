@@ -4,6 +4,9 @@ use partition_log::{AppendError, Delivered, LeaderLog, PartitionLog};
 use segment::VecStore;
 use std::alloc::Allocator;
 
+/// A copy in a vector of batches.
+pub(crate) type VecLog<A> = PartitionLog<VecStore<A>>;
+
 /// A leader's log in a vector of batches.
 pub(crate) type VecLeader<A> = LeaderLog<VecStore<A>>;
 
@@ -22,10 +25,7 @@ pub(crate) fn answer<A: Allocator + Copy>(log: &mut VecLeader<A>, bytes: &[u8]) 
 }
 
 /// Whether a batch is delivered to a copy as a new one.
-pub(crate) fn is_added<A: Allocator + Copy>(
-    copy: &mut PartitionLog<VecStore<A>>,
-    bytes: &[u8],
-) -> bool {
+pub(crate) fn is_added<A: Allocator + Copy>(copy: &mut VecLog<A>, bytes: &[u8]) -> bool {
     match view(bytes) {
         Ok(batch) => copy.deliver(&batch) == Ok(Delivered::Added),
         Err(_) => false,

@@ -4,10 +4,6 @@
 #[cfg(test)]
 mod answers;
 #[cfg(test)]
-mod delivery;
-#[cfg(test)]
-mod delivery_memory;
-#[cfg(test)]
 mod leader;
 #[cfg(test)]
 mod memory;

@@ -1,93 +1,89 @@
-//! A leader's log and a copy under each allocation failing in turn: they are as they were, and the call
-//! succeeds later.
-use crate::answers::{VecLeader, answer};
-use outside_batches::one;
-use partition_log::{AppendError, CleanReport, LeaderLog, PartitionLog};
+//! A copy under each allocation failing in turn: it is as it was, and the call succeeds later.
+use crate::answers::VecLog;
+use batch_codec::view;
+use outside_batches::{NINE, THREE, one};
+use partition_log::{CleanReport, DeliverError, Delivered, PartitionLog};
 use refusing_alloc::Refusing;
 use segment::VecStore;
-use std::alloc::{AllocError, Allocator};
+use std::alloc::Allocator;
 use std::test::Fail;
 
 /// More allocations than any run below asks for.
-const MOST: u64 = 200;
+const MOST: u64 = 100;
 
-/// What goes where the first of two records of a key is cleaned away.
-const ONE_WENT: CleanReport = CleanReport {
-    records: 1,
+/// What goes where the newest of three records of a key and that of another stay.
+const THREE_WENT: CleanReport = CleanReport {
+    records: 3,
     tombstones: 0,
     batches: 1,
 };
 
-/// Whether a copy keeps so many batches, and shows a value of the key `k`.
-fn holds<A: Allocator + Copy>(copy: &PartitionLog<VecStore<A>>, len: usize, value: u8) -> bool {
-    copy.len() == len && copy.end() == 2 && copy.get(b"k") == Some([value].as_slice())
+/// Delivers a batch that is new, again where memory lacked, and tells whether the copy was as it had been
+/// then, and took it.
+fn takes<A: Allocator + Copy>(copy: &mut VecLog<A>, bytes: &[u8]) -> bool {
+    let Ok(batch) = view(bytes) else {
+        return false;
+    };
+    let len = copy.len();
+    let mut answer = copy.deliver(&batch);
+    let mut is_same = true;
+    if answer == Err(DeliverError::OutOfMemory) {
+        is_same = copy.len() == len;
+        answer = copy.deliver(&batch);
+    }
+    is_same && answer == Ok(Delivered::Added)
 }
 
-/// Appends a batch of this value, again where memory failed, and tells whether the log was as before then.
-fn appends<A: Allocator + Copy>(log: &mut VecLeader<A>, value: u8) -> bool {
-    let bytes = one(0, 0, b'k', value);
-    let end = log.copy().end();
-    match answer(log, &bytes) {
-        Some(Ok((base, _))) => base == end,
-        Some(Err(AppendError::OutOfMemory)) => {
-            log.copy().end() == end && matches!(answer(log, &bytes), Some(Ok(_)))
-        }
-        _ => false,
+/// Whether the copy has memory for its table, and keeps so many batches and shows a value of `a`, beside `b`.
+fn shows<A: Allocator + Copy>(copy: &VecLog<A>, len: usize, value: &[u8]) -> bool {
+    let rows: &[(&[u8], &[u8])] = &[(b"a", value), (b"b", b"2")];
+    match copy.table() {
+        Ok(table) => copy.len() == len && table.as_slice() == rows,
+        Err(_) => false,
     }
 }
 
-/// Cleans a leader's log, again where memory failed, and tells whether it was as before then.
-fn cleans<A: Allocator + Copy>(log: &mut VecLeader<A>) -> bool {
-    match log.clean(2, 0) {
-        Ok(report) => report == ONE_WENT,
-        Err(_) => holds(log.copy(), 2, b'2') && log.clean(2, 0) == Ok(ONE_WENT),
-    }
+/// Whether the copy takes three batches and shows what they leave, at the first or the second time of asking.
+fn takes_all<A: Allocator + Copy>(copy: &mut VecLog<A>) -> bool {
+    let taken = [
+        takes(copy, &THREE),
+        takes(copy, &NINE),
+        takes(copy, &one(4, 0, b'a', b'8')),
+        shows(copy, 3, b"8") || shows(copy, 3, b"8"),
+    ];
+    taken == [true; 4]
 }
 
-/// The same of a copy.
-fn cleans_copy<A: Allocator + Copy>(copy: &mut PartitionLog<VecStore<A>>) -> bool {
-    match copy.clean(2, 0) {
-        Ok(report) => report == ONE_WENT,
-        Err(_) => holds(copy, 2, b'2') && copy.clean(2, 0) == Ok(ONE_WENT),
-    }
+/// Cleans the copy, again where memory lacked, and tells whether it was as before then, and is right.
+fn is_cleaned<A: Allocator + Copy>(copy: &mut VecLog<A>) -> bool {
+    let is_right = match copy.clean(5, 0) {
+        Ok(report) => report == THREE_WENT,
+        Err(_) => shows(copy, 3, b"8") && copy.clean(5, 0) == Ok(THREE_WENT),
+    };
+    is_right && (shows(copy, 2, b"8") || shows(copy, 2, b"8"))
 }
 
-/// Clones a copy, again where memory failed.
-fn cloned<A: Allocator + Copy>(
-    copy: &PartitionLog<VecStore<A>>,
-) -> Result<PartitionLog<VecStore<A>>, AllocError> {
-    match copy.try_clone() {
-        Ok(other) => Ok(other),
+/// Whether a clone of the copy is made, at the first or the second time of asking, and is cleaned, and the
+/// copy stays as it is.
+fn is_cloned<A: Allocator + Copy>(copy: &VecLog<A>) -> bool {
+    let clone = match copy.try_clone() {
+        Ok(clone) => Ok(clone),
         Err(_) => copy.try_clone(),
-    }
-}
-
-/// Clones a log's copy, and tells whether the log and then the clone are cleaned right.
-fn cleans_both<A: Allocator + Copy>(log: &mut VecLeader<A>) -> bool {
-    match cloned(log.copy()) {
-        Ok(mut other) => {
-            cleans(log)
-                && holds(log.copy(), 1, b'2')
-                && cleans_copy(&mut other)
-                && holds(&other, 1, b'2')
-        }
+    };
+    match clone {
+        Ok(mut clone) => is_cleaned(&mut clone) && copy.len() == 3,
         Err(_) => false,
     }
 }
 
-/// Whether a new log takes two batches and is cleaned, and a clone of it too, with one allocation failing
-/// or none.
+/// Whether a new copy takes the batches, and is cloned.
 fn is_as_before<A: Allocator + Copy>(heap: A) -> bool {
-    match LeaderLog::from_copy(PartitionLog::<VecStore<_>>::new(heap)) {
-        Ok(mut log) => {
-            appends(&mut log, b'1') && appends(&mut log, b'2') && cleans_both(&mut log)
-        }
-        Err(_) => false,
-    }
+    let mut copy = PartitionLog::<VecStore<A>>::new(heap);
+    takes_all(&mut copy) && is_cloned(&copy)
 }
 
 #[test]
-fn a_log_is_as_before_an_allocation_that_fails(rt: HostRuntime) -> Result<(), Fail> {
+fn a_copy_is_as_before_an_allocation_that_fails(rt: HostRuntime) -> Result<(), Fail> {
     let mut passed = false;
     for refused in 1..MOST {
         let heap = Refusing::new(rt.alloc(), refused);
