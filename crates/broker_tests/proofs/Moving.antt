@@ -2,7 +2,7 @@
 use Rattle.std.proofs.Common.{ℕ, List, [], ◌++◌, Option}
 use Rattle.std.specs.Io.KnownBytes.{Consumes, Appends}
 use Rattle.std.proofs.KnownBytes.{Consumes-nil, Appends-nil, Consumes-trans, Appends-trans}
-use Rattle.stream_tests.specs.Copies.{Moves}
+use Rattle.broker_tests.specs.Copies.{Moves}
 
 pub nothing_moved : (a b : Option (List ℕ)) → Moves a a b b
 nothing_moved a b = record { bytes = []; consumes = Consumes-nil a; appends = Appends-nil b }

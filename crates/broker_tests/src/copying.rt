@@ -1,7 +1,7 @@
 //! A caller of both: what a source gives goes to a sink.
 ghost use Rattle.std.specs.Prelude.{◌≡◌, ◌||◌, ◌<◌, false, true, length, IfOk, OnOk, OnErr};
 ghost use Rattle.std.specs.Io.KnownBytes.{IsAtEnd};
-ghost use Rattle.stream_tests.specs.Copies.{Moves};
+ghost use Rattle.broker_tests.specs.Copies.{Moves};
 
 use std::io::{Read, Write};
 use streams::{Failed, Sink, Source};

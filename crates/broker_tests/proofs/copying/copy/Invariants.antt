@@ -1,6 +1,6 @@
 use Rattle.std.proofs.Common.{◌≡◌, false}
-use Rattle.stream_tests.specs.Copies.{Moves}
-use Rattle.stream_tests.proofs.copying.copy.Given as goal
+use Rattle.broker_tests.specs.Copies.{Moves}
+use Rattle.broker_tests.proofs.copying.copy.Given as goal
 
 -- what left the reader went to the writer, and no call failed
 abbrev pub invariant-loop : goal.invariant-loop

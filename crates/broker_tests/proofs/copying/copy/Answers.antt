@@ -1,5 +1,5 @@
-use Rattle.stream_tests.proofs.Moving.{moved_more}
-use Rattle.stream_tests.proofs.copying.copy.Goals as goal
+use Rattle.broker_tests.proofs.Moving.{moved_more}
+use Rattle.broker_tests.proofs.copying.copy.Goals as goal
 
 pub returns-then-not-branch-clause-moves : goal.returns-then-not-branch-clause-moves
 returns-then-not-branch-clause-moves g c = moved_more _ _ _ _ _ _ c.loop.invariant.2 c.in_ok-copy_piece.ensures.moves
