@@ -113,7 +113,8 @@ fn cut_and_failing_readers(rt: HostRuntime) -> Result<(), Fail> {
     Ok(())
 }
 
-/// Whether a reply is cut behind so many bytes by a writer that fails so. Its batch is stored.
+/// Whether a reply is cut behind so many bytes by a writer that fails so, and none where it takes them all:
+/// it isn't flushed. The batch is stored.
 fn is_cut<A: Allocator + Copy>(
     alloc: A,
     input: &[u8],
@@ -127,7 +128,10 @@ fn is_cut<A: Allocator + Copy>(
         ..writer_of(replies, 8)
     };
     let reads = if room < 45 { 3 } else { 4 };
-    let came = ("write", 0, 0, replies.len().saturating_sub(room), reads);
+    let came = match replies.len().saturating_sub(room) {
+        0 => ("ended", 2, 0, 0, 5),
+        lost => ("write", 0, 0, lost, reads),
+    };
     comes(alloc, reader_of(input, 50), writer, came, 1)
 }
 
@@ -135,7 +139,7 @@ fn is_cut<A: Allocator + Copy>(
 fn writers_that_fail(rt: HostRuntime) -> Result<(), Fail> {
     let input = repeated(rt.alloc(), PRODUCE, LIST, 1)?;
     let replies = repeated(rt.alloc(), STORED, LISTED_AT_1, 1)?;
-    for room in 0..replies.len() {
+    for room in 0..=replies.len() {
         for (way, error) in &WAYS {
             assert!(rt;
                 is_cut(rt.alloc(), &input, &replies, room, *error),
