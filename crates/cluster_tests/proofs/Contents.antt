@@ -5,17 +5,12 @@ use Rattle.batch_codec.specs.Values.{BatchValue}
 use Rattle.cover_ranges.specs.Runs.{Runs}
 use Rattle.content.specs.Content.{Content, IsContent}
 use Rattle.cleaner.specs.Given.{content_of}
-use Rattle.segment.specs.BatchLists.{IsBatchList}
-use Rattle.partition_log.proofs.Lists.{batch_list_of}
 
 pub same_content : (c : Content) (runs : Runs) (kept : List BatchValue) → runs ≡ c.cover → kept ≡ c.kept → c.start ≡ pos 0 → content_of runs kept ≡ c
 same_content c runs kept cover_is kept_is from = λ i. record { start = (sym from) i; cover = cover_is i; kept = kept_is i }
 
 pub is_content : (c : Content) (runs : Runs) (kept : List BatchValue) → runs ≡ c.cover → kept ≡ c.kept → c.start ≡ pos 0 → IsContent c → IsContent (content_of runs kept)
 is_content c runs kept cover_is kept_is from valid = subst IsContent (sym (same_content c runs kept cover_is kept_is from)) valid
-
-pub is_batch_list : (c : Content) (kept : List BatchValue) → kept ≡ c.kept → c.start ≡ pos 0 → IsContent c → IsBatchList kept
-is_batch_list c kept kept_is from valid = batch_list_of c.cover kept (is_content c c.cover kept (λ i. c.cover) kept_is from valid)
 
 -- ---- the batches, read one after another
 

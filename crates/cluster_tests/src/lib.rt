@@ -8,8 +8,6 @@ mod event_memory;
 #[cfg(test)]
 mod events;
 #[cfg(test)]
-mod images;
-#[cfg(test)]
 mod leading;
 #[cfg(test)]
 mod memory;
