@@ -24,11 +24,11 @@ fn takes<A: Allocator + Copy>(copy: &mut VecLog<A>, bytes: &[u8]) -> bool {
     let Ok(batch) = view(bytes) else {
         return false;
     };
-    let len = copy.len();
+    let before = (copy.len(), copy.end());
     let mut answer = copy.deliver(&batch);
     let mut is_same = true;
     if answer == Err(DeliverError::OutOfMemory) {
-        is_same = copy.len() == len;
+        is_same = (copy.len(), copy.end()) == before;
         answer = copy.deliver(&batch);
     }
     is_same && answer == Ok(Delivered::Added)
