@@ -74,7 +74,7 @@ static REFUSALS: [(Ranges, &str); 10] = [
     (&[(0, 4), (6, OFFSETS_END), (5, 1)], "OutOfBounds"),
 ];
 
-/// The text of the refusal to make a set of these ranges in this memory.
+/// Whether a set of these ranges in this memory is refused with this text.
 fn is_refused<A: Allocator + Copy, B: Allocator + Copy>(
     heap: A,
     alloc: B,
@@ -87,7 +87,7 @@ fn is_refused<A: Allocator + Copy, B: Allocator + Copy>(
     }
 }
 
-/// Whether the refusal has this text where there is no memory, which is asked for only if no range is at fault.
+/// The same where there is no memory, which is asked for only if no range is at fault.
 fn is_refused_without_memory<A: Allocator + Copy>(
     alloc: A,
     ranges: &[(i64, i64)],
@@ -125,7 +125,7 @@ static QUESTIONS: [(i64, i64, Answers); 11] = [
     (i64::MAX, i64::MAX, (false, false, i64::MAX)),
 ];
 
-/// The first offset of the first question that a set answers otherwise; it has that offset where it is no gap.
+/// The first offset of the first question that a set answers otherwise, also whether it has that offset.
 fn answered_otherwise<A: Allocator + Copy>(cover: &Cover<A>) -> Option<i64> {
     for &(first, last, wanted) in &QUESTIONS {
         let all = cover.has_all(first, last);
@@ -290,23 +290,36 @@ fn sets_come_later<A: Allocator + Copy>(heap: A) -> Result<bool, Fail> {
 }
 
 /// What takes memory.
-static RUNS: [&str; 3] = ["insertions", "insertions with room", "sets and their union"];
+#[derive(Clone, Copy)]
+enum Run {
+    Insertions,
+    InsertionsWithRoom,
+    Union,
+}
+
+/// The runs, and their names.
+static RUNS: [(&str, Run); 3] = [
+    ("insertions", Run::Insertions),
+    ("insertions with room", Run::InsertionsWithRoom),
+    ("sets and their union", Run::Union),
+];
 
 /// Makes the calls of a run.
 fn succeeds_later<B: Allocator + Copy>(
     inner: B,
     heap: &Refusing<B>,
-    run: &str,
+    run: Run,
 ) -> Result<bool, Fail> {
-    if run == "sets and their union" {
-        return sets_come_later(heap);
+    match run {
+        Run::Insertions => Ok(inserts_forty(inner, heap, false)?),
+        Run::InsertionsWithRoom => Ok(inserts_forty(inner, heap, true)?),
+        Run::Union => sets_come_later(heap),
     }
-    Ok(inserts_forty(inner, heap, run == "insertions with room")?)
 }
 
 /// Makes the calls of a run, each allocation failing in turn, until one doesn't ask for the one that would fail,
 /// and tells whether all was right.
-fn each_succeeds_later(rt: &HostRuntime, run: &str) -> Result<bool, Fail> {
+fn each_succeeds_later(rt: &HostRuntime, run: Run) -> Result<bool, Fail> {
     for failing in 1..MANY_ALLOCATIONS {
         let heap = Refusing::new(rt.alloc(), failing);
         if !succeeds_later(rt.alloc(), &heap, run)? {
@@ -321,8 +334,8 @@ fn each_succeeds_later(rt: &HostRuntime, run: &str) -> Result<bool, Fail> {
 
 #[test]
 fn each_allocation_fails(rt: HostRuntime) -> Result<(), Fail> {
-    for run in RUNS {
-        assert!(rt; each_succeeds_later(&rt, run)?, "{run}");
+    for (name, run) in RUNS {
+        assert!(rt; each_succeeds_later(&rt, run)?, "{name}");
     }
     Ok(())
 }
