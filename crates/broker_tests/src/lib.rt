@@ -1,25 +1,49 @@
-//! Tests of sources and sinks over readers and writers that give and take little, and that fail; and a
-//! caller of both. Tests of brokers: which hosts they may have, what a new broker holds, the answers of
-//! requests and of sessions, and each allocation failing in turn. `tests/rows` has the codes of requests,
+//! Tests of frames: what is cut from a stream, how a frame is read as a request, and which names a topic
+//! may have; of the writers of responses, on bytes worked out from Kafka's protocol guide, with a caller
+//! that is proved to write a whole response. Tests of sources and sinks over readers and writers that give
+//! and take little, and that fail, with a caller of both. Tests of brokers: which hosts they may have, what
+//! a new broker holds, the answers of requests and of sessions; and of what no run of the program can
+//! show. Of each, also with an allocation failing in turn. `tests/rows` has whole requests and responses,
 //! refused frames and topics, and clients that wait for each reply.
 #![tactic(auto)]
 
 #[cfg(test)]
 mod brokers;
+#[cfg(test)]
+mod command_lines;
+#[cfg(test)]
 mod copying;
+#[cfg(test)]
+mod cutting;
+#[cfg(test)]
+mod failing_streams;
 #[cfg(test)]
 mod frames;
 #[cfg(test)]
 mod memory;
 #[cfg(test)]
+mod names;
+#[cfg(test)]
 mod new_brokers;
 #[cfg(test)]
+mod one;
+#[cfg(test)]
+mod parsing;
+#[cfg(test)]
+mod parts;
+#[cfg(test)]
 mod pieces;
+#[cfg(test)]
+mod refusing;
+#[cfg(test)]
+mod script_memory;
 #[cfg(test)]
 mod sessions;
 #[cfg(test)]
 mod sinks;
 #[cfg(test)]
 mod sources;
-
-pub use copying::copy;
+#[cfg(test)]
+mod table_memory;
+#[cfg(test)]
+mod writing;

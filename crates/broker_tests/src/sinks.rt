@@ -1,7 +1,7 @@
 //! Sinks into a writer that takes few bytes a write, and that fails once; and a copy from a source.
 ghost use Rattle.std.specs.Prelude.{◌≡◌, ◌<◌, false};
 
-use crate::copy;
+use crate::copying::copy;
 use crate::pieces::{Halting, WAYS, reader_of, writer_of};
 use std::io::ErrorKind;
 use std::test::Fail;

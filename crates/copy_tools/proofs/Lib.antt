@@ -1,4 +1,2 @@
-mod Numerals
 mod Pairs
 mod Sized
-mod Texts

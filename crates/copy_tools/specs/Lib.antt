@@ -1,3 +1,1 @@
-pub mod Escapes
 pub mod Merging
-pub mod Numbers

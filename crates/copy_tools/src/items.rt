@@ -2,10 +2,10 @@
 
 ghost use Rattle.std.specs.Prelude.{◌<◌, length};
 
-use crate::escapes::{has_bad_escape, unescape};
 use crate::line::{BadLine, Producer};
 use crate::words::split_word;
 use batch_codec::{Batch, BatchHead, EncodeError, MAX_BATCH_BYTES, Rec, encode};
+use script_words::{has_bad_escape, unescape};
 use std::alloc::{AllocError, Allocator};
 
 /// How many bytes a record takes at least, beside its key and its value.

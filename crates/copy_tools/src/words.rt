@@ -3,7 +3,7 @@
 ghost use Rattle.std.specs.Prelude.{◌≡◌, ◌<◌, ◌≤◌, length};
 
 use crate::line::{BadLine, Producer};
-use crate::numbers::{parse_index, parse_signed};
+use script_words::{parse_index, parse_signed};
 
 /// Whether a line has an empty word: a space stands first, last, or behind another, or there is nothing.
 pub(crate) fn has_empty_word(line: &[u8]) -> bool {

@@ -1,9 +1,11 @@
-//! Tests of the public calls of numbers, checksums, batches, covered offsets, cleanings, lists of batches
-//! and producers' windows, a file for each call or subject.
+//! Tests of the public calls of numbers, checksums, batches, covered offsets, lists of batches, producers'
+//! windows, copies and a leader's log, a file for each call or subject.
 #![tactic(auto)]
 
 #[cfg(test)]
-mod cleaning;
+mod answers;
+#[cfg(test)]
+mod copy_memory;
 #[cfg(test)]
 mod cover;
 #[cfg(test)]
@@ -13,7 +15,15 @@ mod decode_tests;
 #[cfg(test)]
 mod encode_tests;
 #[cfg(test)]
+mod leader;
+#[cfg(test)]
+mod names;
+#[cfg(test)]
 mod producer;
+#[cfg(test)]
+mod producers;
+#[cfg(test)]
+mod reads;
 #[cfg(test)]
 mod set_base_tests;
 #[cfg(test)]
