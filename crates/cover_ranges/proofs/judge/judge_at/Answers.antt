@@ -1,3 +1,4 @@
+use Rattle.std.proofs.lemmas.Grind.{common_steps}
 use Rattle.std.proofs.Common.{w64, arith, rules, refl, get_or, take, inl, inr, ◌⊎◌}
 use Rattle.std.specs.Prelude.{pos, ◌+ℤ◌, ◌<ℤ◌, ◌≤ℤ◌}
 use Rattle.std.specs.List.{All}
@@ -26,3 +27,6 @@ returns c =
     let none : All (λ run. (run.1 +ℤ pos 1) <ℤ (get_or c.args.ranges.now c.args.at (pos 0, pos 0)).0) (take c.args.at c.args.ranges.now) = simp to_z-of_z at c.if-meets_last.ensures in
     let run : IsRun (get_or c.args.ranges.now c.args.at (pos 0, pos 0)) = (omega (arith, ints), omega (arith, ints), omega (arith, ints)) in
     one_more c.args.ranges.now c.args.at (pos 0, pos 0) c.requires.is_there c.requires.earlier none run
+
+pub returns-then-last-first : goal.returns-then-last-first
+returns-then-last-first c = grind (arith, common_steps)
