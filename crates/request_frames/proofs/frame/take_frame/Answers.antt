@@ -9,3 +9,6 @@ returns-in-Ok-clause-complete_frame_is_taken g c = λ frame rest first.
     let left = c.freeze_to.new.self.items in
     let taken : IsFirstFrame c.advance.new.self c.args.buffer.now.items left = search rules in
     inl (ap (λ (x : List ℕ). Ok (Some x)) (first_once c.advance.new.self frame c.args.buffer.now.items left rest taken first).0)
+
+pub returns-in-Ok-clause-frame_is_the_first : goal.returns-in-Ok-clause-frame_is_the_first
+returns-in-Ok-clause-frame_is_the_first c = search rules
