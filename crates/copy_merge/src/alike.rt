@@ -88,7 +88,6 @@ fn have_equal_records<'a>(x: &BatchView<'a>, y: &BatchView<'a>) -> bool
 }
 
 /// Whether the heads are equal.
-
 fn have_equal_heads<'a>(x: &BatchView<'a>, y: &BatchView<'a>) -> bool
     ensures equal { IsTrue result ↔ (x.now.head ≡ y.now.head) }
     ensures left_writable { Writable x.now }

@@ -1,6 +1,6 @@
 -- The status of images that are refused.
 use Rattle.std.proofs.Common.{◌≡◌, arith}
-use Rattle.copy_tools.specs.declared.error.MergeFault.{MergeFault}
+use Rattle.image_merge.specs.declared.error.MergeFault.{MergeFault}
 use Rattle.subcommands.specs.declared.error.ImagesError.{ImagesError}
 use Rattle.subcommands.specs.declared.error.ImagesError.TheVariants.{Images, Read, Write, OutOfMemory}
 use Rattle.subcommands.specs.Merges.{IfImages}

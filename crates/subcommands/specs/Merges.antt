@@ -1,9 +1,9 @@
 -- What merging two images does, from the bytes that come in to the bytes that go out.
 use Rattle.std.specs.Prelude.{◌≢◌, ℕ, List, Option, ⊤}
 use Rattle.std.specs.Io.KnownBytes.{Appends}
-use Rattle.copy_tools.specs.declared.error.MergeFault.{MergeFault}
-use Rattle.copy_tools.specs.declared.error.MergeFault.TheVariants.{OutOfMemory}
-use Rattle.copy_tools.specs.Merging.{MergesImages, RefusesPair}
+use Rattle.image_merge.specs.declared.error.MergeFault.{MergeFault}
+use Rattle.image_merge.specs.declared.error.MergeFault.TheVariants.{OutOfMemory}
+use Rattle.image_merge.specs.Merging.{MergesImages, RefusesPair}
 use Rattle.subcommands.specs.declared.error.ImagesError.{ImagesError}
 use Rattle.subcommands.specs.declared.error.ImagesError.TheVariants.{Images}
 use Rattle.subcommands.specs.Tables.{ReadsAll}

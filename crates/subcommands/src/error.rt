@@ -2,7 +2,7 @@
 
 use batch_codec::BatchError;
 use broker_core::SessionError;
-use copy_tools::MergeFault;
+use image_merge::MergeFault;
 use partition_log::DeliverError;
 use thiserror::Error;
 

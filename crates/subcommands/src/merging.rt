@@ -2,8 +2,8 @@
 
 ghost use Rattle.std.specs.Prelude.{◌≡◌, ◌≢◌, ◌≤◌, ◌⊎◌, List, ℕ, IfOk, OnOk, IfErr, IsErrOf};
 ghost use Rattle.std.specs.Io.KnownBytes.{Appends};
-ghost use Rattle.copy_tools.specs.declared.error.MergeFault.{MergeFault};
-ghost use Rattle.copy_tools.specs.Merging.{MergesImages, RefusesPair};
+ghost use Rattle.image_merge.specs.declared.error.MergeFault.{MergeFault};
+ghost use Rattle.image_merge.specs.Merging.{MergesImages, RefusesPair};
 ghost use Rattle.subcommands.specs.Tables.{ReadsAll};
 ghost use Rattle.subcommands.specs.Merges.{PrintsMerge, ReadsImages, RefusesImages, IfImages};
 ghost use Rattle.subcommands.specs.Status.{images_status};
@@ -11,7 +11,7 @@ ghost use Rattle.subcommands.specs.Status.{images_status};
 use crate::error::ImagesError;
 use crate::pending::{FillFailed, Pending};
 use crate::status::{DONE, images_status};
-use copy_tools::{MergeFault, merge_images};
+use image_merge::{MergeFault, merge_images};
 use std::alloc::Allocator;
 use std::io::{Read, Write};
 

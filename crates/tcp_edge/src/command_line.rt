@@ -5,7 +5,7 @@ ghost use Rattle.batch_codec.specs.Values.{BatchValue};
 ghost use Rattle.broker_node.specs.Configs.{IsValidConfig};
 ghost use Rattle.broker_node.specs.State.{ConfigValue};
 ghost use Rattle.clap.specs.Words.{Row, kind_of};
-ghost use Rattle.copy_tools.specs.declared.error.MergeFault.{MergeFault};
+ghost use Rattle.image_merge.specs.declared.error.MergeFault.{MergeFault};
 ghost use Rattle.tcp_edge.specs.Asked.{AsksForOther, IfMerge, IfReplay, IfServe, IfSession, IfTable, IsHelp, IsListener, IsMistake, IsNoTopic, IsOutOfMemory};
 ghost use Rattle.subcommands.specs.declared.error.Refusal.{Refusal};
 ghost use Rattle.tcp_edge.specs.CommandLine.{AsksForHelp, AsksForMerge, AsksForTable, Finds, HasMistake, HasTopics, IsConfigOf, IsPort, NamesReplay, NamesSession, topic_words};

@@ -1,6 +1,6 @@
 use Rattle.std.proofs.Common.{ℕ, List, rules, sym, subst}
 use Rattle.std.proofs.lemmas.Result.{on_ok_weaker}
-use Rattle.copy_tools.specs.Merging.{MergesImages, RefusesPair}
+use Rattle.image_merge.specs.Merging.{MergesImages, RefusesPair}
 use Rattle.subcommands.proofs.merging.merge_stream.Goals as goal
 
 pub returns-in-Ok-clause-prints_the_merge : goal.returns-in-Ok-clause-prints_the_merge

@@ -5,7 +5,7 @@ use Rattle.std.proofs.lemmas.List.{take-append-drop, length-take}
 use Rattle.batch_codec.specs.Grammar.{fields}
 use Rattle.batch_codec.specs.Fields.{unsigned_at}
 use Rattle.batch_codec.proofs.Fixed.{wide32, fields_back}
-use Rattle.copy_tools.specs.Merging.{StartsSized}
+use Rattle.image_merge.specs.Merging.{StartsSized}
 
 pub starts_sized : (input bytes rest : List ℕ) (n : ℕ) → ((i : ℕ) → get_or input i 0 < 256) → 4 ≤ length input
     → n ≡ unsigned_at w32 0 input → n < 2 ^ 31 → n ≤ length (drop 4 input)

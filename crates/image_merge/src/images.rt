@@ -4,7 +4,7 @@ ghost use Rattle.std.specs.Prelude.{ℕ, List, [], ◌≡◌, MatchOption, IfOk,
 ghost use Rattle.content.specs.Content.{Content};
 ghost use Rattle.content.specs.Joins.{join, Agree};
 ghost use Rattle.copy_images.specs.Images.{image_of};
-ghost use Rattle.copy_tools.specs.Merging.{StartsSized, IsCut, StartsImage, MergesImages, RefusesPair, RefusesCopies, fault_of};
+ghost use Rattle.image_merge.specs.Merging.{StartsSized, IsCut, StartsImage, MergesImages, RefusesPair, RefusesCopies, fault_of};
 
 use crate::error::MergeFault;
 use copy_images::{ImageError, read_image, write_image};

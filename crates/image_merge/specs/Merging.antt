@@ -12,8 +12,8 @@ use Rattle.copy_images.specs.Refusals.{Refuses}
 use Rattle.copy_merge.specs.Merges.{IsFirstDisagreement}
 use Rattle.copy_merge.specs.declared.error.MergeError.{MergeError}
 use Rattle.copy_merge.specs.declared.error.MergeError.TheVariants as merge
-use Rattle.copy_tools.specs.declared.error.MergeFault.{MergeFault}
-use Rattle.copy_tools.specs.declared.error.MergeFault.TheVariants.{First, Second, Disagree, OutOfMemory}
+use Rattle.image_merge.specs.declared.error.MergeFault.{MergeFault}
+use Rattle.image_merge.specs.declared.error.MergeFault.TheVariants.{First, Second, Disagree, OutOfMemory}
 
 -- ---- bytes behind their size
 

@@ -1,6 +1,6 @@
 use Rattle.std.proofs.Common.{rules}
-use Rattle.copy_tools.proofs.Sized.{starts_sized}
-use Rattle.copy_tools.proofs.images.split_sized.Goals as goal
+use Rattle.image_merge.proofs.Sized.{starts_sized}
+use Rattle.image_merge.proofs.images.split_sized.Goals as goal
 
 pub returns-then-size-gt-MAX_SIZE : goal.returns-then-size-gt-MAX_SIZE
 returns-then-size-gt-MAX_SIZE c = search (rules, starts_sized)

@@ -1,8 +1,8 @@
 use Rattle.std.proofs.Common.{rules, ◌<◌, length, inl, inr}
 use Rattle.std.specs.Prelude.{◌≢◌}
 use Rattle.copy_images.specs.declared.error.ImageError.TheVariants as image
-use Rattle.copy_tools.proofs.Pairs.{extra_behind, is_unread_image}
-use Rattle.copy_tools.proofs.images.second_copy.Goals as goal
+use Rattle.image_merge.proofs.Pairs.{extra_behind, is_unread_image}
+use Rattle.image_merge.proofs.images.second_copy.Goals as goal
 
 pub returns-then-not-is_empty-clause-refuses : goal.returns-then-not-is_empty-clause-refuses
 returns-then-not-is_empty-clause-refuses g c = λ whole first starts.

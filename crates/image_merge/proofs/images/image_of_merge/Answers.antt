@@ -1,7 +1,7 @@
 use Rattle.std.proofs.Common.{subst, sym}
-use Rattle.copy_tools.specs.Merging.{RefusesCopies}
-use Rattle.copy_tools.proofs.Pairs.{copies_refused}
-use Rattle.copy_tools.proofs.images.image_of_merge.Goals as goal
+use Rattle.image_merge.specs.Merging.{RefusesCopies}
+use Rattle.image_merge.proofs.Pairs.{copies_refused}
+use Rattle.image_merge.proofs.images.image_of_merge.Goals as goal
 
 pub returns-in-Err : goal.returns-in-Err
 returns-in-Err g c = record {

@@ -10,9 +10,9 @@ use Rattle.copy_images.specs.Images.{image_of, IsImage}
 use Rattle.copy_merge.specs.declared.error.MergeError.{MergeError}
 use Rattle.copy_merge.specs.declared.error.MergeError.TheVariants as merge
 use Rattle.copy_merge.specs.Merges.{RefusesMerge}
-use Rattle.copy_tools.specs.declared.error.MergeFault.{MergeFault}
-use Rattle.copy_tools.specs.declared.error.MergeFault.TheVariants.{First, Second, Disagree, OutOfMemory}
-use Rattle.copy_tools.specs.Merging.{StartsSized, StartsImage, MergesImages, RefusesPair, RefusesCopies, fault_of}
+use Rattle.image_merge.specs.declared.error.MergeFault.{MergeFault}
+use Rattle.image_merge.specs.declared.error.MergeFault.TheVariants.{First, Second, Disagree, OutOfMemory}
+use Rattle.image_merge.specs.Merging.{StartsSized, StartsImage, MergesImages, RefusesPair, RefusesCopies, fault_of}
 
 -- bytes stand behind the second image
 pub extra_behind : (whole input bytes rest : List ℕ) (first second : Content) → StartsImage whole first input → StartsSized input bytes rest
