@@ -1,6 +1,7 @@
-//! What a copy answers from the batches that it keeps.
+//! What a copy answers from the batches that it keeps. That a deleted key stays deleted is a row of
+//! `tests/rows/deliveries.rows`.
 use crate::answers::{VecLog, is_added};
-use outside_batches::{null_at, one};
+use outside_batches::one;
 use partition_log::{OutOfRange, PartitionLog};
 use segment::VecStore;
 use std::alloc::Allocator;
@@ -93,47 +94,15 @@ fn wrong_time<A: Allocator + Copy>(log: &VecLog<A>) -> Option<Time> {
     wrong
 }
 
+/// Whether a new copy is empty, takes two batches, and has both; and the first fetch and the first time that it
+/// answers otherwise then.
+fn answers_of_new<A: Allocator + Copy>(alloc: A) -> ([bool; 3], Option<Fetch>, Option<Time>) {
+    let mut log = PartitionLog::<VecStore<A>>::new(alloc);
+    let answers = [is_empty(&log), takes_both(&mut log), has_both(&log)];
+    (answers, wrong_fetch(&log), wrong_time(&log))
+}
+
 #[test]
 fn a_copy_with_gaps(rt: HostRuntime) {
-    let mut log = PartitionLog::<VecStore<_>>::new(rt.alloc());
-    let answers = [is_empty(&log), takes_both(&mut log), has_both(&log)];
-    let wrong = (wrong_fetch(&log), wrong_time(&log));
-    assert_eq!(rt; (answers, wrong), ([true; 3], (None, None)));
-}
-
-/// Whether a copy without the key `a` shows the other record alone, and has seen all.
-fn has_no_a<A: Allocator + Copy>(copy: &VecLog<A>) -> bool {
-    let answers = [
-        copy.get(b"a").is_none(),
-        copy.get(b"b") == Some(b"2".as_slice()),
-        (copy.start(), copy.end(), copy.len()) == (0, 3, 3),
-        copy.cover().ranges() == [(0, 2)].as_slice(),
-    ];
-    answers == [true; 4]
-}
-
-/// Delivers a tombstone, and then its record and another.
-fn takes_deleted<A: Allocator + Copy>(log: &mut VecLog<A>) -> bool {
-    let deleted = is_added(log, &null_at(2)) && is_added(log, &one(0, 0, b'a', b'1'));
-    deleted && is_added(log, &one(1, 0, b'b', b'2'))
-}
-
-/// Delivers a later record of the key, and tells whether it is shown.
-fn gets_a<A: Allocator + Copy>(log: &mut VecLog<A>) -> bool {
-    is_added(log, &one(3, 0, b'a', b'4')) && log.get(b"a") == Some(b"4".as_slice())
-}
-
-/// Whether the log gets the later record, and a copy of it made before stays without the key.
-fn gets_a_alone<A: Allocator + Copy>(log: &mut VecLog<A>) -> bool {
-    match log.try_clone() {
-        Ok(copy) => [gets_a(log), has_no_a(&copy)] == [true; 2],
-        Err(_) => false,
-    }
-}
-
-#[test]
-fn a_deleted_key_stays_deleted(rt: HostRuntime) {
-    let mut log = PartitionLog::<VecStore<_>>::new(rt.alloc());
-    let answers = [takes_deleted(&mut log), gets_a_alone(&mut log)];
-    assert_eq!(rt; answers, [true; 2]);
+    assert_eq!(rt; answers_of_new(rt.alloc()), ([true; 3], None, None));
 }
