@@ -11,7 +11,6 @@ use outside_batches::{EMPTIED, NINE, THREE, nine_at};
 use refusing_alloc::Refusing;
 use segment::{BatchStore, VecStore, can_insert};
 use std::alloc::{AllocError, Allocator};
-use std::test::Fail;
 
 /// The greatest offset.
 const GREATEST: i64 = 0x3fff_ffff_ffff_ffff;
@@ -138,27 +137,42 @@ fn has_epoch<S: BatchStore>(store: &S, index: Option<usize>, epoch: i32) -> bool
     }
 }
 
-/// Whether a batch goes where it should.
-fn goes<S: BatchStore, A: Allocator + Copy>(
+/// Inserts a batch that has these bytes at another base offset and leader epoch, and tells whether there was
+/// memory, and it went to this index.
+fn goes_to<S: BatchStore, A: Allocator + Copy>(
     alloc: A,
     store: &mut S,
-    (_, bytes, (base, epoch), wanted, bases): Going,
-) -> Result<bool, Fail> {
-    let found = insert_rebased(alloc, store, &view(bytes)?, base, epoch)?;
-    Ok(found == wanted && has_epoch(store, found, epoch) && has_bases(store, bases))
+    bytes: &[u8],
+    (base, epoch): (i64, i32),
+    wanted: Option<usize>,
+) -> bool {
+    match view(bytes) {
+        Ok(batch) => insert_rebased(alloc, store, &batch, base, epoch) == Ok(wanted),
+        Err(_) => false,
+    }
+}
+
+/// Whether a batch goes where it should.
+fn goes<S: BatchStore, A: Allocator + Copy>(alloc: A, store: &mut S, row: &Going) -> bool {
+    let facts = [
+        goes_to(alloc, store, row.1, row.2, row.3),
+        has_epoch(store, row.3, row.2.1),
+        has_bases(store, row.4),
+    ];
+    facts == [true; 3]
 }
 
 /// The first batch of the table that goes elsewhere; `None` where there is none.
 fn went_otherwise<S: BatchStore, A: Allocator + Copy>(
     alloc: A,
     store: &mut S,
-) -> Result<Option<&'static str>, Fail> {
+) -> Option<&'static str> {
     for row in &GOINGS {
-        if !goes(alloc, store, *row)? {
-            return Ok(Some(row.0));
+        if !goes(alloc, store, row) {
+            return Some(row.0);
         }
     }
-    Ok(None)
+    None
 }
 
 /// An offset, and the index of the first of the six batches from there on.
@@ -189,12 +203,24 @@ fn are_found<S: BatchStore>(store: &S) -> bool {
     true
 }
 
+/// The first batch that goes elsewhere in a new store, and whether the batches of the table are found then.
+fn answers_of_new<A: Allocator + Copy>(alloc: A) -> (Option<&'static str>, bool) {
+    let mut store = VecStore::new(alloc);
+    let went = went_otherwise(alloc, &mut store);
+    (went, are_found(&store))
+}
+
 #[test]
-fn batches_go_in_order_and_are_found(rt: HostRuntime) -> Result<(), Fail> {
-    let mut store = VecStore::new(rt.alloc());
-    let went = went_otherwise(rt.alloc(), &mut store)?;
-    assert_eq!(rt; (went, are_found(&store)), (None, true));
-    Ok(())
+fn batches_go_in_order_and_are_found(rt: HostRuntime) {
+    assert_eq!(rt; answers_of_new(rt.alloc()), (None, true));
+}
+
+/// Inserts a batch at another base offset, and tells whether there was memory.
+fn has_room<S: BatchStore, A: Allocator + Copy>(alloc: A, store: &mut S, base: i64) -> bool {
+    match view(&THREE) {
+        Ok(batch) => insert_rebased(alloc, store, &batch, base, 1).is_ok(),
+        Err(_) => false,
+    }
 }
 
 /// Inserts a batch at another base offset, again where memory lacked, and tells whether the batches had these
@@ -203,16 +229,16 @@ fn goes_later<S: BatchStore, A: Allocator + Copy>(
     alloc: A,
     store: &mut S,
     base: i64,
-    (before, after): (&[i64], &[i64]),
-) -> Result<bool, Fail> {
-    let batch = view(&THREE)?;
-    if insert_rebased(alloc, store, &batch, base, 1).is_err() {
-        if !has_bases(store, before) {
-            return Ok(false);
-        }
-        insert_rebased(alloc, store, &batch, base, 1)?;
+    before: &[i64],
+    after: &[i64],
+) -> bool {
+    let mut is_same = true;
+    let mut is_inserted = has_room(alloc, store, base);
+    if !is_inserted {
+        is_same = has_bases(store, before);
+        is_inserted = has_room(alloc, store, base);
     }
-    Ok(has_bases(store, after))
+    [is_same, is_inserted, has_bases(store, after)] == [true; 3]
 }
 
 /// Inserts two batches into the one store, and one into the other, each again where memory lacked.
@@ -220,19 +246,29 @@ fn are_inserted_later<S: BatchStore, A: Allocator + Copy>(
     alloc: A,
     store: &mut S,
     other: &mut S,
-) -> Result<bool, Fail> {
-    let first = goes_later(alloc, store, 6, (&[], &[6]))?;
-    let second = goes_later(alloc, store, 3, (&[6], &[3, 6]))?;
-    Ok(first && second && goes_later(alloc, other, 0, (&[], &[0]))?)
+) -> bool {
+    let facts = [
+        goes_later(alloc, store, 6, &[], &[6]),
+        goes_later(alloc, store, 3, &[6], &[3, 6]),
+        goes_later(alloc, other, 0, &[], &[0]),
+    ];
+    facts == [true; 3]
+}
+
+/// Copies a store, again where memory lacked.
+fn copied_later<A: Allocator + Copy>(store: &VecStore<A>) -> Option<VecStore<A>> {
+    match store.try_clone() {
+        Ok(copy) => Some(copy),
+        Err(_) => store.try_clone().ok(),
+    }
 }
 
 /// Copies a store of two batches, again where memory lacked.
-fn is_copied_later<A: Allocator + Copy>(store: &VecStore<A>) -> Result<bool, AllocError> {
-    let copy = match store.try_clone() {
-        Ok(copy) => copy,
-        Err(_) => store.try_clone()?,
-    };
-    Ok(has_bases(&copy, &[3, 6]))
+fn is_copied_later<A: Allocator + Copy>(store: &VecStore<A>) -> bool {
+    match copied_later(store) {
+        Some(copy) => has_bases(&copy, &[3, 6]),
+        None => false,
+    }
 }
 
 /// Puts the batches of the second store in the place of the first one's.
@@ -249,14 +285,14 @@ fn is_replaced_later<S: BatchStore, T: BatchStore, A: Allocator + Copy>(
     alloc: A,
     store: &mut S,
     other: &T,
-) -> Result<bool, AllocError> {
-    if replace(alloc, store, other).is_err() {
-        if !has_bases(store, &[0]) {
-            return Ok(false);
-        }
-        replace(alloc, store, other)?;
+) -> bool {
+    let mut is_same = true;
+    let mut is_replaced = replace(alloc, store, other).is_ok();
+    if !is_replaced {
+        is_same = has_bases(store, &[0]);
+        is_replaced = replace(alloc, store, other).is_ok();
     }
-    Ok(has_bases(store, &[3, 6]))
+    [is_same, is_replaced, has_bases(store, &[3, 6])] == [true; 3]
 }
 
 /// Makes each other call on two stores, again where memory lacked.
@@ -264,11 +300,13 @@ fn others_succeed_later<A: Allocator + Copy, B: Allocator + Copy>(
     alloc: B,
     store: &mut VecStore<A>,
     other: &mut VecStore<A>,
-) -> Result<bool, Fail> {
-    if !are_inserted_later(alloc, store, other)? {
-        return Ok(false);
-    }
-    Ok(is_copied_later(store)? && is_replaced_later(alloc, other, store)?)
+) -> bool {
+    let facts = [
+        are_inserted_later(alloc, store, other),
+        is_copied_later(store),
+        is_replaced_later(alloc, other, store),
+    ];
+    facts == [true; 3]
 }
 
 /// The order in which batches with the base offsets from 0 to below [`MANY`] come.
@@ -307,25 +345,47 @@ fn first_bases<A: Allocator + Copy>(
     Ok(bases)
 }
 
-/// Inserts many batches, each again where memory lacked, and tells whether the store was as it had been
-/// then, and has them all.
-fn insert_many<S: BatchStore, A: Allocator + Copy>(
+/// Whether the store has the first batches of an order, and no others.
+fn has_first<S: BatchStore, A: Allocator + Copy>(
+    alloc: A,
+    store: &S,
+    order: Order,
+    count: u16,
+) -> bool {
+    match first_bases(alloc, order, count) {
+        Ok(bases) => has_bases(store, &bases),
+        Err(_) => false,
+    }
+}
+
+/// Inserts the batch that comes at this index, again where memory lacked, and tells whether the store was as it
+/// had been then.
+fn next_goes_later<S: BatchStore, A: Allocator + Copy>(
     alloc: A,
     store: &mut S,
     order: Order,
-) -> Result<bool, Fail> {
-    for i in 0..MANY {
-        let bytes = nine_at(order.base(i));
-        let batch = view(&bytes)?;
-        let went = match insert(store, &batch) {
-            Ok(went) => went,
-            Err(_) => { has_bases(store, &first_bases(alloc, order, i)?) && insert(store, &batch)? }
-        };
-        if !went {
-            return Ok(false);
+    i: u16,
+) -> bool {
+    let bytes = nine_at(order.base(i));
+    let Ok(batch) = view(&bytes) else {
+        return false;
+    };
+    match insert(store, &batch) {
+        Ok(went) => went,
+        Err(_) => {
+            let is_same = has_first(alloc, store, order, i);
+            [is_same, insert(store, &batch) == Ok(true)] == [true; 2]
         }
     }
-    Ok(has_bases(store, &first_bases(alloc, order, MANY)?))
+}
+
+/// Inserts many batches, each again where memory lacked, and tells whether the store has them all.
+fn insert_many<S: BatchStore, A: Allocator + Copy>(alloc: A, store: &mut S, order: Order) -> bool {
+    let mut all = true;
+    for i in 0..MANY {
+        all = all && next_goes_later(alloc, store, order, i);
+    }
+    all && has_first(alloc, store, order, MANY)
 }
 
 /// Inserts many batches into a store of this memory in that order, or makes each other call where there is none.
@@ -333,7 +393,7 @@ fn succeeds_later<A: Allocator + Copy, B: Allocator + Copy>(
     heap: A,
     alloc: B,
     order: Option<Order>,
-) -> Result<bool, Fail> {
+) -> bool {
     let mut store = VecStore::new(heap);
     match order {
         Some(order) => insert_many(alloc, &mut store, order),
@@ -343,24 +403,23 @@ fn succeeds_later<A: Allocator + Copy, B: Allocator + Copy>(
 
 /// Makes the calls, each allocation failing in turn, until a run doesn't ask for the one that would fail, and
 /// tells whether the stores were right each time, and one failed at all.
-fn each_succeeds_later(rt: &HostRuntime, order: Option<Order>) -> Result<bool, Fail> {
+fn each_succeeds_later(rt: &HostRuntime, order: Option<Order>) -> bool {
     for refused in 1..MOST {
         let heap = Refusing::new(rt.alloc(), refused);
-        if !succeeds_later(&heap, rt.alloc(), order)? {
-            return Ok(false);
+        if !succeeds_later(&heap, rt.alloc(), order) {
+            return false;
         }
         if heap.calls() < refused {
-            return Ok(refused > 1);
+            return refused > 1;
         }
     }
-    Ok(false)
+    false
 }
 
 #[test]
-fn a_list_is_as_before_an_allocation_that_fails(rt: HostRuntime) -> Result<(), Fail> {
-    assert!(rt; each_succeeds_later(&rt, None)?, "a few");
+fn a_list_is_as_before_an_allocation_that_fails(rt: HostRuntime) {
+    assert!(rt; each_succeeds_later(&rt, None), "a few");
     for order in [Order::Rising, Order::Falling, Order::FromTheMiddle] {
-        assert!(rt; each_succeeds_later(&rt, Some(order))?, "many");
+        assert!(rt; each_succeeds_later(&rt, Some(order)), "many");
     }
-    Ok(())
 }
