@@ -49,9 +49,9 @@ static PORTS: [(&str, Option<u16>); 14] = [
 /// The first line whose port is another.
 fn first_wrong(alloc: Global) -> Option<&'static str> {
     let mut wrong = None;
-    for (line, port) in PORTS {
-        if wrong.is_none() && !has_port(alloc, line, port) {
-            wrong = Some(line);
+    for (line, port) in &PORTS {
+        if wrong.is_none() && !has_port(alloc, line, *port) {
+            wrong = Some(*line);
         }
     }
     wrong
