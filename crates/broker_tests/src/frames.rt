@@ -7,9 +7,6 @@ use std::alloc::{AllocError, Allocator};
 pub(crate) const PRODUCE: &[u8] =
     b"\0\0\0\x6b\0\0\0\x03\0\0\0\x05\xff\xff\xff\xff\0\x01\0\0\x03\xe8\0\0\0\x01\0\x01t\0\0\0\x01\0\0\0\0\0\0\0\x46\0\0\0\0\0\0\0\0\0\0\0\x3a\0\0\0\0\x02\x32\xc8\x33\x8d\0\0\0\0\0\0\0\0\0\0\0\0\0\0\0\0\0\0\0\0\0\0\xff\xff\xff\xff\xff\xff\xff\xff\xff\xff\xff\xff\xff\xff\0\0\0\x01\x10\0\0\0\x02a\x02\x31\0";
 
-/// The index of the second byte of its acks.
-pub(crate) const ACKS: usize = 17;
-
 /// Its response: code 0, base offset 0.
 pub(crate) const STORED: &[u8] =
     b"\0\0\0\x29\0\0\0\x05\0\0\0\x01\0\x01t\0\0\0\x01\0\0\0\0\0\0\0\0\0\0\0\0\0\0\xff\xff\xff\xff\xff\xff\xff\xff\0\0\0\0";

@@ -1,10 +1,10 @@
-//! Tests of frames: what is cut from a stream, how a frame is read as a request, and which names a topic
-//! may have; of the writers of responses, on bytes worked out from Kafka's protocol guide, with a caller
-//! that is proved to write a whole response. Tests of sources and sinks over readers and writers that give
-//! and take little, and that fail, with a caller of both. Tests of brokers: which hosts they may have, what
-//! a new broker holds, the answers of requests and of sessions; and of what no run of the program can
-//! show. Of each, also with an allocation failing in turn. `tests/rows` has whole requests and responses,
-//! refused frames and topics, and clients that wait for each reply.
+//! Tests of frames: what is cut from a stream; of the writers of responses, on bytes worked out from Kafka's
+//! protocol guide, with a caller that is proved to write a whole response. Tests of sources and sinks over
+//! readers and writers that give and take little, and that fail, with a caller of both. Tests of brokers:
+//! which hosts they may have, what a new broker holds, the answers of requests and of sessions; and of what
+//! no run of the program can show. Of each, also with an allocation failing in turn. `tests/rows` has whole
+//! requests and responses, the names that a topic may have, refused frames and topics, and clients that wait
+//! for each reply.
 #![tactic(auto)]
 
 #[cfg(test)]
@@ -22,13 +22,9 @@ mod frames;
 #[cfg(test)]
 mod memory;
 #[cfg(test)]
-mod names;
-#[cfg(test)]
 mod new_brokers;
 #[cfg(test)]
 mod one;
-#[cfg(test)]
-mod parsing;
 #[cfg(test)]
 mod parts;
 #[cfg(test)]

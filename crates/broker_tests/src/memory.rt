@@ -3,8 +3,7 @@
 
 use crate::brokers::{end_of, has_logs, leader, prints};
 use crate::frames::{
-    ACKS, DESCRIBE, DESCRIBED, FETCH, FETCHED, LIST, LISTED_AT_1, NOT_STORED, PRODUCE, STORED,
-    repeated,
+    DESCRIBE, DESCRIBED, FETCH, FETCHED, LIST, LISTED_AT_1, NOT_STORED, PRODUCE, STORED, repeated,
 };
 use crate::pieces::{reader_of, writer_of};
 use crate::sessions::session;
@@ -173,34 +172,5 @@ fn one_allocation_fails(rt: HostRuntime) -> Result<(), Fail> {
         }
     }
     assert!(rt; last == SESSION && !is_asked, "{last}");
-    Ok(())
-}
-
-/// Whether a broker doesn't answer a request, leaves the output as it is, and stores its batch.
-fn is_silent<S: BatchStore, A: Allocator + Copy>(
-    node: &mut Node<S>,
-    frame: &[u8],
-    out: &mut Vec<u8, A>,
-) -> bool {
-    let is_silent = answer(node, frame, out) == Some(Answer::Silent);
-    is_silent && out.as_slice() == STORED && end_of(node) == 1
-}
-
-/// The same of a new broker.
-fn is_led_silently<A: Allocator + Copy>(alloc: A, frame: &[u8], out: &mut Vec<u8, A>) -> bool {
-    match leader(alloc) {
-        Ok(mut node) => is_silent(&mut node, frame, out),
-        Err(_) => false,
-    }
-}
-
-#[test]
-fn no_answer_to_acks_0(rt: HostRuntime) -> Result<(), Fail> {
-    let mut frame = Vec::from_slice(rt.alloc(), PRODUCE)?;
-    if let Some(acks) = frame.get_mut(ACKS) {
-        *acks = 0;
-    }
-    let mut out = Vec::from_slice(rt.alloc(), STORED)?;
-    assert!(rt; is_led_silently(rt.alloc(), &frame, &mut out));
     Ok(())
 }
