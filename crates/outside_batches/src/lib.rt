@@ -4,7 +4,7 @@
 
 mod changed;
 
-pub use changed::{nine_at, null_at, one, sent, set_producer, three_at};
+pub use changed::{nine_at, one, sent, set_producer, three_at};
 
 /// One record at offset 0, key `a`, value `1`.
 pub const A_IS_1: [u8; 70] = [
