@@ -1,26 +1,116 @@
-//! A copy that was read from an image, and then leads, though it has all offsets.
+//! Copies that were read from an image, and then lead, or are handed back.
 
-use crate::copies::VecLog;
-use crate::outside::ALL_OFFSETS;
+use crate::copies::{VecLog, has_image};
+use crate::outside::{ALL_OFFSETS, ONE_OFFSET};
 use batch_codec::view;
-use copy_images::read_image;
-use outside_batches::A_IS_1;
-use partition_log::{AppendError, LeaderLog};
+use copy_images::{read_image, write_image};
+use outside_batches::{A_IS_1, one, sent};
+use partition_log::{AppendError, Appended, CleanReport, LeaderLog, PartitionLog};
 use segment::VecStore;
 use std::alloc::Allocator;
 
-/// Whether a log refuses a batch because it has all offsets.
-fn refuses<A: Allocator + Copy>(log: &mut LeaderLog<VecStore<A>>) -> bool {
-    match view(&A_IS_1) {
-        Ok(batch) => log.append(&batch) == Err(AppendError::OffsetsFull),
+/// A leader's log in a vector of batches.
+type VecLeader<A> = LeaderLog<VecStore<A>>;
+
+/// Whether a log answers a batch so.
+fn answers<A: Allocator + Copy>(
+    log: &mut VecLeader<A>,
+    bytes: &[u8],
+    wanted: Result<Appended, AppendError>,
+) -> bool {
+    match view(bytes) {
+        Ok(batch) => log.append(&batch) == wanted,
         Err(_) => false,
     }
 }
 
-/// Whether a copy leads, and takes no batch.
+/// Whether a log takes a batch as a new one at this offset.
+fn takes<A: Allocator + Copy>(log: &mut VecLeader<A>, bytes: &[u8], base: i64) -> bool {
+    let repeat = false;
+    answers(log, bytes, Ok(Appended { base, repeat }))
+}
+
+/// Whether a log takes six batches, the first five of one producer.
+fn takes_six<A: Allocator + Copy>(log: &mut VecLeader<A>) -> bool {
+    let mut are_taken = true;
+    for sequence in 0..5 {
+        are_taken = are_taken && takes(log, &sent(7, 0, sequence), i64::from(sequence));
+    }
+    are_taken && takes(log, &one(9, 0, b'k', b'v'), 5)
+}
+
+/// Whether a cleaning of the six batches leaves the last one's record and all batches.
+fn is_cleaned<A: Allocator + Copy>(log: &mut VecLeader<A>) -> bool {
+    let wanted = CleanReport {
+        records: 5,
+        tombstones: 0,
+        batches: 0,
+    };
+    match log.clean(6, 0) {
+        Ok(report) => report == wanted,
+        Err(_) => false,
+    }
+}
+
+/// The image of a log that took the six batches and was cleaned; `None` where it did otherwise.
+fn image_of_log<A: Allocator + Copy>(alloc: A, log: &mut VecLeader<A>) -> Option<Vec<u8, A>> {
+    if takes_six(log) && is_cleaned(log) {
+        write_image(alloc, log.copy()).ok()
+    } else {
+        None
+    }
+}
+
+/// The same of a new log.
+fn image_of_six<A: Allocator + Copy>(alloc: A) -> Option<Vec<u8, A>> {
+    match LeaderLog::from_copy(PartitionLog::new(alloc)) {
+        Ok(mut log) => image_of_log(alloc, &mut log),
+        Err(_) => None,
+    }
+}
+
+/// Whether a log has six batches and ends behind them, knows the producer's oldest batch, takes the next one, and
+/// then no longer knows the oldest.
+fn knows_the_producer<A: Allocator + Copy>(log: &mut VecLeader<A>) -> [bool; 5] {
+    let (base, repeat) = (0, true);
+    [
+        log.copy().len() == 6,
+        log.copy().end() == 6,
+        answers(log, &sent(7, 0, 0), Ok(Appended { base, repeat })),
+        takes(log, &sent(7, 0, 5), 6),
+        answers(log, &sent(7, 0, 0), Err(AppendError::OutOfOrder)),
+    ]
+}
+
+/// The same of the log that a copy becomes.
+fn copy_knows<A: Allocator + Copy>(copy: VecLog<A>) -> [bool; 5] {
+    match LeaderLog::from_copy(copy) {
+        Ok(mut log) => knows_the_producer(&mut log),
+        Err(_) => [false; 5],
+    }
+}
+
+/// The same of the log that comes of an image.
+fn image_knows<A: Allocator + Copy>(alloc: A, image: &[u8]) -> [bool; 5] {
+    match read_image(alloc, image) {
+        Ok(copy) => copy_knows(copy),
+        Err(_) => [false; 5],
+    }
+}
+
+#[test]
+fn a_producer_is_known_from_an_image(rt: HostRuntime) {
+    let knows = match image_of_six(rt.alloc()) {
+        Some(image) => image_knows(rt.alloc(), &image),
+        None => [false; 5],
+    };
+    assert_eq!(rt; knows, [true; 5]);
+}
+
+/// Whether a copy leads, and refuses a batch because it has all offsets.
 fn is_full<A: Allocator + Copy>(copy: VecLog<A>) -> bool {
     match LeaderLog::from_copy(copy) {
-        Ok(mut log) => refuses(&mut log),
+        Ok(mut log) => answers(&mut log, &A_IS_1, Err(AppendError::OffsetsFull)),
         Err(_) => false,
     }
 }
@@ -32,4 +122,21 @@ fn an_image_of_all_offsets(rt: HostRuntime) {
         Err(_) => false,
     };
     assert!(rt; is_full);
+}
+
+/// Whether a copy has a gap, and is handed back with this image.
+fn is_handed_back<A: Allocator + Copy>(copy: VecLog<A>, image: &[u8]) -> bool {
+    match LeaderLog::from_copy(copy) {
+        Ok(_) => false,
+        Err(gapped) => has_image(&gapped.copy, image),
+    }
+}
+
+#[test]
+fn an_image_with_a_gap(rt: HostRuntime) {
+    let is_handed_back = match read_image::<VecStore<_>>(rt.alloc(), &ONE_OFFSET) {
+        Ok(copy) => is_handed_back(copy, &ONE_OFFSET),
+        Err(_) => false,
+    };
+    assert!(rt; is_handed_back);
 }
