@@ -11,8 +11,10 @@ use crate::error::FieldFault;
 pub(crate) fn int8(bytes: &[u8]) -> Result<(i8, &[u8]), FieldFault>
     ensures { Gives (λ x. (x.0, x.1.now)) result (read_field (number size8) bytes.now) }
 {
-    let (first, rest) = bytes.split_first_chunk::<1>().ok_or(FieldFault::ShortBody)?;
-    Ok((i8::from_be_bytes(*first), rest))
+    match bytes.split_first_chunk::<1>() {
+        Some((first, rest)) => Ok((i8::from_be_bytes(*first), rest)),
+        None => Err(FieldFault::ShortBody),
+    }
 }
 
 #[inline]
@@ -20,8 +22,10 @@ pub(crate) fn int8(bytes: &[u8]) -> Result<(i8, &[u8]), FieldFault>
 pub(crate) fn int16(bytes: &[u8]) -> Result<(i16, &[u8]), FieldFault>
     ensures { Gives (λ x. (x.0, x.1.now)) result (read_field (number size16) bytes.now) }
 {
-    let (first, rest) = bytes.split_first_chunk::<2>().ok_or(FieldFault::ShortBody)?;
-    Ok((i16::from_be_bytes(*first), rest))
+    match bytes.split_first_chunk::<2>() {
+        Some((first, rest)) => Ok((i16::from_be_bytes(*first), rest)),
+        None => Err(FieldFault::ShortBody),
+    }
 }
 
 #[inline]
@@ -29,8 +33,10 @@ pub(crate) fn int16(bytes: &[u8]) -> Result<(i16, &[u8]), FieldFault>
 pub(crate) fn int32(bytes: &[u8]) -> Result<(i32, &[u8]), FieldFault>
     ensures { Gives (λ x. (x.0, x.1.now)) result (read_field (number size32) bytes.now) }
 {
-    let (first, rest) = bytes.split_first_chunk::<4>().ok_or(FieldFault::ShortBody)?;
-    Ok((i32::from_be_bytes(*first), rest))
+    match bytes.split_first_chunk::<4>() {
+        Some((first, rest)) => Ok((i32::from_be_bytes(*first), rest)),
+        None => Err(FieldFault::ShortBody),
+    }
 }
 
 #[inline]
@@ -38,8 +44,10 @@ pub(crate) fn int32(bytes: &[u8]) -> Result<(i32, &[u8]), FieldFault>
 pub(crate) fn int64(bytes: &[u8]) -> Result<(i64, &[u8]), FieldFault>
     ensures { Gives (λ x. (x.0, x.1.now)) result (read_field (number size64) bytes.now) }
 {
-    let (first, rest) = bytes.split_first_chunk::<8>().ok_or(FieldFault::ShortBody)?;
-    Ok((i64::from_be_bytes(*first), rest))
+    match bytes.split_first_chunk::<8>() {
+        Some((first, rest)) => Ok((i64::from_be_bytes(*first), rest)),
+        None => Err(FieldFault::ShortBody),
+    }
 }
 
 /// That many bytes, and those after them.
