@@ -1,21 +1,10 @@
 //! Readers of fields at the front of a frame's bytes. Each answers the value and the bytes after it.
 
 ghost use Rattle.std.specs.Option.{option_map};
-ghost use Rattle.request_frames.specs.Fields.{size8, size16, size32, size64, number, sized, sized_or_null};
+ghost use Rattle.request_frames.specs.Fields.{size16, size32, size64, number, sized, sized_or_null};
 ghost use Rattle.request_frames.specs.Reading.{Gives, read_text, read_text_or_null, read_field};
 
 use crate::error::FieldFault;
-
-#[inline]
-#[tactic(auto, unfolding(crate::specs::Reading::read_field, crate::specs::Reading::read_number))]
-pub(crate) fn int8(bytes: &[u8]) -> Result<(i8, &[u8]), FieldFault>
-    ensures { Gives (λ x. (x.0, x.1.now)) result (read_field (number size8) bytes.now) }
-{
-    match bytes.split_first_chunk::<1>() {
-        Some((first, rest)) => Ok((i8::from_be_bytes(*first), rest)),
-        None => Err(FieldFault::ShortBody),
-    }
-}
 
 #[inline]
 #[tactic(auto, unfolding(crate::specs::Reading::read_field, crate::specs::Reading::read_number))]

@@ -12,7 +12,7 @@ ghost use Rattle.std.specs.Option.{option_map};
 
 use crate::array::{Array, Element, array_at, nullable_array_at};
 use crate::error::FieldFault;
-use crate::fields::{int8, int16, int32, int64, nullable_bytes, nullable_string, string};
+use crate::fields::{int16, int32, int64, nullable_bytes, nullable_string, string};
 use crate::parsing::RequestBody;
 
 /// A topic of a request, with an entry for each of its partitions.
@@ -167,15 +167,17 @@ pub struct FetchRequest<'a> {
     pub topics: Array<'a, Topic<'a, FetchPartition>>,
 }
 
-#[tactic(auto, unfolding(crate::specs::Reading::read_fields))]
+/// How many bytes the numbers before the topics of a Fetch request take. Only `max_bytes`, 12 bytes
+/// behind their start, is used.
+const FETCH_FIXED_BYTES: usize = 17;
+
 pub(crate) fn fetch_at(bytes: &[u8]) -> Result<(RequestBody<'_>, &[u8]), FieldFault>
     ensures { Gives (λ x. (request_body x.0, x.1.now)) result (read_body Api.Fetch bytes.now) }
 {
-    let (_replica_id, rest) = int32(bytes)?;
-    let (_max_wait, rest) = int32(rest)?;
-    let (_min_bytes, rest) = int32(rest)?;
-    let (max_bytes, rest) = int32(rest)?;
-    let (_isolation_level, rest) = int8(rest)?;
+    let Some((fixed, rest)) = bytes.split_first_chunk::<FETCH_FIXED_BYTES>() else {
+        return Err(FieldFault::ShortBody);
+    };
+    let max_bytes = i32::from_be_bytes([fixed[12], fixed[13], fixed[14], fixed[15]]);
     let (topics, rest) = array_at(rest)?;
     Ok((RequestBody::Fetch(FetchRequest { max_bytes, topics }), rest))
 }
