@@ -195,7 +195,10 @@ pub(crate) fn list_offsets_at(bytes: &[u8]) -> Result<(RequestBody<'_>, &[u8]), 
 {
     let (_replica_id, rest) = int32(bytes)?;
     let (topics, rest) = array_at(rest)?;
-    Ok((RequestBody::ListOffsets(ListOffsetsRequest { topics }), rest))
+    Ok((
+        RequestBody::ListOffsets(ListOffsetsRequest { topics }),
+        rest,
+    ))
 }
 
 /// A Metadata request.

@@ -1,4 +1,4 @@
-use Rattle.std.proofs.Common.{◌≡◌, ◌≤◌, ◌<◌, ◌∙◌, length, take, drop, Ok, Err, rules, FitsSigned}
+use Rattle.std.proofs.Common.{◌≡◌, ◌≤◌, ◌<◌, ◌∙◌, length, take, drop, Err, rules, FitsSigned}
 use Rattle.std.specs.Int.{w32}
 use Rattle.request_frames.specs.Fields.{size32, number_at}
 use Rattle.request_frames.proofs.FetchLimit.{topics_at, limit_in, limit_fault, topics_fault, topics_read}
