@@ -10,3 +10,4 @@ pub mod OneOutcome
 pub mod FramesCut
 pub mod ResponseParts
 mod MetadataHead
+mod FetchLimit

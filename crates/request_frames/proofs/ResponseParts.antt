@@ -1,6 +1,6 @@
 -- The parts of a response, one after the other, are the encoding of its fields; and the limits of the fields.
 use Rattle.std.proofs.Common.{◌≡◌, ℕ, ◌≤◌, List, [], ◌∷◌, ◌++◌, length, refl, sym, ap, ◌∙◌, append_assoc, append-nil, arith}
-use Rattle.std.specs.Prelude.{ℤ, pos, map, ◌↔◌}
+use Rattle.std.specs.Prelude.{ℤ, pos, map, ◌↔◌, Result, Ok, Err, OnOk}
 use Rattle.std.specs.List.{flat_map}
 use Rattle.std.proofs.lemmas.List.{length-map}
 use Rattle.request_frames.specs.declared.response.TheConstants.{MAX_STRING_BYTES, MAX_COUNT, MAX_BODY_BYTES}
@@ -69,6 +69,15 @@ metadata_parts b controller ts =
     let brokers = elements (encoded broker_fields) (broker_value b.node_id b.host b.port ∷ []) in
     ap (λ (x : List ℕ). brokers ++ (be size32 controller ++ (x ++ []))) (elements_of (encoded metadata_topic_fields) metadata_topic_value metadata_topic_bytes metadata_topic_is ts)
     ∙ after_two brokers (be size32 controller) (be size32 (pos (length ts))) (flat_map metadata_topic_bytes ts)
+
+-- ---- bytes around a name
+
+-- three parts that were appended one after the other, the last one if all went well
+pub put_around : {E : Type 0} (r : Result (Unit {0}) E) (old first second new before name after : List ℕ) → first ≡ old ++ before → second ≡ first ++ name → OnOk r (new ≡ second ++ after)
+    → OnOk r (new ≡ old ++ (before ++ (name ++ after)))
+put_around (Ok x) old first second new before name after one two three =
+    three ∙ (λ i. two i ++ after) ∙ (λ i. (one i ++ name) ++ after) ∙ append_assoc (old ++ before) name after ∙ append_assoc old before (name ++ after)
+put_around (Err e) old first second new before name after one two three = tt
 
 -- ---- the size
 

@@ -1,18 +1,20 @@
 -- From what is read of a frame to what the frame is.
-use Rattle.std.proofs.Common.{◌≡◌, ℕ, zero, suc, ◌<◌, Bool, true, false, ℤ, List, [], length, Option, Result, Ok, Err, refl, ap, sym, subst, ◌∙◌, arith}
+use Rattle.std.proofs.Common.{◌≡◌, ℕ, zero, suc, ◌<◌, ◌≤◌, Bool, true, false, ℤ, List, [], length, Option, Result, Ok, Err, refl, ap, sym, subst, ◌∙◌, arith, to_z, of_z}
 use Rattle.std.specs.Prelude.{FitsSigned, ◌==◌}
-use Rattle.std.specs.Int.{w32, cast_signed, cast_unsigned}
+use Rattle.std.specs.Int.{w16, w32, cast_signed, cast_unsigned}
 use Rattle.std.proofs.lemmas.Bool.{eqb-true}
 use Rattle.std.proofs.lemmas.Int.{to_z-of_z}
 use Rattle.std.proofs.lemmas.List.{nil_from_length}
 use Rattle.request_frames.specs.declared.api.Api.{Api}
 use Rattle.request_frames.specs.declared.api.Api.TheVariants.{Produce, Fetch, ListOffsets, Metadata}
 use Rattle.request_frames.specs.declared.error.FieldFault.{FieldFault}
+use Rattle.request_frames.specs.declared.error.FrameError.{FrameError}
 use Rattle.request_frames.specs.declared.error.FrameError.TheVariants as frame
+use Rattle.request_frames.specs.Apis.{IsApi, IsNoApi}
 use Rattle.request_frames.specs.Fields.{Value, Encodes}
 use Rattle.request_frames.specs.Types.{nullable_string}
 use Rattle.request_frames.specs.Reading.{◌>>=◌, At, map_read, then_read, read_field, read_fields}
-use Rattle.request_frames.specs.Requests.{BodyValue, fields_of, body_fields, body_value, body_of, correlation_of, IsOf, IsRequest, HasFault, IsRefused}
+use Rattle.request_frames.specs.Requests.{BodyValue, fields_of, body_fields, body_value, body_of, key_of, version_of, correlation_of, IsOf, IsRequest, HasFault, IsRefused}
 use Rattle.request_frames.specs.Bodies.{read_body, read_request}
 use Rattle.request_frames.proofs.Numbers.{IsBytes, IsBytes-drop}
 use Rattle.request_frames.proofs.ReaderLaws.{map_read_ok, map_read_err}
@@ -79,3 +81,30 @@ empty_length b n e t = eqb-true n 0 (sym e ∙ t)
 pub some_length : (b : Bool) (n : ℕ) → b ≡ (n == 0) → b ≡ false → 0 < n
 some_length b zero e f = absurd cc
 some_length b (suc n) e f = omega arith
+
+-- ---- what the header says of the request, its two numbers passed on by value
+
+module _ (bytes : List ℕ) (key version : ℤ) (key_fits : FitsSigned w16 key) (version_fits : FitsSigned w16 version) (long : 8 ≤ length bytes) (is_key : key ≡ key_of bytes) (is_version : version ≡ version_of bytes) where
+  sent_key : to_z w16 (of_z w16 key) ≡ key_of bytes
+  sent_key = to_z-of_z w16 key key_fits ∙ is_key
+
+  sent_version : to_z w16 (of_z w16 version) ≡ version_of bytes
+  sent_version = to_z-of_z w16 version version_fits ∙ is_version
+
+  pub api_found : (api : Api) → IsApi (to_z w16 (of_z w16 key)) (to_z w16 (of_z w16 version)) api → IsOf api bytes
+  api_found api found = record { has_header = long; has_api = (sym sent_key ∙ found.0, sym sent_version ∙ found.1) }
+
+  no_api : (e : FrameError) → IsNoApi (key_of bytes) (version_of bytes) e → IsRefused e bytes
+  no_api frame.UnknownApi none = (long, none)
+  no_api frame.BadVersion none = (long, none)
+  no_api frame.NegativeSize none = absurd none
+  no_api frame.TooLarge none = absurd none
+  no_api frame.ShortHeader none = absurd none
+  no_api frame.ShortBody none = absurd none
+  no_api frame.Malformed none = absurd none
+  no_api frame.TrailingBytes none = absurd none
+  no_api frame.OutOfMemory none = absurd none
+
+  pub api_not_found : (e : FrameError) → IsNoApi (to_z w16 (of_z w16 key)) (to_z w16 (of_z w16 version)) e → IsRefused e bytes
+  api_not_found e none =
+      no_api e (subst (λ (v : ℤ). IsNoApi (key_of bytes) v e) sent_version (subst (λ (k : ℤ). IsNoApi k (to_z w16 (of_z w16 version)) e) sent_key none))

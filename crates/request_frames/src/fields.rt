@@ -1,27 +1,20 @@
 //! Readers of fields at the front of a frame's bytes. Each answers the value and the bytes after it.
 
 ghost use Rattle.std.specs.Option.{option_map};
-ghost use Rattle.request_frames.specs.Fields.{size8, size16, size32, size64, number, sized, sized_or_null};
+ghost use Rattle.request_frames.specs.Fields.{size16, size32, size64, number, sized, sized_or_null};
 ghost use Rattle.request_frames.specs.Reading.{Gives, read_text, read_text_or_null, read_field};
 
 use crate::error::FieldFault;
 
 #[inline]
 #[tactic(auto, unfolding(crate::specs::Reading::read_field, crate::specs::Reading::read_number))]
-pub(crate) fn int8(bytes: &[u8]) -> Result<(i8, &[u8]), FieldFault>
-    ensures { Gives (λ x. (x.0, x.1.now)) result (read_field (number size8) bytes.now) }
-{
-    let (first, rest) = bytes.split_first_chunk::<1>().ok_or(FieldFault::ShortBody)?;
-    Ok((i8::from_be_bytes(*first), rest))
-}
-
-#[inline]
-#[tactic(auto, unfolding(crate::specs::Reading::read_field, crate::specs::Reading::read_number))]
 pub(crate) fn int16(bytes: &[u8]) -> Result<(i16, &[u8]), FieldFault>
     ensures { Gives (λ x. (x.0, x.1.now)) result (read_field (number size16) bytes.now) }
 {
-    let (first, rest) = bytes.split_first_chunk::<2>().ok_or(FieldFault::ShortBody)?;
-    Ok((i16::from_be_bytes(*first), rest))
+    match bytes.split_first_chunk::<2>() {
+        Some((first, rest)) => Ok((i16::from_be_bytes(*first), rest)),
+        None => Err(FieldFault::ShortBody),
+    }
 }
 
 #[inline]
@@ -29,8 +22,10 @@ pub(crate) fn int16(bytes: &[u8]) -> Result<(i16, &[u8]), FieldFault>
 pub(crate) fn int32(bytes: &[u8]) -> Result<(i32, &[u8]), FieldFault>
     ensures { Gives (λ x. (x.0, x.1.now)) result (read_field (number size32) bytes.now) }
 {
-    let (first, rest) = bytes.split_first_chunk::<4>().ok_or(FieldFault::ShortBody)?;
-    Ok((i32::from_be_bytes(*first), rest))
+    match bytes.split_first_chunk::<4>() {
+        Some((first, rest)) => Ok((i32::from_be_bytes(*first), rest)),
+        None => Err(FieldFault::ShortBody),
+    }
 }
 
 #[inline]
@@ -38,8 +33,10 @@ pub(crate) fn int32(bytes: &[u8]) -> Result<(i32, &[u8]), FieldFault>
 pub(crate) fn int64(bytes: &[u8]) -> Result<(i64, &[u8]), FieldFault>
     ensures { Gives (λ x. (x.0, x.1.now)) result (read_field (number size64) bytes.now) }
 {
-    let (first, rest) = bytes.split_first_chunk::<8>().ok_or(FieldFault::ShortBody)?;
-    Ok((i64::from_be_bytes(*first), rest))
+    match bytes.split_first_chunk::<8>() {
+        Some((first, rest)) => Ok((i64::from_be_bytes(*first), rest)),
+        None => Err(FieldFault::ShortBody),
+    }
 }
 
 /// That many bytes, and those after them.

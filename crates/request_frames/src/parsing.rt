@@ -62,22 +62,10 @@ fn body_at(api: Api, bytes: &[u8]) -> Result<(RequestBody<'_>, &[u8]), FieldFaul
         (read_body api bytes.now) }
 {
     match api {
-        Api::Produce => {
-            let (request, rest) = produce_at(bytes)?;
-            Ok((RequestBody::Produce(request), rest))
-        }
-        Api::Fetch => {
-            let (request, rest) = fetch_at(bytes)?;
-            Ok((RequestBody::Fetch(request), rest))
-        }
-        Api::ListOffsets => {
-            let (request, rest) = list_offsets_at(bytes)?;
-            Ok((RequestBody::ListOffsets(request), rest))
-        }
-        Api::Metadata => {
-            let (request, rest) = metadata_at(bytes)?;
-            Ok((RequestBody::Metadata(request), rest))
-        }
+        Api::Produce => produce_at(bytes),
+        Api::Fetch => fetch_at(bytes),
+        Api::ListOffsets => list_offsets_at(bytes),
+        Api::Metadata => metadata_at(bytes),
     }
 }
 

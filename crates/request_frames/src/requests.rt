@@ -1,16 +1,19 @@
 //! What requests say, borrowed from their frames.
 
-ghost use Rattle.request_frames.specs.Reading.{Gives, map_read, read_fields, nothing};
-ghost use Rattle.request_frames.specs.Views.{produce_view, fetch_view, list_offsets_view, metadata_view};
+ghost use Rattle.request_frames.specs.Reading.{Gives, nothing};
+ghost use Rattle.request_frames.specs.Bodies.{read_body};
+ghost use Rattle.request_frames.specs.Views.{request_body};
+ghost use Rattle.request_frames.specs.declared.api.Api.{Api};
 ghost use Rattle.request_frames.specs.Fields.{end};
 ghost use Rattle.request_frames.specs.Types.{string, topic, ◌⨾◌};
 ghost use Rattle.request_frames.specs.Arrays.{values};
-ghost use Rattle.request_frames.specs.Requests.{produce_partition, produce_fields, produce_request, fetch_partition, fetch_fields, fetch_request, list_offsets_partition, list_offsets_fields, list_offsets_request, metadata_fields, metadata_request};
+ghost use Rattle.request_frames.specs.Requests.{produce_partition, fetch_partition, list_offsets_partition};
 ghost use Rattle.std.specs.Option.{option_map};
 
 use crate::array::{Array, Element, array_at, nullable_array_at};
 use crate::error::FieldFault;
-use crate::fields::{int8, int16, int32, int64, nullable_bytes, nullable_string, string};
+use crate::fields::{int16, int32, int64, nullable_bytes, nullable_string, string};
+use crate::parsing::RequestBody;
 
 /// A topic of a request, with an entry for each of its partitions.
 #[derive(Drop)]
@@ -140,9 +143,8 @@ pub struct ProduceRequest<'a> {
 }
 
 #[tactic(auto, unfolding(crate::specs::Reading::read_fields))]
-pub(crate) fn produce_at(bytes: &[u8]) -> Result<(ProduceRequest<'_>, &[u8]), FieldFault>
-    ensures { Gives (λ x. (produce_view x.0, x.1.now)) result
-        (map_read produce_request (read_fields produce_fields bytes.now)) }
+pub(crate) fn produce_at(bytes: &[u8]) -> Result<(RequestBody<'_>, &[u8]), FieldFault>
+    ensures { Gives (λ x. (request_body x.0, x.1.now)) result (read_body Api.Produce bytes.now) }
 {
     let (transactional_id, rest) = nullable_string(bytes)?;
     let (acks, rest) = int16(rest)?;
@@ -153,7 +155,7 @@ pub(crate) fn produce_at(bytes: &[u8]) -> Result<(ProduceRequest<'_>, &[u8]), Fi
         acks,
         topics,
     };
-    Ok((request, rest))
+    Ok((RequestBody::Produce(request), rest))
 }
 
 /// A Fetch request.
@@ -165,18 +167,19 @@ pub struct FetchRequest<'a> {
     pub topics: Array<'a, Topic<'a, FetchPartition>>,
 }
 
-#[tactic(auto, unfolding(crate::specs::Reading::read_fields))]
-pub(crate) fn fetch_at(bytes: &[u8]) -> Result<(FetchRequest<'_>, &[u8]), FieldFault>
-    ensures { Gives (λ x. (fetch_view x.0, x.1.now)) result
-        (map_read fetch_request (read_fields fetch_fields bytes.now)) }
+/// How many bytes the numbers before the topics of a Fetch request take. Only `max_bytes`, 12 bytes
+/// behind their start, is used.
+const FETCH_FIXED_BYTES: usize = 17;
+
+pub(crate) fn fetch_at(bytes: &[u8]) -> Result<(RequestBody<'_>, &[u8]), FieldFault>
+    ensures { Gives (λ x. (request_body x.0, x.1.now)) result (read_body Api.Fetch bytes.now) }
 {
-    let (_replica_id, rest) = int32(bytes)?;
-    let (_max_wait, rest) = int32(rest)?;
-    let (_min_bytes, rest) = int32(rest)?;
-    let (max_bytes, rest) = int32(rest)?;
-    let (_isolation_level, rest) = int8(rest)?;
+    let Some((fixed, rest)) = bytes.split_first_chunk::<FETCH_FIXED_BYTES>() else {
+        return Err(FieldFault::ShortBody);
+    };
+    let max_bytes = i32::from_be_bytes([fixed[12], fixed[13], fixed[14], fixed[15]]);
     let (topics, rest) = array_at(rest)?;
-    Ok((FetchRequest { max_bytes, topics }, rest))
+    Ok((RequestBody::Fetch(FetchRequest { max_bytes, topics }), rest))
 }
 
 /// A ListOffsets request.
@@ -187,13 +190,15 @@ pub struct ListOffsetsRequest<'a> {
 }
 
 #[tactic(auto, unfolding(crate::specs::Reading::read_fields))]
-pub(crate) fn list_offsets_at(bytes: &[u8]) -> Result<(ListOffsetsRequest<'_>, &[u8]), FieldFault>
-    ensures { Gives (λ x. (list_offsets_view x.0, x.1.now)) result
-        (map_read list_offsets_request (read_fields list_offsets_fields bytes.now)) }
+pub(crate) fn list_offsets_at(bytes: &[u8]) -> Result<(RequestBody<'_>, &[u8]), FieldFault>
+    ensures { Gives (λ x. (request_body x.0, x.1.now)) result (read_body Api.ListOffsets bytes.now) }
 {
     let (_replica_id, rest) = int32(bytes)?;
     let (topics, rest) = array_at(rest)?;
-    Ok((ListOffsetsRequest { topics }, rest))
+    Ok((
+        RequestBody::ListOffsets(ListOffsetsRequest { topics }),
+        rest,
+    ))
 }
 
 /// A Metadata request.
@@ -204,10 +209,9 @@ pub struct MetadataRequest<'a> {
 }
 
 #[tactic(auto, unfolding(crate::specs::Reading::read_fields))]
-pub(crate) fn metadata_at(bytes: &[u8]) -> Result<(MetadataRequest<'_>, &[u8]), FieldFault>
-    ensures { Gives (λ x. (metadata_view x.0, x.1.now)) result
-        (map_read metadata_request (read_fields metadata_fields bytes.now)) }
+pub(crate) fn metadata_at(bytes: &[u8]) -> Result<(RequestBody<'_>, &[u8]), FieldFault>
+    ensures { Gives (λ x. (request_body x.0, x.1.now)) result (read_body Api.Metadata bytes.now) }
 {
     let (names, rest) = nullable_array_at(bytes)?;
-    Ok((MetadataRequest { names }, rest))
+    Ok((RequestBody::Metadata(MetadataRequest { names }), rest))
 }

@@ -128,9 +128,9 @@ pub fn begin_metadata_topic<A: Allocator + Copy>(
         ≤ vec_capacity out.old → IsOk result }
     ensures keeps_capacity { vec_capacity out.old ≤ vec_capacity out.new }
 {
-    let mut before = [0; 4];
-    BigEndian::write_i16(&mut before[0..2], topic.code);
-    before[2..4].copy_from_slice(&topic.name.len().to_be_bytes()[6..8]);
+    let code = topic.code.to_be_bytes();
+    let length = topic.name.len().to_be_bytes();
+    let before = [code[0], code[1], length[6], length[7]];
     let mut after = [0; 5];
     after[0] = u8::from(topic.is_internal);
     BigEndian::write_u32(&mut after[1..5], partition_count);
