@@ -10,7 +10,7 @@ use crate::error::MergeFault;
 use copy_images::{ImageError, read_image, write_image};
 use copy_merge::{MergeError, merge_into};
 use partition_log::PartitionLog;
-use segment::VecStore;
+use segment::{BatchStore, VecStore};
 use std::alloc::Allocator;
 
 /// How many bytes a size takes, an int32.
@@ -35,10 +35,10 @@ fn split_sized(input: &[u8]) -> Option<(&[u8], &[u8])>
 }
 
 /// The copy of the image at the front, and the bytes that follow it.
-fn first_copy<A: Allocator + Copy>(
-    alloc: A,
+fn first_copy<S: BatchStore>(
+    alloc: S::Alloc,
     input: &[u8],
-) -> Result<(PartitionLog<VecStore<A>>, &[u8]), MergeFault>
+) -> Result<(PartitionLog<S>, &[u8]), MergeFault>
     ensures reads { IfOk result (λ read. StartsImage input.now read.0 read.1.now) }
     ensures refuses { IfErr result (RefusesPair input.now) }
 {
@@ -54,10 +54,7 @@ fn first_copy<A: Allocator + Copy>(
 
 /// The copy of the image behind the first one, with nothing behind it. Bytes that follow are refused
 /// where there is no other fault, though there is no memory for the copy.
-fn second_copy<A: Allocator + Copy>(
-    alloc: A,
-    input: &[u8],
-) -> Result<PartitionLog<VecStore<A>>, MergeFault>
+fn second_copy<S: BatchStore>(alloc: S::Alloc, input: &[u8]) -> Result<PartitionLog<S>, MergeFault>
     ensures reads { IfOk result (λ copy. StartsImage input.now copy []) }
     ensures refuses { IfErr result (λ why. (whole : List ℕ) (first : Content)
         → StartsImage whole first input.now → RefusesPair whole why) }
@@ -93,11 +90,11 @@ fn fault_of(why: MergeError) -> MergeFault
 }
 
 /// The image of two copies' merge.
-fn image_of_merge<A: Allocator + Copy>(
-    alloc: A,
-    first: PartitionLog<VecStore<A>>,
-    second: &PartitionLog<VecStore<A>>,
-) -> Result<Vec<u8, A>, MergeFault>
+fn image_of_merge<S: BatchStore>(
+    alloc: S::Alloc,
+    first: PartitionLog<S>,
+    second: &PartitionLog<S>,
+) -> Result<Vec<u8, S::Alloc>, MergeFault>
     ensures merges { IfOk result (λ image. image.items ≡ image_of (join first second.now)) }
     ensures agrees { OnOk result (Agree first second.now) }
     ensures refuses { IfErr result (RefusesCopies first second.now) }
@@ -110,6 +107,18 @@ fn image_of_merge<A: Allocator + Copy>(
     match write_image(alloc, &merged) {
         Ok(image) => Ok(image),
         Err(_) => Err(MergeFault::OutOfMemory),
+    }
+}
+
+/// Merges the images of two copies, which are held in stores of some type meanwhile.
+fn merge_pair<S: BatchStore>(alloc: S::Alloc, input: &[u8]) -> Result<Vec<u8, S::Alloc>, MergeFault>
+    ensures merges { IfOk result (λ image. MergesImages input.now image.items) }
+    ensures refuses { IfErr result (RefusesPair input.now) }
+{
+    let (first, rest) = first_copy::<S>(alloc, input)?;
+    match second_copy(alloc, rest) {
+        Ok(second) => image_of_merge(alloc, first, &second),
+        Err(why) => Err(why),
     }
 }
 
@@ -127,9 +136,5 @@ pub fn merge_images<A: Allocator + Copy>(alloc: A, input: &[u8]) -> Result<Vec<u
     // A refusal is the first fault; out of memory comes only where the first image is one.
     ensures refuses { IfErr result (RefusesPair input.now) }
 {
-    let (first, rest) = first_copy(alloc, input)?;
-    match second_copy(alloc, rest) {
-        Ok(second) => image_of_merge(alloc, first, &second),
-        Err(why) => Err(why),
-    }
+    merge_pair::<VecStore<A>>(alloc, input)
 }

@@ -16,7 +16,7 @@ use crate::error::{Refusal, TableError};
 use crate::pending::{FillFailed, Pending};
 use batch_codec::{BatchError, view};
 use partition_log::{DeliverError, PartitionLog};
-use segment::VecStore;
+use segment::{BatchStore, VecStore};
 use std::alloc::Allocator;
 use std::io::{Read, Write};
 use table_lines::{BUFFER_SIZE, write_lines};
@@ -26,13 +26,13 @@ const MOST_READS: u64 = 1 << 32;
 
 /// What was taken of the input: a copy, and how many batches were delivered to it.
 #[derive(Drop)]
-struct Intake<A: Allocator + Copy> {
-    log: PartitionLog<VecStore<A>>,
+struct Intake<S: BatchStore> {
+    log: PartitionLog<S>,
     count: u64,
 }
 
 /// The answer where what comes after the batches that were taken is refused.
-fn refused<A: Allocator + Copy>(intake: &Intake<A>, why: Refusal) -> TableError
+fn refused<S: BatchStore>(intake: &Intake<S>, why: Refusal) -> TableError
     ensures { result ≡ Batch intake.now.count why }
 {
     TableError::Batch {
@@ -43,8 +43,8 @@ fn refused<A: Allocator + Copy>(intake: &Intake<A>, why: Refusal) -> TableError
 
 /// Delivers the batch at the front, if there is one, and gives the number of its bytes. More than
 /// 2^64 batches are not counted.
-fn deliver_next<A: Allocator + Copy>(
-    intake: &mut Intake<A>,
+fn deliver_next<S: BatchStore>(
+    intake: &mut Intake<S>,
     bytes: &[u8],
 ) -> Result<Option<usize>, TableError>
     ensures delivers_next { MatchResult result
@@ -73,9 +73,9 @@ fn deliver_next<A: Allocator + Copy>(
 }
 
 /// Takes the batch at the front, and tells whether a whole one was there.
-fn take_batch<A: Allocator + Copy>(
-    intake: &mut Intake<A>,
-    pending: &mut Pending<A>,
+fn take_batch<S: BatchStore>(
+    intake: &mut Intake<S>,
+    pending: &mut Pending<S::Alloc>,
 ) -> Result<bool, TableError>
     ensures more { IfOk result (λ more. MatchBool more
         (TakesBatches pending.old pending.new
@@ -101,9 +101,9 @@ fn take_batch<A: Allocator + Copy>(
 }
 
 /// Takes each whole batch that waits.
-fn take_batches<A: Allocator + Copy>(
-    intake: &mut Intake<A>,
-    pending: &mut Pending<A>,
+fn take_batches<S: BatchStore>(
+    intake: &mut Intake<S>,
+    pending: &mut Pending<S::Alloc>,
 ) -> Result<(), TableError>
     ensures taken { TakesBatches pending.old pending.new
         intake.old.log intake.new.log intake.old.count intake.new.count }
@@ -117,9 +117,9 @@ fn take_batches<A: Allocator + Copy>(
 }
 
 /// Takes each batch to the end of the input, in any order, where none was taken before.
-fn take_input<A: Allocator + Copy, R: Read>(
-    intake: &mut Intake<A>,
-    pending: &mut Pending<A>,
+fn take_input<S: BatchStore, R: Read>(
+    intake: &mut Intake<S>,
+    pending: &mut Pending<S::Alloc>,
     reader: &mut R,
 ) -> Result<(), TableError>
     requires no_batch { intake.old.log ≡ empty }
@@ -145,10 +145,10 @@ fn take_input<A: Allocator + Copy, R: Read>(
 }
 
 /// Reads batches to the end of the input, in any order.
-fn read_log<A: Allocator + Copy, R: Read>(
-    alloc: A,
+fn read_log<S: BatchStore, R: Read>(
+    alloc: S::Alloc,
     reader: &mut R,
-) -> Result<PartitionLog<VecStore<A>>, TableError>
+) -> Result<PartitionLog<S>, TableError>
     ensures read { IfOk result (λ log.
         ReadsCopy (R.remaining reader.old) (R.remaining reader.new) log) }
     ensures refused { IfErr result (λ e. IfBatch e
@@ -164,9 +164,9 @@ fn read_log<A: Allocator + Copy, R: Read>(
 }
 
 /// Writes the table of what a copy holds. All memory is taken before the first write.
-fn print_log<A: Allocator + Copy, W: Write>(
-    alloc: A,
-    log: &PartitionLog<VecStore<A>>,
+fn print_log<S: BatchStore, W: Write>(
+    alloc: S::Alloc,
+    log: &PartitionLog<S>,
     writer: &mut W,
 ) -> Result<(), TableError>
     ensures writes_lines { OnOk result
@@ -219,6 +219,6 @@ pub fn run_table<A: Allocator + Copy, R: Read, W: Write>(
     ensures out_of_memory_prints_nothing { IsErrOf result TableError.OutOfMemory →
         writer.new ≡ writer.old }
 {
-    let log = read_log(alloc, reader)?;
+    let log = read_log::<VecStore<A>, R>(alloc, reader)?;
     print_log(alloc, &log, writer)
 }

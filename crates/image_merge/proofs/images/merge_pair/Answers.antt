@@ -1,5 +1,5 @@
 use Rattle.image_merge.proofs.Pairs.{pair_merged, pair_refused}
-use Rattle.image_merge.proofs.images.merge_images.Goals as goal
+use Rattle.image_merge.proofs.images.merge_pair.Goals as goal
 
 pub returns-in-Ok-clause-merges : goal.returns-in-Ok-clause-merges
 returns-in-Ok-clause-merges g c = pair_merged _ c.image_of_merge.result _ _ _ _ c.in_ok-first.ensures.reads c.in-Ok.ensures.reads
