@@ -5,7 +5,7 @@ use outside_batches::sent;
 use partition_log::{AppendError, CleanReport, LeaderLog, PartitionLog};
 use refusing_alloc::Refusing;
 use segment::{BatchStore, VecStore};
-use std::test::Fail;
+use std::alloc::Allocator;
 
 /// How many producers there are.
 const PRODUCERS: i32 = 20;
@@ -161,27 +161,37 @@ fn copy_is_cleaned<S: BatchStore>(heap: S::Alloc) -> bool {
     all && has_all(&copy) && copy.clean(60, 0) == Ok(ALL_BUT_ONE)
 }
 
+/// How many allocations a new copy asks for that takes the batches and is cleaned; `None` where anything is wrong.
+fn asked_by_copy<A: Allocator + Copy>(alloc: A) -> Option<u64> {
+    let heap = Refusing::new(alloc, 0);
+    if copy_is_cleaned::<VecStore<_>>(&heap) {
+        Some(heap.calls())
+    } else {
+        None
+    }
+}
+
+/// How often a call of a log lacks memory, with each allocation failing in turn, until a run doesn't ask for the one
+/// that would fail; `None` where anything is wrong.
+fn lacked_by_log<A: Allocator + Copy>(alloc: A) -> Option<u64> {
+    let mut lacked = 0;
+    for refused in 1..MOST {
+        let heap = Refusing::new(alloc, refused);
+        if !wrong_of_new::<VecStore<_>>(&heap, &mut lacked, &[]).is_empty() {
+            return None;
+        }
+        if heap.calls() < refused {
+            return Some(lacked);
+        }
+    }
+    None
+}
+
 /// A call lacks memory where an allocation fails that the copy alone asks for too, and nowhere else: the
 /// others are the index's, which is left out.
 #[test]
-fn a_log_lacks_memory_where_its_copy_does(rt: HostRuntime) -> Result<(), Fail> {
-    let copy = Refusing::new(rt.alloc(), 0);
-    assert!(rt; copy_is_cleaned::<VecStore<_>>(&copy));
-    let mut lacked = 0;
-    let mut passed = false;
-    for refused in 1..MOST {
-        let heap = Refusing::new(rt.alloc(), refused);
-        assert_eq!(rt;
-            wrong_of_new::<VecStore<_>>(&heap, &mut lacked, &[]),
-            "",
-            "{refused}"
-        );
-        passed = heap.calls() < refused;
-        if passed {
-            break;
-        }
-    }
-    assert!(rt; passed);
-    assert_eq!(rt; lacked, copy.calls());
-    Ok(())
+fn a_log_lacks_memory_where_its_copy_does(rt: HostRuntime) {
+    let asked = asked_by_copy(rt.alloc());
+    assert!(rt; asked.is_some());
+    assert_eq!(rt; lacked_by_log(rt.alloc()), asked);
 }
