@@ -1,7 +1,7 @@
 //! The brokers of the tests: topics of one name with two partitions, and `u` with nine.
 
 use broker_core::{Config, ConfigError, Node, Role, TopicConfig};
-use segment::{BatchStore, VecStore};
+use segment::BatchStore;
 use std::alloc::{AllocError, Allocator};
 use std::string::String;
 
@@ -64,13 +64,13 @@ fn configured<A: Allocator + Copy>(
 /// # Errors
 ///
 /// Why its configuration is refused; `None` where there is no memory for the configuration.
-pub(crate) fn new_node<A: Allocator + Copy>(
-    alloc: A,
+pub(crate) fn new_node<S: BatchStore>(
+    alloc: S::Alloc,
     role: Role,
     bytes: u32,
     name: &str,
     count: u32,
-) -> Result<Node<VecStore<A>>, Option<ConfigError>> {
+) -> Result<Node<S>, Option<ConfigError>> {
     match configured(alloc, role, bytes, name, count) {
         Ok(config) => Node::new(alloc, config).map_err(Some),
         Err(_) => Err(None),
@@ -78,9 +78,7 @@ pub(crate) fn new_node<A: Allocator + Copy>(
 }
 
 /// A leader at the host `hhh` with the topics `t` and `u`.
-pub(crate) fn leader<A: Allocator + Copy>(
-    alloc: A,
-) -> Result<Node<VecStore<A>>, Option<ConfigError>> {
+pub(crate) fn leader<S: BatchStore>(alloc: S::Alloc) -> Result<Node<S>, Option<ConfigError>> {
     new_node(alloc, Role::Leader, 3, "t", 1)
 }
 

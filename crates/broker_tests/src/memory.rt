@@ -10,7 +10,7 @@ use crate::sessions::session;
 use broker_core::{Answer, Node};
 use refusing_alloc::Refusing;
 use request_frames::parse;
-use segment::BatchStore;
+use segment::{BatchStore, VecStore};
 use std::alloc::Allocator;
 use std::test::Fail;
 
@@ -123,19 +123,19 @@ fn lacking_of<S: BatchStore, A: Allocator + Copy>(
 }
 
 /// Whether a broker is made.
-fn is_made<A: Allocator + Copy>(alloc: A) -> bool {
-    match leader(alloc) {
+fn is_made<S: BatchStore>(alloc: S::Alloc) -> bool {
+    match leader::<S>(alloc) {
         Ok(node) => has_logs(&node),
         Err(_) => false,
     }
 }
 
 /// Which calls lack memory in this heap.
-fn lacking<A: Allocator + Copy>(heap: A, input: &[u8], replies: &[u8]) -> u32 {
-    match leader(heap) {
+fn lacking<S: BatchStore>(heap: S::Alloc, input: &[u8], replies: &[u8]) -> u32 {
+    match leader::<S>(heap) {
         Ok(mut node) => lacking_of(heap, &mut node, input, replies),
         Err(None) => CONFIG,
-        Err(Some(why)) if prints(heap, why, "OutOfMemory") && is_made(heap) => NEW,
+        Err(Some(why)) if prints(heap, why, "OutOfMemory") && is_made::<S>(heap) => NEW,
         Err(Some(_)) => WRONG,
     }
 }
@@ -148,7 +148,7 @@ fn lacking_without<A: Allocator + Copy>(
     replies: &[u8],
 ) -> (u32, bool) {
     let heap = Refusing::new(inner, refused);
-    let lacking = lacking(&heap, input, replies);
+    let lacking = lacking::<VecStore<_>>(&heap, input, replies);
     (lacking, heap.calls() >= refused)
 }
 

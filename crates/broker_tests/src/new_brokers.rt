@@ -3,7 +3,7 @@
 
 use crate::brokers::{has_logs, new_node, prints};
 use broker_core::Role;
-use std::alloc::Allocator;
+use segment::{BatchStore, VecStore};
 use std::test::Fail;
 
 /// A role, how many bytes the host has, how many topics have which name, and the answer: no refusal, or
@@ -19,8 +19,8 @@ static ROWS: [Row; 5] = [
 ];
 
 /// Whether a new broker is answered as the row says.
-fn is_right<A: Allocator + Copy>(alloc: A, row: &Row) -> bool {
-    match new_node(alloc, row.0, row.1, row.3, row.2) {
+fn is_right<S: BatchStore>(alloc: S::Alloc, row: &Row) -> bool {
+    match new_node::<S>(alloc, row.0, row.1, row.3, row.2) {
         Ok(node) => row.4.is_empty() && has_logs(&node),
         Err(Some(why)) => prints(alloc, why, row.4),
         Err(None) => false,
@@ -30,7 +30,12 @@ fn is_right<A: Allocator + Copy>(alloc: A, row: &Row) -> bool {
 #[test]
 fn hosts_and_logs(rt: HostRuntime) -> Result<(), Fail> {
     for row in &ROWS {
-        assert!(rt; is_right(rt.alloc(), row), "{} bytes, {}", row.1, row.3);
+        assert!(rt;
+            is_right::<VecStore<_>>(rt.alloc(), row),
+            "{} bytes, {}",
+            row.1,
+            row.3
+        );
     }
     Ok(())
 }

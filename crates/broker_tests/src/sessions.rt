@@ -6,7 +6,7 @@ use crate::frames::{LIST, LISTED, LISTED_AT_1, PRODUCE, STORED, repeated};
 use crate::pieces::{Halting, NONE, Pieces, WAYS, reader_of, writer_of};
 use broker_core::{Ended, Node, SessionError, serve};
 use refusing_alloc::Refusing;
-use segment::BatchStore;
+use segment::{BatchStore, VecStore};
 use std::alloc::Allocator;
 use std::io::ErrorKind;
 use std::test::Fail;
@@ -77,14 +77,14 @@ static ROWS: [Row; 16] = [
 ];
 
 /// Whether this comes of a session of a new broker, and its log ends there.
-fn comes<A: Allocator + Copy>(
-    alloc: A,
+fn comes<S: BatchStore>(
+    alloc: S::Alloc,
     reader: Pieces<'_>,
     writer: Halting<'_>,
     came: Came,
     end: i64,
 ) -> bool {
-    match leader(alloc) {
+    match leader::<S>(alloc) {
         Ok(mut node) => {
             let is_right = session(alloc, &mut node, reader, writer) == came;
             is_right && end_of(&node) == end
@@ -94,13 +94,13 @@ fn comes<A: Allocator + Copy>(
 }
 
 /// Whether it comes as the row says.
-fn is_row<A: Allocator + Copy>(alloc: A, input: &[u8], replies: &[u8], row: &Row) -> bool {
+fn is_row<S: BatchStore>(alloc: S::Alloc, input: &[u8], replies: &[u8], row: &Row) -> bool {
     let reader = Pieces {
         rest: row.3,
         error: Some(ErrorKind::ConnectionReset),
         ..reader_of(input.get(..row.1).unwrap_or(b""), row.2)
     };
-    comes(alloc, reader, writer_of(replies, row.2), row.4, row.5)
+    comes::<S>(alloc, reader, writer_of(replies, row.2), row.4, row.5)
 }
 
 #[test]
@@ -108,15 +108,19 @@ fn cut_and_failing_readers(rt: HostRuntime) -> Result<(), Fail> {
     let input = repeated(rt.alloc(), PRODUCE, LIST, 1)?;
     let replies = repeated(rt.alloc(), STORED, LISTED_AT_1, 1)?;
     for row in &ROWS {
-        assert!(rt; is_row(rt.alloc(), &input, &replies, row), "{}", row.0);
+        assert!(rt;
+            is_row::<VecStore<_>>(rt.alloc(), &input, &replies, row),
+            "{}",
+            row.0
+        );
     }
     Ok(())
 }
 
 /// Whether a reply is cut behind so many bytes by a writer that fails so, and none where it takes them all:
 /// it isn't flushed. The batch is stored.
-fn is_cut<A: Allocator + Copy>(
-    alloc: A,
+fn is_cut<S: BatchStore>(
+    alloc: S::Alloc,
     input: &[u8],
     replies: &[u8],
     room: usize,
@@ -132,7 +136,7 @@ fn is_cut<A: Allocator + Copy>(
         0 => ("ended", 2, 0, 0, 5),
         lost => ("write", 0, 0, lost, reads),
     };
-    comes(alloc, reader_of(input, 50), writer, came, 1)
+    comes::<S>(alloc, reader_of(input, 50), writer, came, 1)
 }
 
 #[test]
@@ -142,7 +146,7 @@ fn writers_that_fail(rt: HostRuntime) -> Result<(), Fail> {
     for room in 0..=replies.len() {
         for (way, error) in &WAYS {
             assert!(rt;
-                is_cut(rt.alloc(), &input, &replies, room, *error),
+                is_cut::<VecStore<_>>(rt.alloc(), &input, &replies, room, *error),
                 "{room}, {way}"
             );
         }
@@ -151,14 +155,14 @@ fn writers_that_fail(rt: HostRuntime) -> Result<(), Fail> {
 }
 
 /// Whether a session of these requests answers them all, and how many allocations it asks for.
-fn calls_of<A: Allocator + Copy>(
-    inner: A,
+fn calls_of<S: BatchStore>(
+    inner: S::Alloc,
     input: &[u8],
     replies: &[u8],
     count: u64,
 ) -> (bool, u64) {
     let heap = Refusing::new(inner, 0);
-    let is_answered = match leader(inner) {
+    let is_answered = match leader::<S>(inner) {
         Ok(mut node) => {
             let reader = reader_of(input, 10_000);
             let came = session(&heap, &mut node, reader, writer_of(replies, 100));
@@ -173,7 +177,7 @@ fn calls_of<A: Allocator + Copy>(
 fn many_requests_in_few_allocations(rt: HostRuntime) -> Result<(), Fail> {
     let input = repeated(rt.alloc(), b"", LIST, 3000)?;
     let replies = repeated(rt.alloc(), b"", LISTED, 3000)?;
-    let (is_answered, calls) = calls_of(rt.alloc(), &input, &replies, 3000);
+    let (is_answered, calls) = calls_of::<VecStore<_>>(rt.alloc(), &input, &replies, 3000);
     assert!(rt; is_answered && calls < 40, "{calls} allocations");
     Ok(())
 }

@@ -3,14 +3,10 @@
 use batch_codec::view;
 use copy_images::write_image;
 use partition_log::{Delivered, PartitionLog};
-use segment::VecStore;
-use std::alloc::Allocator;
-
-/// A copy in a vector of batches.
-pub(crate) type VecLog<A> = PartitionLog<VecStore<A>>;
+use segment::BatchStore;
 
 /// Whether a batch is delivered to a copy as a new one.
-fn is_added<A: Allocator + Copy>(copy: &mut VecLog<A>, bytes: &[u8]) -> bool {
+fn is_added<S: BatchStore>(copy: &mut PartitionLog<S>, bytes: &[u8]) -> bool {
     match view(bytes) {
         Ok(batch) => copy.deliver(&batch) == Ok(Delivered::Added),
         Err(_) => false,
@@ -18,7 +14,7 @@ fn is_added<A: Allocator + Copy>(copy: &mut VecLog<A>, bytes: &[u8]) -> bool {
 }
 
 /// Whether these batches are delivered to a copy, each of them as a new one.
-pub(crate) fn are_added<A: Allocator + Copy>(copy: &mut VecLog<A>, batches: &[&[u8]]) -> bool {
+pub(crate) fn are_added<S: BatchStore>(copy: &mut PartitionLog<S>, batches: &[&[u8]]) -> bool {
     let mut are_added = true;
     for bytes in batches {
         are_added = are_added && is_added(copy, bytes);
@@ -27,7 +23,7 @@ pub(crate) fn are_added<A: Allocator + Copy>(copy: &mut VecLog<A>, batches: &[&[
 }
 
 /// Whether the copy has this image.
-pub(crate) fn has_image<A: Allocator + Copy>(copy: &VecLog<A>, image: &[u8]) -> bool {
+pub(crate) fn has_image<S: BatchStore>(copy: &PartitionLog<S>, image: &[u8]) -> bool {
     match write_image(copy.allocator(), copy) {
         Ok(bytes) => bytes.as_slice() == image,
         Err(_) => false,

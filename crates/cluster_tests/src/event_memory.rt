@@ -1,17 +1,16 @@
 //! Clusters with each allocation failing in turn: they are as they were, and the same call then succeeds.
 //! A call counts it where it lacks memory.
 
-use crate::copies::VecLog;
 use crate::events::{Answer, end_of};
 use crate::memory::{MOST, count};
 use crate::outside::{EMPTY, SECOND_OF_TWO, TWO};
 use cluster::{Cluster, ClusterError, Event, EventError, Outcome};
 use copy_images::write_image;
 use outside_batches::{NINE, THREE, nine_at};
-use partition_log::{CleanReport, Delivered};
+use partition_log::{CleanReport, Delivered, PartitionLog};
 use refusing_alloc::Refusing;
-use segment::VecStore;
-use std::alloc::{AllocError, Allocator, Global};
+use segment::{BatchStore, VecStore};
+use std::alloc::{AllocError, Global};
 use std::test::Fail;
 
 /// An event.
@@ -125,9 +124,9 @@ fn events_of(
 }
 
 /// Adds the image of a copy, where there is such a copy.
-fn add_copy<A: Allocator + Copy>(
+fn add_copy<S: BatchStore>(
     alloc: Global,
-    copy: Option<&VecLog<A>>,
+    copy: Option<&PartitionLog<S>>,
     out: &mut Vec<u8, Global>,
 ) -> Result<(), AllocError> {
     match copy {
@@ -136,25 +135,35 @@ fn add_copy<A: Allocator + Copy>(
     }
 }
 
-/// All that a cluster shows.
-fn shown<A: Allocator + Copy>(
+/// Adds what a cluster shows by a number: a copy's image, a batch, and an image.
+fn add_shown<S: BatchStore>(
     alloc: Global,
-    cluster: &Cluster<VecStore<A>>,
+    cluster: &Cluster<S>,
+    number: usize,
+    out: &mut Vec<u8, Global>,
+) -> Result<(), AllocError> {
+    add_copy(alloc, cluster.copy(number), out)?;
+    out.extend_from_slice(cluster.archived(number).unwrap_or(&[]))?;
+    out.extend_from_slice(cluster.image(number).unwrap_or(&[]))
+}
+
+/// All that a cluster shows.
+fn shown<S: BatchStore>(
+    alloc: Global,
+    cluster: &Cluster<S>,
 ) -> Result<Vec<u8, Global>, AllocError> {
     let mut out = Vec::new(alloc);
     for number in 0..5 {
-        add_copy(alloc, cluster.copy(number), &mut out)?;
-        out.extend_from_slice(cluster.archived(number).unwrap_or(&[]))?;
-        out.extend_from_slice(cluster.image(number).unwrap_or(&[]))?;
+        add_shown(alloc, cluster, number, &mut out)?;
     }
     Ok(out)
 }
 
 /// Whether an event happens that has this answer, again where memory lacked, and the cluster showed what it
 /// had shown then.
-fn happens<A: Allocator + Copy>(
+fn happens<S: BatchStore>(
     alloc: Global,
-    cluster: &mut Cluster<VecStore<A>>,
+    cluster: &mut Cluster<S>,
     event: &Event<Global>,
     wanted: Answer,
     lacked: &mut u64,
@@ -171,9 +180,9 @@ fn happens<A: Allocator + Copy>(
 }
 
 /// Whether the events happen one after the other.
-fn all_happen<A: Allocator + Copy>(
+fn all_happen<S: BatchStore>(
     alloc: Global,
-    cluster: &mut Cluster<VecStore<A>>,
+    cluster: &mut Cluster<S>,
     events: &[Event<Global>],
     lacked: &mut u64,
 ) -> bool {
@@ -185,8 +194,8 @@ fn all_happen<A: Allocator + Copy>(
 }
 
 /// Whether the events of the list had their answers, again where they lacked memory.
-fn are_made_up<A: Allocator + Copy>(
-    cluster: &mut Cluster<VecStore<A>>,
+fn are_made_up<S: BatchStore>(
+    cluster: &mut Cluster<S>,
     events: &[Event<Global>],
     answers: &[Answer],
     lacked: &mut u64,
@@ -205,9 +214,9 @@ fn are_made_up<A: Allocator + Copy>(
 
 /// Whether the events of the list happen at once, again where there was no memory for their answers, and
 /// none had happened then.
-fn list_happens<A: Allocator + Copy>(
+fn list_happens<S: BatchStore>(
     alloc: Global,
-    cluster: &mut Cluster<VecStore<A>>,
+    cluster: &mut Cluster<S>,
     events: &[Event<Global>],
     lacked: &mut u64,
 ) -> bool {
@@ -227,7 +236,7 @@ fn list_happens<A: Allocator + Copy>(
 }
 
 /// Whether a copy has this image.
-fn has_image<A: Allocator + Copy>(alloc: Global, copy: Option<&VecLog<A>>, image: &[u8]) -> bool {
+fn has_image<S: BatchStore>(alloc: Global, copy: Option<&PartitionLog<S>>, image: &[u8]) -> bool {
     match copy {
         Some(copy) => match write_image(alloc, copy) {
             Ok(bytes) => bytes.as_slice() == image,
@@ -238,7 +247,7 @@ fn has_image<A: Allocator + Copy>(alloc: Global, copy: Option<&VecLog<A>>, image
 }
 
 /// Whether the cluster shows what the events leave.
-fn is_left<A: Allocator + Copy>(alloc: Global, cluster: &Cluster<VecStore<A>>) -> bool {
+fn is_left<S: BatchStore>(alloc: Global, cluster: &Cluster<S>) -> bool {
     let facts = [
         end_of(cluster, 0) == Some(6),
         end_of(cluster, 1) == Some(3),
@@ -254,9 +263,9 @@ fn is_left<A: Allocator + Copy>(alloc: Global, cluster: &Cluster<VecStore<A>>) -
 }
 
 /// Whether all happens in a cluster as it should.
-fn does_all<A: Allocator + Copy>(
+fn does_all<S: BatchStore>(
     alloc: Global,
-    cluster: &mut Cluster<VecStore<A>>,
+    cluster: &mut Cluster<S>,
     (steps, list): (&[Event<Global>], &[Event<Global>]),
     lacked: &mut u64,
 ) -> bool {
@@ -269,16 +278,16 @@ fn does_all<A: Allocator + Copy>(
 }
 
 /// The same in a new cluster, which is made again where memory lacked.
-fn new_does_all<A: Allocator + Copy>(
-    heap: A,
+fn new_does_all<S: BatchStore>(
+    heap: S::Alloc,
     alloc: Global,
     events: (&[Event<Global>], &[Event<Global>]),
     lacked: &mut u64,
 ) -> bool {
-    let cluster = match Cluster::<VecStore<A>>::new(heap, 4) {
+    let cluster = match Cluster::<S>::new(heap, 4) {
         Err(ClusterError::OutOfMemory) => {
             count(lacked);
-            Cluster::<VecStore<A>>::new(heap, 4)
+            Cluster::<S>::new(heap, 4)
         }
         cluster => cluster,
     };
@@ -288,25 +297,28 @@ fn new_does_all<A: Allocator + Copy>(
     }
 }
 
+/// The number of the first allocation with which, when it fails, not all happens as it should, or calls lack memory
+/// though none failed; [`MOST`] where each run asks for more. `None` where there is none.
+fn wrong_allocation(alloc: Global, events: (&[Event<Global>], &[Event<Global>])) -> Option<u64> {
+    for number in 1..MOST {
+        let heap = Refusing::new(alloc, number);
+        let mut lacked = 0;
+        let done = new_does_all::<VecStore<_>>(&heap, alloc, events, &mut lacked);
+        // each allocation that fails is that of a call
+        if !done || (lacked > 0) != (number <= heap.calls()) {
+            return Some(number);
+        }
+        if lacked == 0 {
+            return None;
+        }
+    }
+    Some(MOST)
+}
+
 #[test]
 fn events_happen_later(rt: HostRuntime) -> Result<(), Fail> {
     let steps = events_of(rt.alloc(), &STEPS)?;
     let list = events_of(rt.alloc(), &LIST)?;
-    let mut lacked = 1;
-    for number in 1..MOST {
-        let heap = Refusing::new(rt.alloc(), number);
-        lacked = 0;
-        let done = new_does_all(&heap, rt.alloc(), (&steps, &list), &mut lacked);
-        // each allocation that fails is that of a call
-        assert_eq!(rt;
-            (done, lacked > 0),
-            (true, number <= heap.calls()),
-            "{number}"
-        );
-        if lacked == 0 {
-            break;
-        }
-    }
-    assert_eq!(rt; lacked, 0);
+    assert_eq!(rt; wrong_allocation(rt.alloc(), (&steps, &list)), None);
     Ok(())
 }

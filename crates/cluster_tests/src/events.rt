@@ -4,18 +4,14 @@ use batch_codec::BatchError;
 use cluster::{Cluster, ClusterError, Event, EventError, Outcome};
 use outside_batches::{NO_KEY, sent};
 use partition_log::AppendError;
-use segment::VecStore;
-use std::alloc::Allocator;
+use segment::{BatchStore, VecStore};
 use std::test::Fail;
 
 /// What comes of an event.
 pub(crate) type Answer = Result<Outcome, EventError>;
 
 /// The end of a copy of a cluster; `None` where there is no such copy.
-pub(crate) fn end_of<A: Allocator + Copy>(
-    cluster: &Cluster<VecStore<A>>,
-    number: usize,
-) -> Option<i64> {
+pub(crate) fn end_of<S: BatchStore>(cluster: &Cluster<S>, number: usize) -> Option<i64> {
     match cluster.copy(number) {
         Some(copy) => Some(copy.end()),
         None => None,
@@ -23,7 +19,7 @@ pub(crate) fn end_of<A: Allocator + Copy>(
 }
 
 /// Whether a cluster has this many copies, eight at most, the last one empty, and neither batches nor images.
-fn has_copies<A: Allocator + Copy>(cluster: &Cluster<VecStore<A>>, copies: usize) -> bool {
+fn has_copies<S: BatchStore>(cluster: &Cluster<S>, copies: usize) -> bool {
     let answers = [
         copies < 9,
         end_of(cluster, copies.saturating_sub(1)) == Some(0),
@@ -35,8 +31,8 @@ fn has_copies<A: Allocator + Copy>(cluster: &Cluster<VecStore<A>>, copies: usize
 }
 
 /// Whether a cluster of this many copies is refused or made as it should be.
-fn is_made<A: Allocator + Copy>(alloc: A, copies: usize) -> bool {
-    match Cluster::<VecStore<A>>::new(alloc, copies) {
+fn is_made<S: BatchStore>(alloc: S::Alloc, copies: usize) -> bool {
+    match Cluster::<S>::new(alloc, copies) {
         Ok(cluster) => has_copies(&cluster, copies),
         Err(why) => why == ClusterError::BadCopies && (copies == 0 || copies > 8),
     }
@@ -45,7 +41,7 @@ fn is_made<A: Allocator + Copy>(alloc: A, copies: usize) -> bool {
 #[test]
 fn clusters_have_one_to_eight_copies(rt: HostRuntime) -> Result<(), Fail> {
     for copies in [0, 1, 2, 3, 4, 5, 6, 7, 8, 9, usize::MAX] {
-        assert!(rt; is_made(rt.alloc(), copies), "{copies}");
+        assert!(rt; is_made::<VecStore<_>>(rt.alloc(), copies), "{copies}");
     }
     Ok(())
 }
@@ -70,9 +66,9 @@ const LATER: [u8; 70] = [
 ];
 
 /// Whether a cluster answers so to a batch that is sent, and then holds the one batch and no image.
-fn answers<A: Allocator + Copy>(
-    alloc: A,
-    cluster: &mut Cluster<VecStore<A>>,
+fn answers<S: BatchStore>(
+    alloc: S::Alloc,
+    cluster: &mut Cluster<S>,
     bytes: &[u8],
     wanted: Answer,
 ) -> bool {
@@ -140,9 +136,9 @@ static SENT: [Sent; 7] = [
 ];
 
 /// The name of what a cluster answers in another way; empty where there is none.
-fn wrong_answer<A: Allocator + Copy>(
-    alloc: A,
-    cluster: &mut Cluster<VecStore<A>>,
+fn wrong_answer<S: BatchStore>(
+    alloc: S::Alloc,
+    cluster: &mut Cluster<S>,
     rows: &[Sent],
 ) -> &'static str {
     let mut wrong = "";
@@ -159,8 +155,8 @@ fn wrong_answer<A: Allocator + Copy>(
 }
 
 /// The same of a new cluster.
-fn wrong_answer_of_new<A: Allocator + Copy>(alloc: A, rows: &[Sent]) -> &'static str {
-    match Cluster::<VecStore<A>>::new(alloc, 2) {
+fn wrong_answer_of_new<S: BatchStore>(alloc: S::Alloc, rows: &[Sent]) -> &'static str {
+    match Cluster::<S>::new(alloc, 2) {
         Ok(mut cluster) => wrong_answer(alloc, &mut cluster, rows),
         Err(_) => "no cluster",
     }
@@ -168,5 +164,5 @@ fn wrong_answer_of_new<A: Allocator + Copy>(alloc: A, rows: &[Sent]) -> &'static
 
 #[test]
 fn batches_that_are_sent(rt: HostRuntime) {
-    assert_eq!(rt; wrong_answer_of_new(rt.alloc(), &SENT), "");
+    assert_eq!(rt; wrong_answer_of_new::<VecStore<_>>(rt.alloc(), &SENT), "");
 }

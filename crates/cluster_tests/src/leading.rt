@@ -1,20 +1,16 @@
 //! Copies that were read from an image, and then lead, or are handed back.
 
-use crate::copies::{VecLog, has_image};
+use crate::copies::has_image;
 use crate::outside::{ALL_OFFSETS, ONE_OFFSET};
 use batch_codec::view;
 use copy_images::{read_image, write_image};
 use outside_batches::{A_IS_1, one, sent};
 use partition_log::{AppendError, Appended, CleanReport, LeaderLog, PartitionLog};
-use segment::VecStore;
-use std::alloc::Allocator;
-
-/// A leader's log in a vector of batches.
-type VecLeader<A> = LeaderLog<VecStore<A>>;
+use segment::{BatchStore, VecStore};
 
 /// Whether a log answers a batch so.
-fn answers<A: Allocator + Copy>(
-    log: &mut VecLeader<A>,
+fn answers<S: BatchStore>(
+    log: &mut LeaderLog<S>,
     bytes: &[u8],
     wanted: Result<Appended, AppendError>,
 ) -> bool {
@@ -25,13 +21,13 @@ fn answers<A: Allocator + Copy>(
 }
 
 /// Whether a log takes a batch as a new one at this offset.
-fn takes<A: Allocator + Copy>(log: &mut VecLeader<A>, bytes: &[u8], base: i64) -> bool {
+fn takes<S: BatchStore>(log: &mut LeaderLog<S>, bytes: &[u8], base: i64) -> bool {
     let repeat = false;
     answers(log, bytes, Ok(Appended { base, repeat }))
 }
 
 /// Whether a log takes six batches, the first five of one producer.
-fn takes_six<A: Allocator + Copy>(log: &mut VecLeader<A>) -> bool {
+fn takes_six<S: BatchStore>(log: &mut LeaderLog<S>) -> bool {
     let mut are_taken = true;
     for sequence in 0..5 {
         are_taken = are_taken && takes(log, &sent(7, 0, sequence), i64::from(sequence));
@@ -40,7 +36,7 @@ fn takes_six<A: Allocator + Copy>(log: &mut VecLeader<A>) -> bool {
 }
 
 /// Whether a cleaning of the six batches leaves the last one's record and all batches.
-fn is_cleaned<A: Allocator + Copy>(log: &mut VecLeader<A>) -> bool {
+fn is_cleaned<S: BatchStore>(log: &mut LeaderLog<S>) -> bool {
     let wanted = CleanReport {
         records: 5,
         tombstones: 0,
@@ -53,7 +49,10 @@ fn is_cleaned<A: Allocator + Copy>(log: &mut VecLeader<A>) -> bool {
 }
 
 /// The image of a log that took the six batches and was cleaned; `None` where it did otherwise.
-fn image_of_log<A: Allocator + Copy>(alloc: A, log: &mut VecLeader<A>) -> Option<Vec<u8, A>> {
+fn image_of_log<S: BatchStore>(
+    alloc: S::Alloc,
+    log: &mut LeaderLog<S>,
+) -> Option<Vec<u8, S::Alloc>> {
     if takes_six(log) && is_cleaned(log) {
         write_image(alloc, log.copy()).ok()
     } else {
@@ -62,8 +61,8 @@ fn image_of_log<A: Allocator + Copy>(alloc: A, log: &mut VecLeader<A>) -> Option
 }
 
 /// The same of a new log.
-fn image_of_six<A: Allocator + Copy>(alloc: A) -> Option<Vec<u8, A>> {
-    match LeaderLog::from_copy(PartitionLog::new(alloc)) {
+fn image_of_six<S: BatchStore>(alloc: S::Alloc) -> Option<Vec<u8, S::Alloc>> {
+    match LeaderLog::from_copy(PartitionLog::<S>::new(alloc)) {
         Ok(mut log) => image_of_log(alloc, &mut log),
         Err(_) => None,
     }
@@ -71,7 +70,7 @@ fn image_of_six<A: Allocator + Copy>(alloc: A) -> Option<Vec<u8, A>> {
 
 /// Whether a log has six batches and ends behind them, knows the producer's oldest batch, takes the next one, and
 /// then no longer knows the oldest.
-fn knows_the_producer<A: Allocator + Copy>(log: &mut VecLeader<A>) -> [bool; 5] {
+fn knows_the_producer<S: BatchStore>(log: &mut LeaderLog<S>) -> [bool; 5] {
     let (base, repeat) = (0, true);
     [
         log.copy().len() == 6,
@@ -83,7 +82,7 @@ fn knows_the_producer<A: Allocator + Copy>(log: &mut VecLeader<A>) -> [bool; 5] 
 }
 
 /// The same of the log that a copy becomes.
-fn copy_knows<A: Allocator + Copy>(copy: VecLog<A>) -> [bool; 5] {
+fn copy_knows<S: BatchStore>(copy: PartitionLog<S>) -> [bool; 5] {
     match LeaderLog::from_copy(copy) {
         Ok(mut log) => knows_the_producer(&mut log),
         Err(_) => [false; 5],
@@ -91,8 +90,8 @@ fn copy_knows<A: Allocator + Copy>(copy: VecLog<A>) -> [bool; 5] {
 }
 
 /// The same of the log that comes of an image.
-fn image_knows<A: Allocator + Copy>(alloc: A, image: &[u8]) -> [bool; 5] {
-    match read_image(alloc, image) {
+fn image_knows<S: BatchStore>(alloc: S::Alloc, image: &[u8]) -> [bool; 5] {
+    match read_image::<S>(alloc, image) {
         Ok(copy) => copy_knows(copy),
         Err(_) => [false; 5],
     }
@@ -100,15 +99,15 @@ fn image_knows<A: Allocator + Copy>(alloc: A, image: &[u8]) -> [bool; 5] {
 
 #[test]
 fn a_producer_is_known_from_an_image(rt: HostRuntime) {
-    let knows = match image_of_six(rt.alloc()) {
-        Some(image) => image_knows(rt.alloc(), &image),
+    let knows = match image_of_six::<VecStore<_>>(rt.alloc()) {
+        Some(image) => image_knows::<VecStore<_>>(rt.alloc(), &image),
         None => [false; 5],
     };
     assert_eq!(rt; knows, [true; 5]);
 }
 
 /// Whether a copy leads, and refuses a batch because it has all offsets.
-fn is_full<A: Allocator + Copy>(copy: VecLog<A>) -> bool {
+fn is_full<S: BatchStore>(copy: PartitionLog<S>) -> bool {
     match LeaderLog::from_copy(copy) {
         Ok(mut log) => answers(&mut log, &A_IS_1, Err(AppendError::OffsetsFull)),
         Err(_) => false,
@@ -125,7 +124,7 @@ fn an_image_of_all_offsets(rt: HostRuntime) {
 }
 
 /// Whether a copy has a gap, and is handed back with this image.
-fn is_handed_back<A: Allocator + Copy>(copy: VecLog<A>, image: &[u8]) -> bool {
+fn is_handed_back<S: BatchStore>(copy: PartitionLog<S>, image: &[u8]) -> bool {
     match LeaderLog::from_copy(copy) {
         Ok(_) => false,
         Err(gapped) => has_image(&gapped.copy, image),

@@ -1,13 +1,12 @@
 //! `merge` and `merge_into`: merges of images of another program, and copies that disagree.
 
-use crate::copies::{VecLog, are_added, has_image};
+use crate::copies::{are_added, has_image};
 use crate::outside::{A_IS_1, B_IS_2, EMPTY, LEFT, NONE_OF_TWO, RIGHT, SECOND_OF_TWO, TWO};
 use copy_images::read_image;
 use copy_merge::{MergeError, merge, merge_into};
 use outside_batches::{nine_at, one, three_at};
 use partition_log::PartitionLog;
-use segment::VecStore;
-use std::alloc::Allocator;
+use segment::{BatchStore, VecStore};
 
 /// What two copies are, their images, and that of their merge.
 type Row = (&'static str, &'static [u8], &'static [u8], &'static [u8]);
@@ -33,7 +32,7 @@ static MERGES: [Row; 6] = [
 ];
 
 /// Whether two copies merge to the one that has this image.
-fn is_merged<A: Allocator + Copy>(left: &VecLog<A>, right: &VecLog<A>, image: &[u8]) -> bool {
+fn is_merged<S: BatchStore>(left: &PartitionLog<S>, right: &PartitionLog<S>, image: &[u8]) -> bool {
     match merge(left, right) {
         Ok(merged) => has_image(&merged, image),
         Err(_) => false,
@@ -41,8 +40,8 @@ fn is_merged<A: Allocator + Copy>(left: &VecLog<A>, right: &VecLog<A>, image: &[
 }
 
 /// Whether a copy and the one of an image merge to that of another image, in both orders.
-fn merges<A: Allocator + Copy>(left: &VecLog<A>, right: &[u8], image: &[u8]) -> bool {
-    match read_image::<VecStore<A>>(left.allocator(), right) {
+fn merges<S: BatchStore>(left: &PartitionLog<S>, right: &[u8], image: &[u8]) -> bool {
+    match read_image::<S>(left.allocator(), right) {
         Ok(right) => {
             [
                 is_merged(left, &right, image),
@@ -54,8 +53,8 @@ fn merges<A: Allocator + Copy>(left: &VecLog<A>, right: &[u8], image: &[u8]) -> 
 }
 
 /// Whether the copies of a row merge so.
-fn is_right<A: Allocator + Copy>(alloc: A, &(_, left, right, image): &Row) -> bool {
-    match read_image::<VecStore<A>>(alloc, left) {
+fn is_right<S: BatchStore>(alloc: S::Alloc, &(_, left, right, image): &Row) -> bool {
+    match read_image::<S>(alloc, left) {
         Ok(left) => merges(&left, right, image),
         Err(_) => false,
     }
@@ -65,7 +64,7 @@ fn is_right<A: Allocator + Copy>(alloc: A, &(_, left, right, image): &Row) -> bo
 fn copies_that_merge(rt: HostRuntime) {
     let mut wrong = None;
     for row in &MERGES {
-        if !is_right(rt.alloc(), row) {
+        if !is_right::<VecStore<_>>(rt.alloc(), row) {
             wrong = Some(row.0);
         }
     }
@@ -74,7 +73,7 @@ fn copies_that_merge(rt: HostRuntime) {
 
 /// Whether both calls refuse two copies at this base, `merge` in both orders, and the first copy is as it
 /// was.
-fn disagree<A: Allocator + Copy>(left: &mut VecLog<A>, right: &VecLog<A>, base: i64) -> bool {
+fn disagree<S: BatchStore>(left: &mut PartitionLog<S>, right: &PartitionLog<S>, base: i64) -> bool {
     let wanted = MergeError::Disagree { base };
     let before = (left.len(), left.end());
     let answers = [
@@ -88,16 +87,16 @@ fn disagree<A: Allocator + Copy>(left: &mut VecLog<A>, right: &VecLog<A>, base: 
 }
 
 /// Whether copies of these batches disagree at this base.
-fn are_apart<A: Allocator + Copy>(alloc: A, left: &[&[u8]], right: &[&[u8]], base: i64) -> bool {
-    let mut first = PartitionLog::new(alloc);
-    let mut second = PartitionLog::new(alloc);
+fn are_apart<S: BatchStore>(alloc: S::Alloc, left: &[&[u8]], right: &[&[u8]], base: i64) -> bool {
+    let mut first = PartitionLog::<S>::new(alloc);
+    let mut second = PartitionLog::<S>::new(alloc);
     let are_made = [are_added(&mut first, left), are_added(&mut second, right)];
     let disagree = disagree(&mut first, &second, base);
     (are_made, disagree) == ([true; 2], true)
 }
 
 /// Batches of two logs, and whether copies of them disagree as they should.
-fn of_two_logs<A: Allocator + Copy>(alloc: A) -> [(&'static str, bool); 6] {
+fn of_two_logs<S: BatchStore>(alloc: S::Alloc) -> [(&'static str, bool); 6] {
     let first = one(0, 0, b'a', b'1');
     let value = one(0, 0, b'a', b'2');
     let time = one(0, 1, b'a', b'1');
@@ -106,21 +105,30 @@ fn of_two_logs<A: Allocator + Copy>(alloc: A) -> [(&'static str, bool); 6] {
     let later: &[&[u8]] = &[&first, &nine_at(1), &nine_at(2)];
     let earlier: &[&[u8]] = &[&third, &second, &first];
     [
-        ("another value", are_apart(alloc, &[&first], &[&value], 0)),
-        ("another time", are_apart(alloc, &[&first], &[&time], 0)),
-        ("another span", are_apart(alloc, &[&TWO], &[&first], 0)),
-        ("the second alone", are_apart(alloc, &[&TWO], &[&second], 0)),
+        (
+            "another value",
+            are_apart::<S>(alloc, &[&first], &[&value], 0),
+        ),
+        (
+            "another time",
+            are_apart::<S>(alloc, &[&first], &[&time], 0),
+        ),
+        ("another span", are_apart::<S>(alloc, &[&TWO], &[&first], 0)),
+        (
+            "the second alone",
+            are_apart::<S>(alloc, &[&TWO], &[&second], 0),
+        ),
         (
             "an offset within",
-            are_apart(alloc, &[&nine_at(6)], &[&three_at(5)], 5),
+            are_apart::<S>(alloc, &[&nine_at(6)], &[&three_at(5)], 5),
         ),
-        ("the least base", are_apart(alloc, later, earlier, 1)),
+        ("the least base", are_apart::<S>(alloc, later, earlier, 1)),
     ]
 }
 
 #[test]
 fn copies_that_disagree(rt: HostRuntime) {
-    for (name, is_right) in of_two_logs(rt.alloc()) {
+    for (name, is_right) in of_two_logs::<VecStore<_>>(rt.alloc()) {
         assert!(rt; is_right, "{name}");
     }
 }

@@ -1,11 +1,9 @@
 //! A copy under each allocation failing in turn: it is as it was, and the call succeeds later.
-use crate::answers::VecLog;
 use batch_codec::view;
 use outside_batches::{NINE, THREE, one};
 use partition_log::{CleanReport, DeliverError, Delivered, PartitionLog};
 use refusing_alloc::Refusing;
-use segment::VecStore;
-use std::alloc::Allocator;
+use segment::{BatchStore, VecStore};
 use std::test::Fail;
 
 /// More allocations than any run below asks for.
@@ -20,7 +18,7 @@ const THREE_WENT: CleanReport = CleanReport {
 
 /// Delivers a batch that is new, again where memory lacked, and tells whether the copy was as it had been
 /// then, and took it.
-fn takes<A: Allocator + Copy>(copy: &mut VecLog<A>, bytes: &[u8]) -> bool {
+fn takes<S: BatchStore>(copy: &mut PartitionLog<S>, bytes: &[u8]) -> bool {
     let Ok(batch) = view(bytes) else {
         return false;
     };
@@ -35,7 +33,7 @@ fn takes<A: Allocator + Copy>(copy: &mut VecLog<A>, bytes: &[u8]) -> bool {
 }
 
 /// Whether the copy has memory for its table, and keeps so many batches and shows a value of `a`, beside `b`.
-fn shows<A: Allocator + Copy>(copy: &VecLog<A>, len: usize, value: &[u8]) -> bool {
+fn shows<S: BatchStore>(copy: &PartitionLog<S>, len: usize, value: &[u8]) -> bool {
     let rows: &[(&[u8], &[u8])] = &[(b"a", value), (b"b", b"2")];
     match copy.table() {
         Ok(table) => copy.len() == len && table.as_slice() == rows,
@@ -44,7 +42,7 @@ fn shows<A: Allocator + Copy>(copy: &VecLog<A>, len: usize, value: &[u8]) -> boo
 }
 
 /// Whether the copy takes three batches and shows what they leave, at the first or the second time of asking.
-fn takes_all<A: Allocator + Copy>(copy: &mut VecLog<A>) -> bool {
+fn takes_all<S: BatchStore>(copy: &mut PartitionLog<S>) -> bool {
     let taken = [
         takes(copy, &THREE),
         takes(copy, &NINE),
@@ -55,7 +53,7 @@ fn takes_all<A: Allocator + Copy>(copy: &mut VecLog<A>) -> bool {
 }
 
 /// Cleans the copy, again where memory lacked, and tells whether it was as before then, and is right.
-fn is_cleaned<A: Allocator + Copy>(copy: &mut VecLog<A>) -> bool {
+fn is_cleaned<S: BatchStore>(copy: &mut PartitionLog<S>) -> bool {
     let is_right = match copy.clean(5, 0) {
         Ok(report) => report == THREE_WENT,
         Err(_) => shows(copy, 3, b"8") && copy.clean(5, 0) == Ok(THREE_WENT),
@@ -65,7 +63,7 @@ fn is_cleaned<A: Allocator + Copy>(copy: &mut VecLog<A>) -> bool {
 
 /// Whether a clone of the copy is made, at the first or the second time of asking, and is cleaned, and the
 /// copy stays as it is.
-fn is_cloned<A: Allocator + Copy>(copy: &VecLog<A>) -> bool {
+fn is_cloned<S: BatchStore>(copy: &PartitionLog<S>) -> bool {
     let clone = match copy.try_clone() {
         Ok(clone) => Ok(clone),
         Err(_) => copy.try_clone(),
@@ -77,8 +75,8 @@ fn is_cloned<A: Allocator + Copy>(copy: &VecLog<A>) -> bool {
 }
 
 /// Whether a new copy takes the batches, and is cloned.
-fn is_as_before<A: Allocator + Copy>(heap: A) -> bool {
-    let mut copy = PartitionLog::<VecStore<A>>::new(heap);
+fn is_as_before<S: BatchStore>(heap: S::Alloc) -> bool {
+    let mut copy = PartitionLog::<S>::new(heap);
     takes_all(&mut copy) && is_cloned(&copy)
 }
 
@@ -87,7 +85,7 @@ fn a_copy_is_as_before_an_allocation_that_fails(rt: HostRuntime) -> Result<(), F
     let mut passed = false;
     for refused in 1..MOST {
         let heap = Refusing::new(rt.alloc(), refused);
-        assert!(rt; is_as_before(&heap), "{refused}");
+        assert!(rt; is_as_before::<VecStore<_>>(&heap), "{refused}");
         passed = heap.calls() < refused;
         if passed {
             break;

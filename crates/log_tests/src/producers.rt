@@ -1,12 +1,11 @@
 //! A leader's log of many producers: what it answers to each, with an index of producers and without, and
 //! with each allocation failing in turn.
-use crate::answers::{Answer, VecLeader, VecLog, answer, is_added};
+use crate::answers::{Answer, answer, is_added};
 use outside_batches::sent;
 use partition_log::{AppendError, CleanReport, LeaderLog, PartitionLog};
 use refusing_alloc::Refusing;
-use segment::VecStore;
+use segment::{BatchStore, VecStore};
 use std::alloc::Allocator;
-use std::test::Fail;
 
 /// How many producers there are.
 const PRODUCERS: i32 = 20;
@@ -33,7 +32,7 @@ fn in_turn(offset: i32) -> [u8; 70] {
 
 /// Sends the batch that has this offset, and tells whether it goes there. Where memory lacks, which is
 /// counted, the log is as before, and it is sent again.
-fn is_appended<A: Allocator + Copy>(log: &mut VecLeader<A>, offset: i32, lacked: &mut u64) -> bool {
+fn is_appended<S: BatchStore>(log: &mut LeaderLog<S>, offset: i32, lacked: &mut u64) -> bool {
     let bytes = in_turn(offset);
     let base = i64::from(offset);
     let mut answered = answer(log, &bytes);
@@ -46,7 +45,7 @@ fn is_appended<A: Allocator + Copy>(log: &mut VecLeader<A>, offset: i32, lacked:
 }
 
 /// Whether the producers' batches go to the end in turn.
-fn are_appended<A: Allocator + Copy>(log: &mut VecLeader<A>, lacked: &mut u64) -> bool {
+fn are_appended<S: BatchStore>(log: &mut LeaderLog<S>, lacked: &mut u64) -> bool {
     let mut all = true;
     for offset in 0..END {
         all = all && is_appended(log, offset, lacked);
@@ -55,7 +54,7 @@ fn are_appended<A: Allocator + Copy>(log: &mut VecLeader<A>, lacked: &mut u64) -
 }
 
 /// Whether each of the producers' batches is a repeat.
-fn are_repeats<A: Allocator + Copy>(log: &mut VecLeader<A>) -> bool {
+fn are_repeats<S: BatchStore>(log: &mut LeaderLog<S>) -> bool {
     let mut all = true;
     for offset in 0..END {
         let repeat = Some(Ok((i64::from(offset), true)));
@@ -65,13 +64,13 @@ fn are_repeats<A: Allocator + Copy>(log: &mut VecLeader<A>) -> bool {
 }
 
 /// Whether a copy has the batches as they were sent.
-fn has_all<A: Allocator + Copy>(copy: &VecLog<A>) -> bool {
+fn has_all<S: BatchStore>(copy: &PartitionLog<S>) -> bool {
     copy.len() == 60 && copy.end() == 60 && copy.bytes_of(0) == in_turn(0).as_slice()
 }
 
 /// Cleans the log, again where memory lacks, which is counted, and tells whether every record but the last
 /// goes, and no batch.
-fn is_cleaned<A: Allocator + Copy>(log: &mut VecLeader<A>, lacked: &mut u64) -> bool {
+fn is_cleaned<S: BatchStore>(log: &mut LeaderLog<S>, lacked: &mut u64) -> bool {
     match log.clean(60, 0) {
         Ok(report) => report == ALL_BUT_ONE,
         Err(_) => {
@@ -101,7 +100,7 @@ static ROWS: [Row; 12] = [
 ];
 
 /// What the log of a copy answers that has no index of producers.
-fn answer_without<A: Allocator + Copy>(copy: &VecLog<A>, bytes: &[u8]) -> Option<Answer> {
+fn answer_without<S: BatchStore>(copy: &PartitionLog<S>, bytes: &[u8]) -> Option<Answer> {
     let clone = copy.try_clone().ok()?;
     match LeaderLog::from_copy(clone) {
         Ok(mut log) => answer(&mut log, bytes),
@@ -111,7 +110,7 @@ fn answer_without<A: Allocator + Copy>(copy: &VecLog<A>, bytes: &[u8]) -> Option
 
 /// The name of the first batch of these that the log answers in another way, with its index or without; empty
 /// where there is none.
-fn wrong_row<A: Allocator + Copy>(log: &mut VecLeader<A>, rows: &[Row]) -> &'static str {
+fn wrong_row<S: BatchStore>(log: &mut LeaderLog<S>, rows: &[Row]) -> &'static str {
     let mut wrong = "";
     for (name, producer, epoch, sequence, wanted) in rows {
         let bytes = sent(*producer, *epoch, *sequence);
@@ -125,11 +124,7 @@ fn wrong_row<A: Allocator + Copy>(log: &mut VecLeader<A>, rows: &[Row]) -> &'sta
 
 /// What is wrong of a log that takes the producers' batches, is cleaned, knows them before and after, and is
 /// sent the batches of these rows then; empty where all is right.
-fn wrong_of<A: Allocator + Copy>(
-    log: &mut VecLeader<A>,
-    lacked: &mut u64,
-    rows: &[Row],
-) -> &'static str {
+fn wrong_of<S: BatchStore>(log: &mut LeaderLog<S>, lacked: &mut u64, rows: &[Row]) -> &'static str {
     let known = [
         are_appended(log, lacked),
         are_repeats(log),
@@ -144,8 +139,8 @@ fn wrong_of<A: Allocator + Copy>(
 }
 
 /// The same of a new log.
-fn wrong_of_new<A: Allocator + Copy>(heap: A, lacked: &mut u64, rows: &[Row]) -> &'static str {
-    match LeaderLog::from_copy(PartitionLog::<VecStore<A>>::new(heap)) {
+fn wrong_of_new<S: BatchStore>(heap: S::Alloc, lacked: &mut u64, rows: &[Row]) -> &'static str {
+    match LeaderLog::from_copy(PartitionLog::<S>::new(heap)) {
         Ok(mut log) => wrong_of(&mut log, lacked, rows),
         Err(_) => "a gap",
     }
@@ -153,12 +148,12 @@ fn wrong_of_new<A: Allocator + Copy>(heap: A, lacked: &mut u64, rows: &[Row]) ->
 
 #[test]
 fn each_producer_has_its_window(rt: HostRuntime) {
-    assert_eq!(rt; wrong_of_new(rt.alloc(), &mut 0, &ROWS), "");
+    assert_eq!(rt; wrong_of_new::<VecStore<_>>(rt.alloc(), &mut 0, &ROWS), "");
 }
 
 /// Whether a new copy takes the batches and is cleaned.
-fn copy_is_cleaned<A: Allocator + Copy>(heap: A) -> bool {
-    let mut copy = PartitionLog::<VecStore<A>>::new(heap);
+fn copy_is_cleaned<S: BatchStore>(heap: S::Alloc) -> bool {
+    let mut copy = PartitionLog::<S>::new(heap);
     let mut all = true;
     for offset in 0..END {
         all = all && is_added(&mut copy, &in_turn(offset));
@@ -166,23 +161,37 @@ fn copy_is_cleaned<A: Allocator + Copy>(heap: A) -> bool {
     all && has_all(&copy) && copy.clean(60, 0) == Ok(ALL_BUT_ONE)
 }
 
+/// How many allocations a new copy asks for that takes the batches and is cleaned; `None` where anything is wrong.
+fn asked_by_copy<A: Allocator + Copy>(alloc: A) -> Option<u64> {
+    let heap = Refusing::new(alloc, 0);
+    if copy_is_cleaned::<VecStore<_>>(&heap) {
+        Some(heap.calls())
+    } else {
+        None
+    }
+}
+
+/// How often a call of a log lacks memory, with each allocation failing in turn, until a run doesn't ask for the one
+/// that would fail; `None` where anything is wrong.
+fn lacked_by_log<A: Allocator + Copy>(alloc: A) -> Option<u64> {
+    let mut lacked = 0;
+    for refused in 1..MOST {
+        let heap = Refusing::new(alloc, refused);
+        if !wrong_of_new::<VecStore<_>>(&heap, &mut lacked, &[]).is_empty() {
+            return None;
+        }
+        if heap.calls() < refused {
+            return Some(lacked);
+        }
+    }
+    None
+}
+
 /// A call lacks memory where an allocation fails that the copy alone asks for too, and nowhere else: the
 /// others are the index's, which is left out.
 #[test]
-fn a_log_lacks_memory_where_its_copy_does(rt: HostRuntime) -> Result<(), Fail> {
-    let copy = Refusing::new(rt.alloc(), 0);
-    assert!(rt; copy_is_cleaned(&copy));
-    let mut lacked = 0;
-    let mut passed = false;
-    for refused in 1..MOST {
-        let heap = Refusing::new(rt.alloc(), refused);
-        assert_eq!(rt; wrong_of_new(&heap, &mut lacked, &[]), "", "{refused}");
-        passed = heap.calls() < refused;
-        if passed {
-            break;
-        }
-    }
-    assert!(rt; passed);
-    assert_eq!(rt; lacked, copy.calls());
-    Ok(())
+fn a_log_lacks_memory_where_its_copy_does(rt: HostRuntime) {
+    let asked = asked_by_copy(rt.alloc());
+    assert!(rt; asked.is_some());
+    assert_eq!(rt; lacked_by_log(rt.alloc()), asked);
 }

@@ -1,13 +1,12 @@
 //! What a copy answers from the batches that it keeps. That a deleted key stays deleted is a row of
 //! `tests/rows/deliveries.rows`.
-use crate::answers::{VecLog, is_added};
+use crate::answers::is_added;
 use outside_batches::one;
 use partition_log::{OutOfRange, PartitionLog};
-use segment::VecStore;
-use std::alloc::Allocator;
+use segment::{BatchStore, VecStore};
 
 /// Whether a copy that has seen nothing answers so.
-fn is_empty<A: Allocator + Copy>(log: &VecLog<A>) -> bool {
+fn is_empty<S: BatchStore>(log: &PartitionLog<S>) -> bool {
     let answers = [
         (log.start(), log.end(), log.len()) == (0, 0, 0),
         log.get(b"b").is_none(),
@@ -18,14 +17,14 @@ fn is_empty<A: Allocator + Copy>(log: &VecLog<A>) -> bool {
 }
 
 /// Delivers the offset 3 and then the offset 1, each of them new.
-fn takes_both<A: Allocator + Copy>(log: &mut VecLog<A>) -> bool {
+fn takes_both<S: BatchStore>(log: &mut PartitionLog<S>) -> bool {
     let later = is_added(log, &one(3, 3000, b'b', b'3'));
     later && is_added(log, &one(1, 1000, b'b', b'2'))
 }
 
 /// Whether the batches of a copy with gaps are those that came, and it has seen them, and has the later
 /// value.
-fn has_both<A: Allocator + Copy>(log: &VecLog<A>) -> bool {
+fn has_both<S: BatchStore>(log: &PartitionLog<S>) -> bool {
     if log.len() != 2 {
         return false;
     }
@@ -57,7 +56,7 @@ static FETCHES: [Fetch; 9] = [
 ];
 
 /// The first fetch that is answered otherwise; `None` where there is none.
-fn wrong_fetch<A: Allocator + Copy>(log: &VecLog<A>) -> Option<Fetch> {
+fn wrong_fetch<S: BatchStore>(log: &PartitionLog<S>) -> Option<Fetch> {
     let mut wrong = None;
     for fetch in &FETCHES {
         let answer = match log.fetch(fetch.0, fetch.1, fetch.2) {
@@ -84,7 +83,7 @@ static TIMES: [Time; 5] = [
 ];
 
 /// The first time that is answered otherwise; `None` where there is none.
-fn wrong_time<A: Allocator + Copy>(log: &VecLog<A>) -> Option<Time> {
+fn wrong_time<S: BatchStore>(log: &PartitionLog<S>) -> Option<Time> {
     let mut wrong = None;
     for time in &TIMES {
         if log.by_time(time.0) != time.1 {
@@ -96,13 +95,16 @@ fn wrong_time<A: Allocator + Copy>(log: &VecLog<A>) -> Option<Time> {
 
 /// Whether a new copy is empty, takes two batches, and has both; and the first fetch and the first time that it
 /// answers otherwise then.
-fn answers_of_new<A: Allocator + Copy>(alloc: A) -> ([bool; 3], Option<Fetch>, Option<Time>) {
-    let mut log = PartitionLog::<VecStore<A>>::new(alloc);
+fn answers_of_new<S: BatchStore>(alloc: S::Alloc) -> ([bool; 3], Option<Fetch>, Option<Time>) {
+    let mut log = PartitionLog::<S>::new(alloc);
     let answers = [is_empty(&log), takes_both(&mut log), has_both(&log)];
     (answers, wrong_fetch(&log), wrong_time(&log))
 }
 
 #[test]
 fn a_copy_with_gaps(rt: HostRuntime) {
-    assert_eq!(rt; answers_of_new(rt.alloc()), ([true; 3], None, None));
+    assert_eq!(rt;
+        answers_of_new::<VecStore<_>>(rt.alloc()),
+        ([true; 3], None, None)
+    );
 }

@@ -204,15 +204,15 @@ fn are_found<S: BatchStore>(store: &S) -> bool {
 }
 
 /// The first batch that goes elsewhere in a new store, and whether the batches of the table are found then.
-fn answers_of_new<A: Allocator + Copy>(alloc: A) -> (Option<&'static str>, bool) {
-    let mut store = VecStore::new(alloc);
+fn answers_of_new<S: BatchStore>(alloc: S::Alloc) -> (Option<&'static str>, bool) {
+    let mut store = S::new(alloc);
     let went = went_otherwise(alloc, &mut store);
     (went, are_found(&store))
 }
 
 #[test]
 fn batches_go_in_order_and_are_found(rt: HostRuntime) {
-    assert_eq!(rt; answers_of_new(rt.alloc()), (None, true));
+    assert_eq!(rt; answers_of_new::<VecStore<_>>(rt.alloc()), (None, true));
 }
 
 /// Inserts a batch at another base offset, and tells whether there was memory.
@@ -256,7 +256,7 @@ fn are_inserted_later<S: BatchStore, A: Allocator + Copy>(
 }
 
 /// Copies a store, again where memory lacked.
-fn copied_later<A: Allocator + Copy>(store: &VecStore<A>) -> Option<VecStore<A>> {
+fn copied_later<S: BatchStore>(store: &S) -> Option<S> {
     match store.try_clone() {
         Ok(copy) => Some(copy),
         Err(_) => store.try_clone().ok(),
@@ -264,7 +264,7 @@ fn copied_later<A: Allocator + Copy>(store: &VecStore<A>) -> Option<VecStore<A>>
 }
 
 /// Copies a store of two batches, again where memory lacked.
-fn is_copied_later<A: Allocator + Copy>(store: &VecStore<A>) -> bool {
+fn is_copied_later<S: BatchStore>(store: &S) -> bool {
     match copied_later(store) {
         Some(copy) => has_bases(&copy, &[3, 6]),
         None => false,
@@ -296,10 +296,10 @@ fn is_replaced_later<S: BatchStore, T: BatchStore, A: Allocator + Copy>(
 }
 
 /// Makes each other call on two stores, again where memory lacked.
-fn others_succeed_later<A: Allocator + Copy, B: Allocator + Copy>(
+fn others_succeed_later<S: BatchStore, B: Allocator + Copy>(
     alloc: B,
-    store: &mut VecStore<A>,
-    other: &mut VecStore<A>,
+    store: &mut S,
+    other: &mut S,
 ) -> bool {
     let facts = [
         are_inserted_later(alloc, store, other),
@@ -389,15 +389,15 @@ fn insert_many<S: BatchStore, A: Allocator + Copy>(alloc: A, store: &mut S, orde
 }
 
 /// Inserts many batches into a store of this memory in that order, or makes each other call where there is none.
-fn succeeds_later<A: Allocator + Copy, B: Allocator + Copy>(
-    heap: A,
+fn succeeds_later<S: BatchStore, B: Allocator + Copy>(
+    heap: S::Alloc,
     alloc: B,
     order: Option<Order>,
 ) -> bool {
-    let mut store = VecStore::new(heap);
+    let mut store = S::new(heap);
     match order {
         Some(order) => insert_many(alloc, &mut store, order),
-        None => others_succeed_later(alloc, &mut store, &mut VecStore::new(heap)),
+        None => others_succeed_later(alloc, &mut store, &mut S::new(heap)),
     }
 }
 
@@ -406,7 +406,7 @@ fn succeeds_later<A: Allocator + Copy, B: Allocator + Copy>(
 fn each_succeeds_later(rt: &HostRuntime, order: Option<Order>) -> bool {
     for refused in 1..MOST {
         let heap = Refusing::new(rt.alloc(), refused);
-        if !succeeds_later(&heap, rt.alloc(), order) {
+        if !succeeds_later::<VecStore<_>, _>(&heap, rt.alloc(), order) {
             return false;
         }
         if heap.calls() < refused {

@@ -138,14 +138,16 @@ fn serve<'a>(alloc: Global, roles: &'a [&'a str]) -> Result<Command<'a>, AllocEr
         .arg(topics_arg(alloc))
 }
 
-/// The command, with a subcommand more. Only here a command is let go, where the subcommand couldn't be made.
+/// The command, with a subcommand more, where both were made. Only here a command is let go.
 fn add_subcommand<'a>(
-    kbroker: Command<'a>,
+    kbroker: Result<Command<'a>, AllocError>,
     subcommand: Result<Command<'a>, AllocError>,
 ) -> Result<Command<'a>, AllocError>
-    ensures { IfOk result (λ command. (app : App) → IfOk subcommand.entry (IsSubcommand app)
-        → app_of command ≡ with_subcommand (app_of kbroker.entry) app.top) }
+    ensures { IfOk result (λ command. (base app : App) → IfOk kbroker.entry (λ k. app_of k ≡ base)
+        → IfOk subcommand.entry (IsSubcommand app)
+        → app_of command ≡ with_subcommand base app.top) }
 {
+    let kbroker = kbroker?;
     match subcommand {
         Ok(subcommand) => kbroker.subcommand(subcommand),
         Err(error) => Err(error),
@@ -191,9 +193,9 @@ pub(crate) fn command<'a>(alloc: Global) -> Result<Command<'a>, AllocError>
         × (app_of command ≡ kbroker roles)) }
 {
     let roles = roles();
-    let first = add_subcommand(alone(alloc), Ok(table(alloc)))?;
-    let second = add_subcommand(first, session(alloc, roles))?;
-    let third = add_subcommand(second, serve(alloc, roles))?;
-    let fourth = add_subcommand(third, Ok(replay(alloc)))?;
+    let first = add_subcommand(Ok(alone(alloc)), Ok(table(alloc)));
+    let second = add_subcommand(first, session(alloc, roles));
+    let third = add_subcommand(second, serve(alloc, roles));
+    let fourth = add_subcommand(third, Ok(replay(alloc)));
     add_subcommand(fourth, Ok(merge(alloc)))
 }
