@@ -297,8 +297,9 @@ fn new_does_all<S: BatchStore>(
     }
 }
 
-/// The number of the first allocation with which, when it fails, not all happens as it should, or calls lack memory
-/// though none failed; [`MOST`] where each run asks for more. `None` where there is none.
+/// The number of the first allocation at whose failure not all happens as it should, or no call lacks memory; the number
+/// at which a call lacks memory though none failed; 1 where none is asked for, and [`MOST`] where each run asks for
+/// more. `None` where all is right.
 fn wrong_allocation(alloc: Global, events: (&[Event<Global>], &[Event<Global>])) -> Option<u64> {
     for number in 1..MOST {
         let heap = Refusing::new(alloc, number);
@@ -309,7 +310,7 @@ fn wrong_allocation(alloc: Global, events: (&[Event<Global>], &[Event<Global>]))
             return Some(number);
         }
         if lacked == 0 {
-            return None;
+            return if number > 1 { None } else { Some(number) };
         }
     }
     Some(MOST)

@@ -127,8 +127,9 @@ fn does_with_both<S: BatchStore>(heap: S::Alloc, lacked: &mut u64) -> bool {
     }
 }
 
-/// The number of the first allocation with which, when it fails, not all is as it should be, or calls lack memory
-/// though none failed; [`MOST`] where each run asks for more. `None` where there is none.
+/// The number of the first allocation at whose failure not all is as it should be, or no call lacks memory; the number
+/// at which a call lacks memory though none failed; 1 where none is asked for, and [`MOST`] where each run asks for
+/// more. `None` where all is right.
 fn wrong_allocation<A: Allocator + Copy>(alloc: A) -> Option<u64> {
     for number in 1..MOST {
         let heap = Refusing::new(alloc, number);
@@ -139,7 +140,7 @@ fn wrong_allocation<A: Allocator + Copy>(alloc: A) -> Option<u64> {
             return Some(number);
         }
         if lacked == 0 {
-            return None;
+            return if number > 1 { None } else { Some(number) };
         }
     }
     Some(MOST)
