@@ -8,6 +8,9 @@ pub loop-next-init : goal.loop-next-init
 loop-next-init g c =
     (omega arith, omega arith, judged_start c.args.a.now c.args.b.now c.know_content.ensures.is_content c.know_content-2.ensures.is_content c.know_content.ensures.from_zero c.know_content-2.ensures.from_zero)
 
+pub returns-then-not-agree_on-clause-agrees : goal.returns-then-not-agree_on-clause-agrees
+returns-then-not-agree_on-clause-agrees g c = tt
+
 pub returns-then-not-agree_on-clause-disagrees : goal.returns-then-not-agree_on-clause-disagrees
 returns-then-not-agree_on-clause-disagrees g c =
     let fits : FitsSigned w64 c.base.result = search rules in
