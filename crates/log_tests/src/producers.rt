@@ -161,10 +161,11 @@ fn copy_is_cleaned<S: BatchStore>(heap: S::Alloc) -> bool {
     all && has_all(&copy) && copy.clean(60, 0) == Ok(ALL_BUT_ONE)
 }
 
-/// How many allocations a new copy asks for that takes the batches and is cleaned; `None` where anything is wrong.
+/// How many allocations a new copy asks for that takes the batches and is cleaned; `None` where anything is wrong, or it
+/// asks for none.
 fn asked_by_copy<A: Allocator + Copy>(alloc: A) -> Option<u64> {
     let heap = Refusing::new(alloc, 0);
-    if copy_is_cleaned::<VecStore<_>>(&heap) {
+    if copy_is_cleaned::<VecStore<_>>(&heap) && heap.calls() > 0 {
         Some(heap.calls())
     } else {
         None
