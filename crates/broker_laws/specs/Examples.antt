@@ -11,9 +11,9 @@ use Rattle.request_frames.specs.Requests.{RequestValue, ProduceValue, ProducePar
 use Rattle.request_frames.specs.Responses.{Fetched}
 use Rattle.broker_node.specs.declared.config.Role.TheVariants.{Leader, Follower}
 use Rattle.broker_node.specs.State.{TopicConfig, ConfigValue, State, new_state, with_content}
-use Rattle.broker_node.specs.Work.{answer}
+use Rattle.answering.specs.Work.{answer}
 use Rattle.broker_node.specs.Entries.{produce_work, first_room, fetch_work, list_offsets_work}
-use Rattle.broker_node.specs.Plans.{over_topics}
+use Rattle.answering.specs.Plans.{over_topics}
 use Rattle.broker_node.specs.Replies.{reply}
 
 -- ---- configurations

@@ -10,7 +10,7 @@ ghost use Rattle.request_frames.specs.declared.error.FrameError.TheVariants as f
 ghost use Rattle.broker_node.specs.declared.error.ConfigError.TheVariants as config;
 ghost use Rattle.broker_node.specs.Configs.{config_fault};
 ghost use Rattle.broker_node.specs.State.{group_topic, content_at};
-ghost use Rattle.broker_node.specs.Work.{IsOutOfMemory};
+ghost use Rattle.answering.specs.Work.{IsOutOfMemory};
 ghost use Rattle.broker_node.specs.Entries.{produce_work, produced, fetched, list_offsets_work, listed};
 ghost use Rattle.broker_node.specs.Listing.{listed_topics};
 ghost use Rattle.broker_node.specs.Replies.{reply};

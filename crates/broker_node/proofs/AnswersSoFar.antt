@@ -6,7 +6,7 @@ use Rattle.request_frames.specs.Fields.{Value}
 use Rattle.request_frames.specs.Types.{topic}
 use Rattle.request_frames.specs.Requests.{produce_partition}
 use Rattle.request_frames.specs.Responses.{topic_head, topic_bytes}
-use Rattle.broker_node.specs.Plans.{AnswersAll}
+use Rattle.answering.specs.Plans.{AnswersAll}
 use Rattle.broker_node.specs.ProducedRoom.{topic_room, topics_room, SoFar}
 
 module _ {S X Y : Type 0} (A : S → X → Y → S → Type 0) where

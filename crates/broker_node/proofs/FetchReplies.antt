@@ -9,10 +9,10 @@ use Rattle.request_frames.specs.Arrays.{ArrayBytes, values}
 use Rattle.request_frames.specs.Requests.{topic_request, fetch_partition, fetch_partition_value}
 use Rattle.request_frames.specs.Responses.{response, topic_head, topic_bytes, Fetched, fetched_bytes, fetch_head, fetch_response, fetch_value}
 use Rattle.request_frames.specs.Views.{fetch_view}
-use Rattle.broker_node.specs.Lists.{map_accum}
+use Rattle.answering.specs.Lists.{map_accum}
 use Rattle.broker_node.specs.State.{State}
 use Rattle.broker_node.specs.Entries.{FetchRoom, first_room}
-use Rattle.broker_node.specs.Plans.{over_entries, over_topics}
+use Rattle.answering.specs.Plans.{over_entries, over_topics}
 use Rattle.broker_node.specs.Replies.{reply}
 use Rattle.broker_node.specs.FetchedTopics.{answered_entry, fetched_topic, fetched_topics, fetching_request}
 

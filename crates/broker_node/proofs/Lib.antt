@@ -1,4 +1,3 @@
-pub mod AnswersOfAll
 pub mod PlannedReplies
 pub mod AppendFaults
 pub mod LogAppends

@@ -12,8 +12,8 @@ use Rattle.std.specs.Borrow.{Bor}
 use Rattle.request_frames.specs.Names.{is_topic_name}
 use Rattle.request_frames.specs.Responses.{Broker, TopicMetadata, metadata_response, metadata_value, leader_id, metadata_head, metadata_topic_head, metadata_topic_bytes, metadata_partition_bytes}
 use Rattle.request_frames.specs.Fields.{encoded}
-use Rattle.broker_node.specs.declared.codes.ErrorCode.TheVariants.{UnknownTopicOrPartition, InvalidTopic}
-use Rattle.broker_node.specs.Codes.{no_error}
+use Rattle.answering.specs.declared.codes.ErrorCode.TheVariants.{UnknownTopicOrPartition, InvalidTopic}
+use Rattle.answering.specs.Codes.{no_error}
 use Rattle.broker_node.specs.State.{ConfigValue, Topic, State, is_group_topic, topic_of}
 use Rattle.broker_node.specs.Listing.{broker_of, known_leader, listed_topics, partition_metadata, topic_metadata, failed_topic, metadata_of, metadata_at}
 use Rattle.broker_node.specs.Parts.{TopicParts, topic_contents}

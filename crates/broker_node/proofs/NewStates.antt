@@ -10,7 +10,7 @@ use Rattle.broker_node.specs.declared.config.Role.{Role}
 use Rattle.broker_node.specs.declared.limits.TheConstants.{MAX_TOPICS, MAX_PARTITIONS, MAX_HOST_BYTES}
 use Rattle.broker_node.specs.declared.error.ConfigError.{ConfigError}
 use Rattle.broker_node.specs.declared.error.ConfigError.TheVariants.{BadHost, TooManyTopics, BadTopic, BadPartitions, TopicTwice, OutOfMemory}
-use Rattle.broker_node.specs.Lists.{fault_if, first_some}
+use Rattle.answering.specs.Lists.{fault_if, first_some}
 use Rattle.broker_node.specs.State.{TopicConfig, ConfigValue, new_topic, group_topic, all_topics, partition_of}
 use Rattle.broker_node.specs.Configs.{topic_fault, topics_fault, config_fault, ConfigFault}
 use Rattle.broker_node.specs.Partitions.{PartitionValue}

@@ -9,7 +9,7 @@ use Rattle.std.proofs.lemmas.List.Elements.{All-from_recursion}
 use Rattle.request_frames.specs.Names.{is_topic_name}
 use Rattle.broker_node.specs.declared.limits.TheConstants.{MAX_TOPICS, MAX_PARTITIONS}
 use Rattle.broker_node.specs.declared.error.ConfigError.TheVariants.{TooManyTopics, BadTopic, BadPartitions, TopicTwice}
-use Rattle.broker_node.specs.Lists.{fault_if, first_some}
+use Rattle.answering.specs.Lists.{fault_if, first_some}
 use Rattle.broker_node.specs.State.{TopicConfig, ConfigValue, group_topic, all_topics}
 use Rattle.broker_node.specs.Configs.{topic_fault, topics_fault, IsValidConfig}
 use Rattle.broker_node.specs.Parts.{TopicParts, topic_shape, AreTopicsOf}

@@ -9,12 +9,12 @@ use Rattle.request_frames.specs.Requests.{ListOffsetsPartitionValue, topic_reque
 use Rattle.request_frames.specs.Responses.{response, list_offsets_response, list_offsets_value}
 use Rattle.request_frames.specs.Views.{list_offsets_view}
 use Rattle.request_frames.specs.Requests.BodyValue.{list_offsets}
-use Rattle.broker_node.specs.declared.codes.ErrorCode.{ErrorCode}
-use Rattle.broker_node.specs.Lists.{map_accum, first_some}
+use Rattle.answering.specs.declared.codes.ErrorCode.{ErrorCode}
+use Rattle.answering.specs.Lists.{map_accum, first_some}
 use Rattle.broker_node.specs.State.{State}
-use Rattle.broker_node.specs.Work.{Work, answer, answer_after}
+use Rattle.answering.specs.Work.{Work, answer, answer_after}
 use Rattle.broker_node.specs.Entries.{list_offsets_work}
-use Rattle.broker_node.specs.Plans.{over_entries, over_topics}
+use Rattle.answering.specs.Plans.{over_entries, over_topics}
 use Rattle.broker_node.specs.Replies.{reply}
 use Rattle.broker_node.specs.ListedOffsets.{listed_topic, listed_topics}
 

@@ -8,7 +8,7 @@ use Rattle.request_frames.specs.Names.{is_topic_name}
 use Rattle.broker_node.specs.declared.limits.TheConstants.{MAX_TOPICS, MAX_PARTITIONS, MAX_HOST_BYTES}
 use Rattle.broker_node.specs.declared.error.ConfigError.{ConfigError}
 use Rattle.broker_node.specs.declared.error.ConfigError.TheVariants.{BadHost, TooManyTopics, BadTopic, BadPartitions, TopicTwice, OutOfMemory}
-use Rattle.broker_node.specs.Lists.{fault_if, first_some}
+use Rattle.answering.specs.Lists.{fault_if, first_some}
 use Rattle.broker_node.specs.State.{TopicConfig, ConfigValue, group_topic}
 
 -- the first fault of a topic, where these names are taken

@@ -9,9 +9,9 @@ use Rattle.request_frames.specs.Views.{fetch_view}
 use Rattle.request_frames.specs.Requests.BodyValue.{fetch}
 use Rattle.request_frames.specs.Requests.{RequestValue, FetchPartitionValue, fetch_partition, fetch_partition_value}
 use Rattle.request_frames.specs.Responses.{Fetched}
-use Rattle.broker_node.specs.Lists.{map_accum}
+use Rattle.answering.specs.Lists.{map_accum}
 use Rattle.broker_node.specs.State.{State}
-use Rattle.broker_node.specs.Work.{answer}
+use Rattle.answering.specs.Work.{answer}
 use Rattle.broker_node.specs.Entries.{FetchRoom, first_room, fetch_work}
 
 -- the elements from one index to before another

@@ -1,13 +1,10 @@
 -- Read in this order; each module uses only those above it.
-pub mod Lists
 pub mod Codes
 pub mod State
 pub mod Configs
-pub mod Work
 pub mod Batches
 pub mod Entries
 pub mod Listing
-pub mod Plans
 pub mod Replies
 pub mod Streams
 pub mod Handling

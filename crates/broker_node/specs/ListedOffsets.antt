@@ -9,7 +9,7 @@ use Rattle.request_frames.specs.Views.{list_offsets_view}
 use Rattle.request_frames.specs.Requests.BodyValue.{list_offsets}
 use Rattle.request_frames.specs.Requests.{RequestValue, list_offsets_partition, list_offsets_partition_value}
 use Rattle.broker_node.specs.State.{State}
-use Rattle.broker_node.specs.Work.{answer}
+use Rattle.answering.specs.Work.{answer}
 use Rattle.broker_node.specs.Entries.{list_offsets_work}
 
 abbrev pub listed_entry : State → List ℕ → Value list_offsets_partition → ListedPartition

@@ -7,9 +7,9 @@ use Rattle.request_frames.specs.Names.{is_topic_name}
 use Rattle.request_frames.specs.Responses.{Broker, TopicMetadata}
 use Rattle.broker_node.specs.declared.config.Role.{Role}
 use Rattle.broker_node.specs.declared.config.Role.TheVariants.{Leader, Follower}
-use Rattle.broker_node.specs.declared.codes.ErrorCode.{ErrorCode}
-use Rattle.broker_node.specs.declared.codes.ErrorCode.TheVariants.{UnknownTopicOrPartition, LeaderNotAvailable, InvalidTopic}
-use Rattle.broker_node.specs.Codes.{no_error, code_number}
+use Rattle.answering.specs.declared.codes.ErrorCode.{ErrorCode}
+use Rattle.answering.specs.declared.codes.ErrorCode.TheVariants.{UnknownTopicOrPartition, LeaderNotAvailable, InvalidTopic}
+use Rattle.answering.specs.Codes.{no_error, code_number}
 use Rattle.broker_node.specs.State.{ConfigValue, Topic, State, is_group_topic, topic_of}
 
 -- the broker itself

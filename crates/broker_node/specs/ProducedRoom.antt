@@ -11,9 +11,9 @@ use Rattle.request_frames.specs.Types.{TopicOf, topic}
 use Rattle.request_frames.specs.Requests.{ProduceValue, ProducePartitionValue, produce_partition, produce_partition_value, topic_request}
 use Rattle.request_frames.specs.Responses.{response_head, produced_bytes, topic_bytes, produce_response, produce_value}
 use Rattle.broker_node.specs.State.{State}
-use Rattle.broker_node.specs.Work.{MayAnswer}
+use Rattle.answering.specs.Work.{MayAnswer}
 use Rattle.broker_node.specs.Entries.{produce_work}
-use Rattle.broker_node.specs.Plans.{AnswersAll, AnswersTopic, AnswersTopics}
+use Rattle.answering.specs.Plans.{AnswersAll, AnswersTopic, AnswersTopics}
 
 -- ---- room
 

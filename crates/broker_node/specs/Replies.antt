@@ -9,15 +9,15 @@ use Rattle.request_frames.specs.Requests.BodyValue.{produce, fetch, list_offsets
 use Rattle.request_frames.specs.Requests.{BodyValue, RequestValue, ProduceValue, ProducePartitionValue, FetchValue, FetchPartitionValue, ListOffsetsPartitionValue}
 use Rattle.request_frames.specs.Responses.{response, Fetched, produce_response, produce_value, fetch_response, fetch_value, list_offsets_response, list_offsets_value, metadata_response, metadata_value, leader_id}
 use Rattle.broker_node.specs.State.{State}
-use Rattle.broker_node.specs.Work.{IsAnswer, MayAnswer}
+use Rattle.answering.specs.Work.{IsAnswer, MayAnswer}
 use Rattle.broker_node.specs.Entries.{produce_work, FetchRoom, first_room, fetch_work, list_offsets_work}
 use Rattle.broker_node.specs.Listing.{broker_of, known_leader, listed_topics}
-use Rattle.broker_node.specs.Plans.{Plan, HowAnswered, reply_by, RepliesBy}
+use Rattle.answering.specs.Plans.{Plan, HowAnswered, reply_by, RepliesBy}
 
 -- ---- each request
 
 -- Each entry changes its own partition. With acks 0 nothing is sent.
-abbrev pub produce_plan : State → ℤ → ProduceValue → Plan ProducePartitionValue ProducedPartition State
+abbrev pub produce_plan : State → ℤ → ProduceValue → Plan ProducePartitionValue ProducedPartition State State
 produce_plan s correlation q = record {
   topics = q.topics;
   work = λ s name e. produce_work s q name e;
@@ -27,7 +27,7 @@ produce_plan s correlation q = record {
 }
 
 -- The entries share the room for records.
-abbrev pub fetch_plan : State → ℤ → FetchValue → Plan FetchPartitionValue Fetched FetchRoom
+abbrev pub fetch_plan : State → ℤ → FetchValue → Plan FetchPartitionValue Fetched FetchRoom State
 fetch_plan s correlation q = record {
   topics = q.topics;
   work = fetch_work s;
@@ -36,7 +36,7 @@ fetch_plan s correlation q = record {
   after = λ room. s;
 }
 
-abbrev pub list_offsets_plan : State → ℤ → List (TopicOf ListOffsetsPartitionValue) → Plan ListOffsetsPartitionValue ListedPartition State
+abbrev pub list_offsets_plan : State → ℤ → List (TopicOf ListOffsetsPartitionValue) → Plan ListOffsetsPartitionValue ListedPartition State State
 list_offsets_plan s correlation topics = record {
   topics = topics;
   work = list_offsets_work;

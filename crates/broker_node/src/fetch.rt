@@ -10,7 +10,7 @@ ghost use Rattle.request_frames.specs.Views.{fetch_view};
 ghost use Rattle.request_frames.specs.Requests.{fetch_partition};
 ghost use Rattle.request_frames.specs.Requests.BodyValue.{fetch};
 ghost use Rattle.request_frames.specs.Responses.{response, response_head, topic_bytes, fetched_bytes, fetch_response, fetch_value};
-ghost use Rattle.broker_node.specs.Lists.{map_accum};
+ghost use Rattle.answering.specs.Lists.{map_accum};
 ghost use Rattle.broker_node.specs.FetchedTopics.{fetched_topic, fetched_topics};
 ghost use Rattle.broker_node.specs.Replies.{reply};
 ghost use Rattle.broker_node.specs.Streams.{sent};

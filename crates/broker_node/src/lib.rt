@@ -29,7 +29,7 @@ mod produce;
 mod producing;
 mod room;
 
-pub use codes::ErrorCode;
+pub use answering::ErrorCode;
 pub use config::{Config, Role, TopicConfig};
 pub use error::ConfigError;
 pub use handling::Answer;

@@ -9,10 +9,10 @@ ghost use Rattle.broker_node.specs.Listing.{known_leader, partition_metadata, to
 ghost use Rattle.broker_node.specs.State.{topic_of};
 ghost use Rattle.broker_node.specs.Parts.{topic_contents};
 
-use crate::codes::ErrorCode;
 use crate::config::Role;
 use crate::limits::{GROUP_TOPIC, MAX_PARTITIONS};
 use crate::node::{Node, TopicLogs, topic_of};
+use answering::ErrorCode;
 use request_frames::is_topic_name;
 use request_frames::response::metadata::{
     MetadataPartition, MetadataTopic, begin_metadata, begin_metadata_topic, put_metadata_partition,

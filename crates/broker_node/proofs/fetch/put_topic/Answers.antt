@@ -3,7 +3,7 @@ use Rattle.std.specs.List.{flat_map}
 use Rattle.request_frames.specs.Arrays.{values}
 use Rattle.request_frames.specs.Requests.{fetch_partition}
 use Rattle.request_frames.specs.Responses.{topic_head, fetched_bytes}
-use Rattle.broker_node.specs.Lists.{map_accum}
+use Rattle.answering.specs.Lists.{map_accum}
 use Rattle.broker_node.specs.FetchedTopics.{fetched_entry}
 use Rattle.broker_node.proofs.Written.{begins_same, begins_more, begins_both, on_err_of}
 use Rattle.broker_node.proofs.FetchReplies.{answers_begun, one_answered, one_left, all_answered, none_left}

@@ -4,7 +4,7 @@ use Rattle.request_frames.specs.Arrays.{values}
 use Rattle.request_frames.specs.Requests.{fetch_partition}
 use Rattle.request_frames.specs.Responses.{topic_bytes, fetched_bytes}
 use Rattle.batch_codec.specs.Writing.{Begins}
-use Rattle.broker_node.specs.Lists.{map_accum}
+use Rattle.answering.specs.Lists.{map_accum}
 use Rattle.broker_node.specs.FetchedTopics.{fetched_entry, fetched_topic}
 use Rattle.broker_node.proofs.fetch.put_topic.Given as goal
 

@@ -4,7 +4,7 @@ use Rattle.request_frames.specs.Arrays.{values}
 use Rattle.request_frames.specs.Types.{topic}
 use Rattle.request_frames.specs.Requests.{fetch_partition}
 use Rattle.request_frames.specs.Responses.{topic_bytes, fetched_bytes}
-use Rattle.broker_node.specs.Lists.{map_accum}
+use Rattle.answering.specs.Lists.{map_accum}
 use Rattle.broker_node.specs.FetchedTopics.{fetched_topic}
 use Rattle.broker_node.proofs.Written.{begins_same, begins_more, begins_both, on_err_of}
 use Rattle.broker_node.proofs.FetchReplies.{one_answered, all_answered}

@@ -1,6 +1,6 @@
 use Rattle.std.proofs.Common.{◌≡◌, ◌++◌, rules}
 use Rattle.request_frames.specs.Responses.{metadata_topic_head}
-use Rattle.broker_node.specs.Codes.{no_error}
+use Rattle.answering.specs.Codes.{no_error}
 use Rattle.broker_node.specs.State.{is_group_topic}
 use Rattle.broker_node.proofs.UnchangedStates.{on_ok}
 use Rattle.broker_node.proofs.Listings.{topic_written}

@@ -6,7 +6,7 @@ use Rattle.request_frames.specs.Types.{topic}
 use Rattle.request_frames.specs.Requests.{produce_partition, produce_partition_value, topic_request}
 use Rattle.request_frames.specs.Responses.{topic_bytes, produced_bytes}
 use Rattle.request_frames.specs.Views.{produce_view}
-use Rattle.broker_node.specs.Plans.{AnswersTopic}
+use Rattle.answering.specs.Plans.{AnswersTopic}
 use Rattle.broker_node.specs.ProducedRoom.{topics_room, MayProduce}
 use Rattle.broker_node.proofs.AnswersSoFar.{started, one_more, none_left, written_more, counted_more, none_counted, all_counted, topics_room_less, no_less, as_much}
 use Rattle.broker_node.proofs.produce.put_topics.Goals as goal

@@ -8,7 +8,7 @@ use Rattle.request_frames.specs.declared.response.produce.ProducedPartition.{Pro
 use Rattle.request_frames.specs.Requests.{produce_partition, produce_partition_value, topic_request}
 use Rattle.request_frames.specs.Responses.{topic_bytes, produced_bytes}
 use Rattle.request_frames.specs.Views.{produce_view}
-use Rattle.broker_node.specs.Plans.{AnswersTopic}
+use Rattle.answering.specs.Plans.{AnswersTopic}
 use Rattle.broker_node.specs.ProducedRoom.{topics_room, MayProduce, SoFar}
 use Rattle.broker_node.proofs.produce.put_topics.Given as goal
 

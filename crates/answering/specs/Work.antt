@@ -1,9 +1,9 @@
 -- The work that an entry of a request asks for, and how it is answered. Kafka's documentation, "Protocol Guide": a
 -- response has an error code for each partition, so one entry's failure is none of another's.
 use Rattle.std.specs.Prelude.{◌≡◌, ◌⊎◌, Bool, true, List, ◌++◌, Option, Some, None}
-use Rattle.broker_node.specs.declared.codes.ErrorCode.{ErrorCode}
-use Rattle.broker_node.specs.declared.codes.ErrorCode.TheVariants.{StorageError}
-use Rattle.broker_node.specs.Lists.{first_some}
+use Rattle.answering.specs.declared.codes.ErrorCode.{ErrorCode}
+use Rattle.answering.specs.declared.codes.ErrorCode.TheVariants.{StorageError}
+use Rattle.answering.specs.Lists.{first_some}
 
 -- An entry's checks in their order, with a result `R` and a state `S`. The early ones take no memory. `takes_memory` says
 -- whether the work does from there on. `done` is the result where all pass, and the state after it; `failed` is the

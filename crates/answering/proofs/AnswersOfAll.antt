@@ -1,10 +1,9 @@
 -- Answers that a function gives, as a relation and by one pass.
 use Rattle.std.proofs.Common.{◌≡◌, ℕ, List, [], ◌∷◌, Option, inl, refl, sym, ap, ◌∙◌}
 use Rattle.request_frames.specs.Types.{TopicOf}
-use Rattle.broker_node.specs.Lists.{map_accum}
-use Rattle.broker_node.specs.State.{State}
-use Rattle.broker_node.specs.Work.{answer, IsAnswer, MayAnswer}
-use Rattle.broker_node.specs.Plans.{over_entries, over_topics, AnswersAll, AnswersTopic, AnswersTopics, Plan, HowAnswered, reply_by, RepliesBy}
+use Rattle.answering.specs.Lists.{map_accum}
+use Rattle.answering.specs.Work.{answer, IsAnswer, MayAnswer}
+use Rattle.answering.specs.Plans.{over_entries, over_topics, AnswersAll, AnswersTopic, AnswersTopics, Plan, HowAnswered, reply_by, RepliesBy}
 
 -- ---- over lists
 
@@ -55,12 +54,12 @@ in_full = λ R S w. IsAnswer w
 abbrev in_any_case : HowAnswered
 in_any_case = λ R S w. MayAnswer w
 
-pub plan_replies : {E R S : Type 0} (p : Plan E R S) (out : Option (List ℕ)) (after : State) → RepliesBy in_full p out after → (out, after) ≡ reply_by p
+pub plan_replies : {E R S B : Type 0} (p : Plan E R S B) (out : Option (List ℕ)) (after : B) → RepliesBy in_full p out after → (out, after) ≡ reply_by p
 plan_replies p out after replies =
     let all = topics_passed (λ s name e r m. IsAnswer (p.work s name e) s r m) (λ s name e. answer (p.work s name e) s) (λ s name e r m is. is) p.first p.topics replies.results replies.end replies.answers in
     (λ i. (replies.sends i, replies.leaves i)) ∙ ap (λ x. (p.response x.0, p.after x.1)) all
 
-pub plan_given : {E R S : Type 0} (p : Plan E R S) (out : Option (List ℕ)) (after : State) → (out, after) ≡ reply_by p → RepliesBy in_full p out after
+pub plan_given : {E R S B : Type 0} (p : Plan E R S B) (out : Option (List ℕ)) (after : B) → (out, after) ≡ reply_by p → RepliesBy in_full p out after
 plan_given p out after is =
     let all = over_topics (λ s name e. answer (p.work s name e) s) p.first p.topics in
     record {
@@ -71,7 +70,7 @@ plan_given p out after is =
       leaves = ap (λ x. x.1) is;
     }
 
-pub plan_weaker : {E R S : Type 0} (p : Plan E R S) (out : Option (List ℕ)) (after : State) → RepliesBy in_full p out after → RepliesBy in_any_case p out after
+pub plan_weaker : {E R S B : Type 0} (p : Plan E R S B) (out : Option (List ℕ)) (after : B) → RepliesBy in_full p out after → RepliesBy in_any_case p out after
 plan_weaker p out after replies = record {
   results = replies.results;
   end = replies.end;

@@ -1,5 +1,5 @@
 use Rattle.std.proofs.Common.{rules}
-use Rattle.broker_node.proofs.codes.ErrorCode.number.Goals as goal
+use Rattle.answering.proofs.codes.ErrorCode.number.Goals as goal
 
 pub returns-in-StorageError : goal.returns-in-StorageError
 returns-in-StorageError c = search rules

@@ -2,9 +2,8 @@
 -- where memory runs out in some entries. Both are read from one plan.
 use Rattle.std.specs.Prelude.{◌≡◌, ℕ, List, [], ◌∷◌, Option}
 use Rattle.request_frames.specs.Types.{TopicOf}
-use Rattle.broker_node.specs.Lists.{map_accum}
-use Rattle.broker_node.specs.State.{State}
-use Rattle.broker_node.specs.Work.{Work, answer}
+use Rattle.answering.specs.Lists.{map_accum}
+use Rattle.answering.specs.Work.{Work, answer}
 
 -- ---- over topics
 
@@ -32,16 +31,16 @@ AnswersTopics A s ts rs end = AnswersAll (AnswersTopic A) s ts rs end
 -- ---- plans
 
 -- Entries `E` are answered by results `R`, in a state `S` that each entry's work may change: the broker's own, or what
--- else the entries of one request share. `response` is what is sent, `after` the broker's state in the end.
-pub record Plan (E R S : Type 0) : Type 0 where
+-- else the entries of one request share. `response` is what is sent, `after` the broker's state `B` in the end.
+pub record Plan (E R S B : Type 0) : Type 0 where
   pub topics : List (TopicOf E)
   pub work : S → List ℕ → E → Work R S
   pub first : S
   pub response : List (TopicOf R) → Option (List ℕ)
-  pub after : S → State
+  pub after : S → B
 
 -- what is sent, and the state after, where memory suffices
-abbrev pub reply_by : {E R S : Type 0} → Plan E R S → Option (List ℕ) × State
+abbrev pub reply_by : {E R S B : Type 0} → Plan E R S B → Option (List ℕ) × B
 reply_by p =
     let all = over_topics (λ s name e. answer (p.work s name e) s) p.first p.topics in
     (p.response all.0, p.after all.1)
@@ -51,7 +50,7 @@ abbrev pub HowAnswered : Type 1
 HowAnswered = (R S : Type 0) → Work R S → S → R → S → Type 0
 
 -- what is sent and the state after, where each entry is answered in such a way
-pub record RepliesBy {E R S : Type 0} (A : HowAnswered) (p : Plan E R S) (reply : Option (List ℕ)) (after : State) : Type 0 where
+pub record RepliesBy {E R S B : Type 0} (A : HowAnswered) (p : Plan E R S B) (reply : Option (List ℕ)) (after : B) : Type 0 where
   pub results : List (TopicOf R)
   pub end : S
   pub answers : AnswersTopics (λ s name e r m. A R S (p.work s name e) s r m) p.first p.topics results end

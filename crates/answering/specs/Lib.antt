@@ -1,0 +1,5 @@
+-- Read in this order; each module uses only those above it.
+pub mod Lists
+pub mod Codes
+pub mod Work
+pub mod Plans
