@@ -13,6 +13,7 @@ mod parsing;
 mod requests;
 pub mod response;
 pub mod response_laws;
+mod topics;
 
 pub use api::Api;
 pub use array::{Array, Element};
@@ -25,3 +26,4 @@ pub use requests::{
     FetchPartition, FetchRequest, ListOffsetsPartition, ListOffsetsRequest, MetadataRequest, Name,
     ProducePartition, ProduceRequest, Topic,
 };
+pub use topics::Topics;
