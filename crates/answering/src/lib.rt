@@ -7,5 +7,13 @@
 #![tactic(auto)]
 
 mod codes;
+mod entries;
+mod once;
+mod responding;
+mod room;
 
 pub use codes::ErrorCode;
+pub use entries::Answers;
+pub use once::respond_once;
+pub use responding::respond;
+pub use room::{MAX_FIXED_BYTES, response_room};
