@@ -1,6 +1,7 @@
 -- Outputs that were begun: what was there stands in front.
 use Rattle.std.proofs.Common.{◌≡◌, ℕ, ◌+◌, ◌≤◌, arith, Result, Ok, Err, List, [], ◌++◌, length, sym, ap, ◌∙◌, append_assoc, append-nil}
-use Rattle.std.specs.Prelude.{ℤ, OnErr}
+use Rattle.std.specs.Prelude.{ℤ, OnOk, OnErr, if◌then◌else◌}
+use Rattle.std.specs.Result.{is_ok}
 use Rattle.std.proofs.lemmas.List.{length-append}
 use Rattle.request_frames.specs.Responses.{response_head}
 use Rattle.answering.specs.Writing.{Begins}
@@ -28,3 +29,11 @@ size_is_there old new fields correlation n m e before after =
     let front = old ++ response_head correlation in
     let whole : length new ≡ length (front ++ fields) = ap length e in
     omega (arith, whole, length-append front fields, length-append old (response_head correlation), before, after)
+
+-- three parts behind what was begun, where the last one went well
+pub three_parts : {E : Type 0} (r : Result (Unit {0}) E) (begun first second third front a b c : List ℕ) → begun ≡ front → first ≡ begun ++ a → second ≡ first ++ b
+    → third ≡ (if is_ok r then second ++ c else second) → OnOk r (third ≡ front ++ (a ++ b ++ c))
+three_parts (Ok x) begun first second third front a b c start one two three =
+    three ∙ (λ i. two i ++ c) ∙ (λ i. (one i ++ b) ++ c) ∙ (λ i. ((start i ++ a) ++ b) ++ c)
+    ∙ ap (λ (x : List ℕ). x ++ c) (append_assoc front a b) ∙ append_assoc front (a ++ b) c
+three_parts (Err e) begun first second third front a b c start one two three = tt

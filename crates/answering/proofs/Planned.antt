@@ -1,9 +1,10 @@
 -- From answers that were given to what may be replied.
-use Rattle.std.proofs.Common.{◌≡◌, ℕ, List, [], ◌∷◌, Option, Some, inl, refl, ap, subst, ◌∙◌}
-use Rattle.std.specs.Prelude.{map}
-use Rattle.request_frames.specs.Fields.{Fields, Value}
+use Rattle.std.proofs.Common.{◌≡◌, ℕ, List, [], ◌∷◌, ◌++◌, Option, Some, inl, refl, ap, subst, ◌∙◌, append-nil}
+use Rattle.std.specs.Prelude.{ℤ, map}
+use Rattle.request_frames.specs.Fields.{Fields, Value, size32, be, encoded}
 use Rattle.request_frames.specs.Types.{TopicOf, topic}
 use Rattle.request_frames.specs.Requests.{topic_request}
+use Rattle.request_frames.specs.Responses.{framed, response}
 use Rattle.request_frames.specs.Arrays.{ArrayBytes, values}
 use Rattle.answering.specs.Work.{Work, answer, MayAnswer}
 use Rattle.answering.specs.Plans.{AnswersAll, AnswersTopics, Plan, RepliesBy}
@@ -54,7 +55,7 @@ plan_answered {E = E} {R = R} {S = S} p d A f g may first end topics results rep
       results = results;
       end = g end;
       answers = subst (λ s. AnswersTopics B s p.topics results (g end)) starts
-      (topics_along A B f g may first (topics_said d topics) p.topics results end (topics_of_request d f (values (topic d) topics) ∙ same) all);
+          (topics_along A B f g may first (topics_said d topics) p.topics results end (topics_of_request d f (values (topic d) topics) ∙ same) all);
       sends = sends;
       leaves = leaves;
     }
@@ -78,6 +79,20 @@ once_given response w s reply after is = record {
 pub once_weaker : {R S : Type 0} (response : R → List ℕ) (w : Work R S) (s : S) (reply : Option (List ℕ)) (after : S)
     → RepliesOnce in_full response w s reply after → RepliesOnce in_any_case response w s reply after
 once_weaker response w s reply after replies = record { result = replies.result; answers = inl replies.answers; sends = replies.sends }
+
+-- what `respond_once` appended, where its parts make the fields of the answer, is the response to the entry
+pub once_written : {R S : Type 0} (d : Fields) (value : R → Value d) (w : Work R S) (s after : S) (r : R) (n z : ℤ) (fields out held out' : List ℕ)
+    → z ≡ n → MayAnswer w s r after → fields ≡ encoded d (value r) → held ≡ out → out' ≡ held ++ framed (be size32 z ++ fields)
+    → WritesOnce (λ r. response n d (value r)) w s out out' after
+once_written d value w s after r n z fields out held out' same may parts kept written = record {
+  result = r;
+  answers = may;
+  appends = written ∙ (λ i. kept i ++ framed (be size32 (same i) ++ parts i));
+}
+
+-- a part with no other part around it
+pub alone : (part fields : List ℕ) → part ≡ fields → part ++ [] ++ [] ≡ fields
+alone part fields e = append-nil (part ++ []) ∙ append-nil part ∙ e
 
 -- what was written is one of the replies that the work allows
 pub once_answered : {R S : Type 0} (response : R → List ℕ) (w : Work R S) (s : S) (out out' : List ℕ) (after : S)

@@ -136,7 +136,15 @@ pub fn respond<'a, E: Element<'a> + Drop, S, Q: Answers<E, S>, A: Allocator + Co
         (topics_said E.fields topics.now) ≤ vec_capacity out.old → IsOk result }
 {
     let start = out.len();
-    match put_response(asked, state, correlation, before, Topics::of(topics), after, out) {
+    match put_response(
+        asked,
+        state,
+        correlation,
+        before,
+        Topics::of(topics),
+        after,
+        out,
+    ) {
         Ok(()) => {
             finish_response(out, start);
             Ok(())

@@ -15,9 +15,9 @@ loop-entry-preserved g c =
     let name = c.args.topic.name.now in
     let all = values g.E.Element.fields c.args.topic.partitions in (
       writes_more (InTopic (Said g.E.Element.value (g.Q.Answers.answers c.args.asked.now)) name) g.Q.Answers.bytes c.args.state.now all (c.args.out.now.items ++ topic_head name (length all))
-      c.loop-entry.state c.put.new.state _ _ c.loop-entry.out.items c.put.new.out.items _ made.result first (c.in-Some.entry, refl, made.answers) made.appends so_far.0,
+          c.loop-entry.state c.put.new.state _ _ c.loop-entry.out.items c.put.new.out.items _ made.result first (c.in-Some.entry, refl, made.answers) made.appends so_far.0,
       fits_more g.Q.Answers.size (λ n. topic_room n name (length all)) (λ n. n * length (values g.E.Element.fields c.loop-entry.entry-iterator)) (λ n. n * length (values g.E.Element.fields c.next.new.self)) (λ n. n)
-      (vec_len c.loop-entry.out) (vec_len c.put.new.out) _ (vec_capacity c.loop-entry.out) (vec_capacity c.put.new.out) _ (entries_parts _ _ _ first) c.in_ok-put.ensures.len c.in_ok-put.ensures.keeps_capacity so_far.1,
+          (vec_len c.loop-entry.out) (vec_len c.put.new.out) _ (vec_capacity c.loop-entry.out) (vec_capacity c.put.new.out) _ (entries_parts _ _ _ first) c.in_ok-put.ensures.len c.in_ok-put.ensures.keeps_capacity so_far.1,
     )
 
 pub returns-in_err-put-clause-keeps_capacity : goal.returns-in_err-put-clause-keeps_capacity
@@ -37,7 +37,7 @@ returns-clause-writes g c =
       result = record { name = name; entries = so_far.done };
       answers = (refl, answers_all A g.Q.Answers.bytes c.args.state.now all front c.loop-entry.state left c.loop-entry.out.items none so_far);
       appends = topic_written g.Q.Answers.bytes c.args.out.now.items c.loop-entry.out.items name so_far.done (length all)
-      (counts_all A g.Q.Answers.bytes c.args.state.now all front c.loop-entry.state left c.loop-entry.out.items none so_far) so_far.appends;
+          (counts_all A g.Q.Answers.bytes c.args.state.now all front c.loop-entry.state left c.loop-entry.out.items none so_far) so_far.appends;
     }
 
 pub returns-clause-keeps_capacity : goal.returns-clause-keeps_capacity
