@@ -1,8 +1,8 @@
 //! A session: request frames come in, and their replies go out.
 
 ghost use Rattle.std.specs.Prelude.{◌≡◌, ◌≢◌, ◌≤◌, ◌+◌, ◌^◌, true, false, IfErr, MatchBool, OnOk};
-ghost use Rattle.broker_node.specs.ConfigValues.{config_value};
-ghost use Rattle.broker_node.specs.Configs.{IsValidConfig};
+ghost use Rattle.broker_state.specs.ConfigValues.{config_value};
+ghost use Rattle.broker_state.specs.Configs.{IsValidConfig};
 ghost use Rattle.subcommands.specs.Answering.{AnswersFrom, FailsAs, RefusesFrom};
 ghost use Rattle.std.specs.Io.KnownBytes.{Keeps};
 ghost use Rattle.subcommands.specs.Status.{session_status};

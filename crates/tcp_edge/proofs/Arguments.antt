@@ -8,9 +8,9 @@ use Rattle.clap.specs.Words.{App, IsAmong, Kinds, Row, Text, first_value, first_
 use Rattle.clap.specs.declared.error.Error.{Error}
 use Rattle.clap.specs.declared.error.kind.ErrorKind.TheVariants.{OutOfMemory, DisplayHelp, DisplayVersion}
 use Rattle.clap.specs.declared.error.kind.ErrorKind.{ErrorKind}
-use Rattle.broker_node.specs.Configs.{IsValidConfig}
-use Rattle.broker_node.specs.ConfigValues.{config_value}
-use Rattle.broker_node.specs.State.{ConfigValue}
+use Rattle.broker_state.specs.Configs.{IsValidConfig}
+use Rattle.broker_state.specs.ConfigValues.{config_value}
+use Rattle.broker_state.specs.State.{ConfigValue}
 use Rattle.tcp_edge.specs.declared.asked.LineFault.{LineFault}
 use Rattle.tcp_edge.specs.declared.asked.LineFault.TheVariants.{Clap, Topic}
 use Rattle.tcp_edge.specs.declared.asked.Asked.{Asked}

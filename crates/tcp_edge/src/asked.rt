@@ -2,7 +2,7 @@
 
 ghost use Rattle.std.specs.Prelude.{◌≡◌, ◌≢◌, ℕ, pos, List, Some, IfOk, IfErr, IsErrAnd, MatchResult, codes, map};
 ghost use Rattle.std.specs.Bool.{MatchBool};
-ghost use Rattle.broker_node.specs.ConfigValues.{config_value};
+ghost use Rattle.broker_state.specs.ConfigValues.{config_value};
 ghost use Rattle.clap.specs.Words.{Kinds, Row, Text, found_of, rows_of, subcommand_name_of, subcommand_rows_of};
 ghost use Rattle.tcp_edge.specs.Asked.{IfNamed, IsAsked, IsConfigFault, IsFaulty, IsListener, IsOutOfMemory, IsPlanOf, IsStop};
 ghost use Rattle.tcp_edge.specs.CommandLine.{Finds, IsConfigOf, IsConnections, IsPort, Names, Stops, role_of, topic_words};

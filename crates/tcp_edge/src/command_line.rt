@@ -2,8 +2,8 @@
 
 ghost use Rattle.std.specs.Prelude.{◌≡◌, ◌≢◌, ◌≤◌, ◌⊎◌, ℕ, List, None, IfOk, MatchOption, codes, map};
 ghost use Rattle.batch_codec.specs.Values.{BatchValue};
-ghost use Rattle.broker_node.specs.Configs.{IsValidConfig};
-ghost use Rattle.broker_node.specs.State.{ConfigValue};
+ghost use Rattle.broker_state.specs.Configs.{IsValidConfig};
+ghost use Rattle.broker_state.specs.State.{ConfigValue};
 ghost use Rattle.clap.specs.Words.{Row, kind_of};
 ghost use Rattle.image_merge.specs.declared.error.MergeFault.{MergeFault};
 ghost use Rattle.tcp_edge.specs.Asked.{AsksForOther, IfMerge, IfReplay, IfServe, IfSession, IfTable, IsHelp, IsListener, IsMistake, IsNoTopic, IsOutOfMemory};

@@ -1,9 +1,9 @@
 //! A broker that listens: connections are served one after the other.
 
 ghost use Rattle.std.specs.Prelude.{◌≡◌, ◌≤◌, IfOk, IfErr};
-ghost use Rattle.broker_node.specs.Configs.{ConfigFault};
-ghost use Rattle.broker_node.specs.ConfigValues.{config_value};
-ghost use Rattle.broker_node.specs.State.{new_state};
+ghost use Rattle.broker_state.specs.Configs.{ConfigFault};
+ghost use Rattle.broker_state.specs.ConfigValues.{config_value};
+ghost use Rattle.broker_state.specs.State.{new_state};
 ghost use Rattle.tcp_edge.specs.CommandLine.{at_port};
 
 use crate::asked::Plan;

@@ -1,5 +1,5 @@
 use Rattle.std.proofs.Common.{refl}
-use Rattle.broker_node.specs.ConfigValues.{config_value}
+use Rattle.broker_state.specs.ConfigValues.{config_value}
 use Rattle.subcommands.proofs.Statuses.{at_most_four, is_not_done, refused_config, failed_status}
 use Rattle.subcommands.proofs.session.run_session.Goals as goal
 

@@ -1,0 +1,12 @@
+pub mod Written
+pub mod Responded
+pub mod ProduceBatches
+pub mod ProduceEntries
+pub mod ProduceSoFar
+pub mod ProduceReplies
+pub mod FetchRuns
+pub mod FetchEntries
+pub mod FetchReplies
+pub mod ListOffsetsReplies
+pub mod MetadataNames
+pub mod MetadataTopics
