@@ -1,14 +1,15 @@
 -- From answers that were given to what may be replied.
 use Rattle.std.proofs.Common.{◌≡◌, ℕ, List, [], ◌∷◌, ◌++◌, Option, Some, inl, refl, ap, subst, ◌∙◌, append-nil}
 use Rattle.std.specs.Prelude.{ℤ, map}
-use Rattle.request_frames.specs.Fields.{Fields, Value, size32, be, encoded}
+use Rattle.request_frames.specs.Fields.{Fields, Value, size32, be, elements, encoded}
 use Rattle.request_frames.specs.Types.{TopicOf, topic}
 use Rattle.request_frames.specs.Requests.{topic_request}
-use Rattle.request_frames.specs.Responses.{framed, response}
+use Rattle.request_frames.specs.Responses.{framed, response, topic_bytes}
 use Rattle.request_frames.specs.Arrays.{ArrayBytes, values}
 use Rattle.answering.specs.Work.{Work, answer, MayAnswer}
 use Rattle.answering.specs.Plans.{AnswersAll, AnswersTopics, Plan, RepliesBy}
-use Rattle.answering.specs.Writing.{topic_said, topics_said}
+use Rattle.answering.specs.Responding.{RespondsBy}
+use Rattle.answering.specs.Writing.{topic_said, topics_said, Responds}
 use Rattle.answering.specs.Once.{reply_once, RepliesOnce, WritesOnce}
 use Rattle.answering.proofs.AnswersOfAll.{in_full, in_any_case}
 
@@ -58,6 +59,22 @@ plan_answered {E = E} {R = R} {S = S} p d A f g may first end topics results rep
           (topics_along A B f g may first (topics_said d topics) p.topics results end (topics_of_request d f (values (topic d) topics) ∙ same) all);
       sends = sends;
       leaves = leaves;
+    }
+
+-- What `respond` ensures is one of those replies, where its bytes are the response to the results. The output held the same
+-- before its room was taken.
+pub plan_responded : {M E R S B : Type 0} (p : Plan E R S B) (d : Fields) (A : M → List ℕ → Value d → R → M → Type 0) (f : Value d → E) (g : M → S)
+    → ((m : M) (name : List ℕ) (v : Value d) (r : R) (after : M) → A m name v r after → MayAnswer (p.work (g m) name (f v)) (g m) r (g after))
+    → (enc : R → List ℕ) (n z : ℤ) (before ahead : List ℕ) (first end : M) (topics : ArrayBytes) (out held out' : List ℕ) (after : B)
+    → g first ≡ p.first → map (topic_request d f) (values (topic d) topics) ≡ p.topics → after ≡ p.after (g end)
+    → ((results : List (TopicOf R)) → Some (framed (be size32 n ++ (before ++ elements (topic_bytes enc) results ++ ahead))) ≡ p.response results)
+    → z ≡ n → held ≡ out → Responds A enc z before first (topics_said d topics) ahead held out' end → RespondsBy p out out' after
+plan_responded p d A f g may enc n z before ahead first end topics out held out' after starts same leaves sends number kept written =
+    let topics_bytes = elements (topic_bytes enc) written.results in
+    record {
+      response = Some (framed (be size32 n ++ (before ++ topics_bytes ++ ahead)));
+      replies = plan_answered p d A f g may first end topics written.results _ after starts same (sends written.results) leaves written.answers;
+      appends = written.appends ∙ (λ i. kept i ++ framed (be size32 (number i) ++ (before ++ topics_bytes ++ ahead)));
     }
 
 -- ---- requests of one entry

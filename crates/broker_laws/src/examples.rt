@@ -16,7 +16,7 @@ ghost use Rattle.log_requests.specs.Fetch.{fetch_result};
 ghost use Rattle.log_requests.specs.ListOffsets.{list_offsets_work, list_offsets_result};
 ghost use Rattle.log_requests.specs.Metadata.{metadata_topics};
 ghost use Rattle.broker_node.specs.Replies.{reply};
-ghost use Rattle.log_requests.specs.Responding.{sent};
+ghost use Rattle.answering.specs.Responding.{sent};
 ghost use Rattle.broker_node.specs.Streams.{IsAnswered, RefusesNext};
 ghost use Rattle.broker_laws.specs.Examples.{topic_t, topic, config_with, leader, follower, with_acks, transactional, produced_at, produce_request, produce_twice, list_offsets_request, list_offsets_frame, metadata_request, good, without_key, bad_producer, numbered_batch, produced_four, cleaned_leader, fetched_from, fetched_twice, listed_for, records_to};
 

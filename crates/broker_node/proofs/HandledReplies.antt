@@ -9,7 +9,7 @@ use Rattle.request_frames.specs.Views.{request_body, request_value}
 use Rattle.answering.specs.Work.{MayAnswer}
 use Rattle.answering.specs.Plans.{Plan, RepliesBy}
 use Rattle.broker_state.specs.State.{State}
-use Rattle.log_requests.specs.Responding.{RespondsBy}
+use Rattle.answering.specs.Responding.{RespondsBy}
 use Rattle.log_requests.specs.Metadata.{metadata_reply}
 use Rattle.broker_node.specs.declared.handling.Answer.{Answer}
 use Rattle.broker_node.specs.declared.handling.Answer.TheVariants.{Reply, Silent}

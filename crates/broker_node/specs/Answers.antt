@@ -4,7 +4,7 @@ use Rattle.std.specs.Ordering.{int_eq}
 use Rattle.request_frames.specs.Requests.BodyValue.{produce}
 use Rattle.request_frames.specs.Requests.{BodyValue, RequestValue}
 use Rattle.broker_state.specs.State.{State}
-use Rattle.log_requests.specs.Responding.{sent}
+use Rattle.answering.specs.Responding.{sent}
 use Rattle.broker_node.specs.declared.handling.Answer.{Answer}
 use Rattle.broker_node.specs.declared.handling.Answer.TheVariants.{Reply, Silent}
 use Rattle.broker_node.specs.Replies.{MayReply}

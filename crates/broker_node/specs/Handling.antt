@@ -5,7 +5,7 @@ use Rattle.broker_node.specs.declared.handling.Answer.{Answer}
 use Rattle.broker_node.specs.declared.handling.Answer.TheVariants.{Reply, Silent}
 use Rattle.broker_state.specs.State.{State}
 use Rattle.broker_node.specs.Replies.{MayReply}
-use Rattle.log_requests.specs.Responding.{sent}
+use Rattle.answering.specs.Responding.{sent}
 
 abbrev pub answer_of : Option (List ℕ) → Answer
 answer_of (Some response) = Reply

@@ -6,7 +6,7 @@ use Rattle.request_frames.specs.declared.error.FrameError.{FrameError}
 use Rattle.request_frames.specs.Requests.{RequestValue, IsRequest, IsRefused}
 use Rattle.request_frames.specs.Frames.{IsFrames, IsFirstFrame, SizeFault}
 use Rattle.broker_state.specs.State.{State}
-use Rattle.log_requests.specs.Responding.{sent}
+use Rattle.answering.specs.Responding.{sent}
 use Rattle.broker_node.specs.Replies.{MayReply}
 
 -- A frame is a request, and these bytes are what may be replied to it.

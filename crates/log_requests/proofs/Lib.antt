@@ -1,8 +1,6 @@
 pub mod Written
-pub mod Responded
 pub mod ProduceBatches
 pub mod ProduceEntries
-pub mod ProduceSoFar
 pub mod ProduceReplies
 pub mod FetchRuns
 pub mod FetchEntries

@@ -10,6 +10,7 @@ mod fetch;
 mod list_offsets;
 mod metadata;
 mod produce;
+mod reading;
 
 pub use fetch::reply_to_fetch;
 pub use fetch::room::MAX_FETCH_BYTES;

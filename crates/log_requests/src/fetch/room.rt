@@ -5,7 +5,7 @@ ghost use Rattle.std.specs.List.{flat_map};
 ghost use Rattle.batch_codec.specs.Grammar.{batch_encoding};
 ghost use Rattle.content.specs.Content.{IsContent};
 ghost use Rattle.log_requests.specs.Fetch.{fetch_limit, fetch_room, fetch_run_within, is_out_of_range};
-ghost use Rattle.log_requests.specs.Fetch.Topics.{between, fetch_entry_value};
+ghost use Rattle.log_requests.specs.Fetch.Entries.{between, fetch_entry_value};
 
 use partition_log::{OutOfRange, PartitionLog};
 use request_frames::FetchPartition;

@@ -1,22 +1,20 @@
-use Rattle.std.proofs.Common.{Some, ap, ◌∙◌, ◌++◌}
+use Rattle.std.proofs.Common.{refl}
 use Rattle.std.specs.Int.{w32}
 use Rattle.std.proofs.lemmas.Int.{to_z-of_z}
+use Rattle.request_frames.specs.Requests.{list_offsets_partition, list_offsets_partition_value}
+use Rattle.request_frames.specs.Responses.{listed_bytes}
 use Rattle.request_frames.specs.Views.{list_offsets_view}
-use Rattle.request_frames.specs.Responses.{response, list_offsets_response, list_offsets_value}
+use Rattle.answering.proofs.Planned.{plan_responded}
 use Rattle.log_requests.specs.ListOffsets.{list_offsets_plan}
-use Rattle.log_requests.specs.ListOffsets.Topics.{list_offsets_topics}
 use Rattle.log_requests.proofs.Written.{on_ok}
-use Rattle.log_requests.proofs.Responded.{responded}
-use Rattle.log_requests.proofs.ListOffsetsReplies.{list_offsets_is_reply}
+use Rattle.log_requests.proofs.ListOffsetsReplies.{list_offsets_may, list_offsets_sends}
 use Rattle.log_requests.proofs.list_offsets.reply_to_list_offsets.Goals as goal
 
 pub returns-clause-responds : goal.returns-clause-responds
 returns-clause-responds g c =
     let s = c.args.state.now in
-    let q = c.args.request.now in
-    let found = list_offsets_topics s q in
-    on_ok c.append_response.result
-    (λ e. responded (list_offsets_plan s c.args.correlation (list_offsets_view q)) c.args.out.now.items c.append_response.new.out.items
-    (Some (response c.args.correlation list_offsets_response (list_offsets_value found))) s (list_offsets_is_reply s c.args.correlation q)
-    (e ∙ ap (λ z. c.args.out.now.items ++ response z list_offsets_response (list_offsets_value found)) (to_z-of_z w32 c.args.correlation c.ranges.correlation)))
-    c.append_response.ensures.appends
+    let n = c.args.correlation in
+    on_ok c.respond.result
+    (λ e. plan_responded (list_offsets_plan s n (list_offsets_view c.args.request.now)) list_offsets_partition _ list_offsets_partition_value (λ (shared : Unit {0}). s) (list_offsets_may s) listed_bytes n _ _ _ _ _ _ _ _ _ s
+    refl refl refl (list_offsets_sends n) (to_z-of_z w32 n c.ranges.correlation) refl e)
+    c.respond.ensures.responds
