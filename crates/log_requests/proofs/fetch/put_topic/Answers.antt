@@ -29,18 +29,18 @@ pub loop-entry-preserved : goal.loop-entry-preserved
 loop-entry-preserved g c =
     let answer = fetch_entry c.args.state.now c.args.topic.name.now in
     let out = c.loop-entry.out.items in
-    let next = c.put_fetched.new.out.items in
+    let next = c.put_entry.new.out.items in
     let first = c.in-Some.ensures.steps in
     let i = c.loop-entry.invariant in
-    let made = c.in_ok-put_fetched.ensures in (
-      one_answered fetched_bytes answer out next _ c.loop-entry.room c.put_fetched.new.room _ _ _ _ first refl made.room made.appends i.0,
-      one_left fetched_bytes answer c.loop-entry.room c.put_fetched.new.room _ _ _ _ first made.room i.1,
+    let made = c.in_ok-put_entry.ensures in (
+      one_answered fetched_bytes answer out next _ c.loop-entry.room c.put_entry.new.room _ _ _ _ first refl made.room made.appends i.0,
+      one_left fetched_bytes answer c.loop-entry.room c.put_entry.new.room _ _ _ _ first made.room i.1,
       begins_more c.args.out.now.items out next _ i.2 made.appends,
     )
 
-pub returns-in_err-put_fetched-clause-begins : goal.returns-in_err-put_fetched-clause-begins
-returns-in_err-put_fetched-clause-begins g c =
-    on_err_of c.from_residual-in_err-put_fetched.result (begins_both c.args.out.now.items c.loop-entry.out.items c.put_fetched.new.out.items c.loop-entry.invariant.2 c.in_err-put_fetched.ensures.begins)
+pub returns-in_err-put_entry-clause-begins : goal.returns-in_err-put_entry-clause-begins
+returns-in_err-put_entry-clause-begins g c =
+    on_err_of c.from_residual-in_err-put_entry.result (begins_both c.args.out.now.items c.loop-entry.out.items c.put_entry.new.out.items c.loop-entry.invariant.2 c.in_err-put_entry.ensures.begins)
 
 pub returns-clause-appends : goal.returns-clause-appends
 returns-clause-appends g c =

@@ -24,7 +24,7 @@ loop-entry-init g c =
 
 pub loop-entry-preserved : goal.loop-entry-preserved
 loop-entry-preserved g c = (
-  one_written listed_bytes (list_offsets_entry c.args.state.now c.args.topic.name.now) c.loop-entry.out.items c.put_listed_partition.new.out.items _ c.list_offsets.result _ _ _ c.in-Some.ensures.steps (ap (λ answered. answered.0) c.list_offsets.ensures) c.in_ok-put_listed_partition.ensures.appends c.loop-entry.invariant.0,
+  one_written listed_bytes (list_offsets_entry c.args.state.now c.args.topic.name.now) c.loop-entry.out.items c.put_listed_partition.new.out.items _ c.list_offsets_entry.result _ _ _ c.in-Some.ensures.steps (ap (λ answered. answered.0) c.list_offsets_entry.ensures) c.in_ok-put_listed_partition.ensures.appends c.loop-entry.invariant.0,
   begins_more c.args.out.now.items c.loop-entry.out.items c.put_listed_partition.new.out.items _ c.loop-entry.invariant.1 c.in_ok-put_listed_partition.ensures.appends,
 )
 

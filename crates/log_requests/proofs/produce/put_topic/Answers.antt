@@ -15,10 +15,10 @@ loop-entry-preserved g c =
     let first = c.in-Some.ensures.steps in
     let written = c.in-Ok-put_produced_partition.ensures in (
       (
-        i.0.0 ++ c.produce-produced.result ∷ [],
-        one_more (λ s e y m. MayProduce (produce_view c.args.request.now) s c.args.topic.name.now e y m) _ c.loop-entry.state c.produce-produced.new.state _ _ _ _ c.produce-produced.result i.0.0 (ap (map produce_partition_value) first) c.produce-produced.ensures i.0.1,
-        written_more produced_bytes _ c.loop-entry.out.items c.put_produced_partition.new.out.items i.0.0 c.produce-produced.result i.0.2 written.appends,
-        counted_more _ _ _ i.0.0 c.produce-produced.result _ first i.0.3,
+        i.0.0 ++ c.produce_entry-produced.result ∷ [],
+        one_more (λ s e y m. MayProduce (produce_view c.args.request.now) s c.args.topic.name.now e y m) _ c.loop-entry.state c.produce_entry-produced.new.state _ _ _ _ c.produce_entry-produced.result i.0.0 (ap (map produce_partition_value) first) c.produce_entry-produced.ensures i.0.1,
+        written_more produced_bytes _ c.loop-entry.out.items c.put_produced_partition.new.out.items i.0.0 c.produce_entry-produced.result i.0.2 written.appends,
+        counted_more _ _ _ i.0.0 c.produce_entry-produced.result _ first i.0.3,
       ),
       room_less _ _ _ (vec_len c.loop-entry.out) _ 22 _ first written.len i.1,
       no_less _ _ _ i.2 written.keeps_capacity,
