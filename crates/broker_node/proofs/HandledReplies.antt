@@ -1,11 +1,14 @@
 -- From what answering a request does to the output, to what handling it does.
-use Rattle.std.proofs.Common.{◌≡◌, ℕ, ℤ, pos, Bool, true, false, cond, List, ◌++◌, Option, Some, None, refl, sym, ap, subst, ◌∙◌}
+use Rattle.std.proofs.Common.{◌≡◌, ℕ, ℤ, pos, Bool, true, false, cond, List, ◌++◌, Option, Some, None, Result, Ok, Err, refl, sym, ap, subst, ◌∙◌}
 use Rattle.std.specs.Ordering.{int_eq}
+use Rattle.std.specs.Prelude.{OnOk}
+use Rattle.request_frames.specs.declared.parsing.RequestBody.TheVariants as variants
+use Rattle.request_frames.specs.declared.requests.MetadataRequest.{MetadataRequest}
 use Rattle.request_frames.specs.declared.parsing.Request.{Request}
 use Rattle.request_frames.specs.declared.parsing.RequestBody.{RequestBody}
 use Rattle.request_frames.specs.Requests.BodyValue.{produce, fetch, list_offsets, metadata}
 use Rattle.request_frames.specs.Requests.{BodyValue, RequestValue, ProduceValue}
-use Rattle.request_frames.specs.Views.{request_body, request_value}
+use Rattle.request_frames.specs.Views.{metadata_view, request_body, request_value}
 use Rattle.answering.specs.Work.{MayAnswer}
 use Rattle.answering.specs.Plans.{Plan, RepliesBy}
 use Rattle.broker_state.specs.State.{State}
@@ -27,6 +30,17 @@ responds_by p s after request body held held' is arm r = record {
   response = r.response;
   replies = subst (λ b. RepliesTo (λ R S w. MayAnswer w) s request.correlation (request_body b) r.response after) (sym is) (arm r.response r.replies);
   appends = r.appends;
+}
+
+-- of a Metadata request, which has no plan
+pub metadata_responds : {T E : Type 0} (r : Result T E) (s : State) (request : Request) (asked : MetadataRequest) (z : ℤ) (held held' : List ℕ) → z ≡ request.correlation → request.body ≡ variants.Metadata asked
+    → OnOk r (held' ≡ held ++ metadata_reply s z (metadata_view asked)) → OnOk r (RespondsTo s (request_value request) held held' s)
+metadata_responds (Err e) s request asked z held held' same is written = tt
+metadata_responds (Ok x) s request asked z held held' same is written = record {
+  response = Some (metadata_reply s z (metadata_view asked));
+  replies = subst (λ b. RepliesTo (λ R S w. MayAnswer w) s request.correlation (request_body b) (Some (metadata_reply s z (metadata_view asked))) s) (sym is)
+      (ap (λ n. Some (metadata_reply s n (metadata_view asked))) same, refl);
+  appends = written;
 }
 
 -- ---- whether there is a reply
