@@ -30,10 +30,19 @@ size_is_there old new fields correlation n m e before after =
     let whole : length new ≡ length (front ++ fields) = ap length e in
     omega (arith, whole, length-append front fields, length-append old (response_head correlation), before, after)
 
--- three parts behind what was begun, where the last one went well
-pub three_parts : {E : Type 0} (r : Result (Unit {0}) E) (begun first second third front a b c : List ℕ) → begun ≡ front → first ≡ begun ++ a → second ≡ first ++ b
-    → third ≡ (if is_ok r then second ++ c else second) → OnOk r (third ≡ front ++ (a ++ b ++ c))
-three_parts (Ok x) begun first second third front a b c start one two three =
-    three ∙ (λ i. two i ++ c) ∙ (λ i. (one i ++ b) ++ c) ∙ (λ i. ((start i ++ a) ++ b) ++ c)
-    ∙ ap (λ (x : List ℕ). x ++ c) (append_assoc front a b) ∙ append_assoc front (a ++ b) c
-three_parts (Err e) begun first second third front a b c start one two three = tt
+-- three parts that were appended, where the last one went well
+pub three_parts : {E : Type 0} (r : Result (Unit {0}) E) (old first second third a b c : List ℕ) → first ≡ old ++ a → second ≡ first ++ b
+    → third ≡ (if is_ok r then second ++ c else second) → OnOk r (third ≡ old ++ (a ++ b ++ c))
+three_parts (Ok x) old first second third a b c one two three =
+    three ∙ (λ i. two i ++ c) ∙ (λ i. (one i ++ b) ++ c) ∙ ap (λ (x : List ℕ). x ++ c) (append_assoc old a b) ∙ append_assoc old (a ++ b) c
+three_parts (Err e) old first second third a b c one two three = tt
+
+-- what follows of an answer
+
+pub on_ok : {T E P Q : Type 0} (r : Result T E) → (P → Q) → OnOk r P → OnOk r Q
+on_ok (Ok x) f p = f p
+on_ok (Err e) f p = p
+
+pub on_err : {T E P Q : Type 0} (r : Result T E) → (P → Q) → OnErr r P → OnErr r Q
+on_err (Ok x) f p = tt
+on_err (Err e) f p = f p

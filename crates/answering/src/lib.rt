@@ -38,8 +38,9 @@
 //! `RepliesOnce` are what is replied, `WritesOnce` what its function ensures. A function does the work,
 //! another gives the bytes of a result, and the response is appended by `respond_once`: where the work
 //! changes something, behind `out.reserve(RESPONSE_HEAD_BYTES + ..)?`, after which it can't fail. A
-//! result with bytes of its own, as a partition's, is a head, these bytes and what follows them. The
-//! proof is `once_written`, and `once_answered` above it.
+//! result with bytes of its own, as a partition's, is a head, these bytes and what follows them; a
+//! response in many parts implements `Body`, and is appended by `respond_with`. The proof is
+//! `once_written`, and `once_answered` above it.
 #![tactic(auto)]
 
 mod codes;
@@ -50,6 +51,6 @@ mod room;
 
 pub use codes::ErrorCode;
 pub use entries::Answers;
-pub use once::respond_once;
+pub use once::{Body, respond_once, respond_with};
 pub use responding::respond;
 pub use room::{MAX_FIXED_BYTES, response_room};

@@ -2,10 +2,10 @@
 
 ghost use Rattle.std.specs.Prelude.{◌≡◌, ◌++◌, None, Some, map, OnOk, OnErr};
 ghost use Rattle.std.specs.List.{flat_map};
-ghost use Rattle.batch_codec.specs.Writing.{Begins};
-ghost use Rattle.request_frames.specs.Responses.{response_head, leader_id, metadata_head, metadata_topic_bytes};
+ghost use Rattle.answering.specs.Writing.{Begins};
+ghost use Rattle.request_frames.specs.Responses.{metadata_topic_bytes};
 ghost use Rattle.request_frames.specs.Views.{metadata_view};
-ghost use Rattle.log_requests.specs.Metadata.{known_leader, topic_metadata, metadata_at, metadata_reply};
+ghost use Rattle.log_requests.specs.Metadata.{topic_metadata, metadata_at, metadata_reply};
 ghost use Rattle.log_requests.specs.Metadata.Names.{metadata_names, metadata_body};
 
 mod names;
@@ -13,28 +13,12 @@ mod topics;
 
 use crate::metadata::names::each_once;
 use crate::metadata::topics::{put_broker, put_name, put_topic};
+use answering::{Body, respond_with};
 use broker_state::BrokerState;
-use request_frames::response::{begin_response, finish_response};
 use request_frames::response_laws::metadata_parts;
 use request_frames::{Array, MetadataRequest, Name};
 use segment::BatchStore;
 use std::alloc::{AllocError, Allocator};
-
-/// Appends what comes before the topics.
-fn put_head<S: BatchStore, A: Allocator + Copy>(
-    state: &BrokerState<S>,
-    correlation: i32,
-    topic_count: u32,
-    out: &mut Vec<u8, A>,
-) -> Result<(), AllocError>
-    ensures appends { OnOk result (out.new.items ≡ out.old.items ++ response_head correlation
-        ++ metadata_head state.now.config.node_id state.now.config.host state.now.config.port
-        (leader_id (known_leader state.now.config)) topic_count) }
-    ensures begins { OnErr result (Begins out.old.items out.new.items) }
-{
-    begin_response(out, correlation)?;
-    put_broker(state, topic_count, out)
-}
 
 /// Appends what is said of all topics.
 fn put_topics<S: BatchStore, A: Allocator + Copy>(
@@ -67,77 +51,57 @@ fn put_names<S: BatchStore, A: Allocator + Copy>(
     Ok(())
 }
 
-/// Appends the response of all topics behind its size, which is not set yet.
+/// Appends what is answered where all topics are asked for.
 fn put_all<S: BatchStore, A: Allocator + Copy>(
     state: &BrokerState<S>,
-    correlation: i32,
     out: &mut Vec<u8, A>,
 ) -> Result<(), AllocError>
-    ensures appends { OnOk result (out.new.items
-        ≡ out.old.items ++ response_head correlation ++ metadata_body state.now None) }
+    ensures appends { OnOk result (out.new.items ≡ out.old.items ++ metadata_body state.now None) }
     ensures begins { OnErr result (Begins out.old.items out.new.items) }
 {
     metadata_parts();
-    put_head(state, correlation, state.topics().len() as u32, out)?;
+    put_broker(state, state.topics().len() as u32, out)?;
     put_topics(state, out)
 }
 
-/// Appends the response of the names that are asked for behind its size, which is not set yet.
+/// Appends what is answered to names.
 fn put_asked<'a, S: BatchStore, A: Allocator + Copy>(
     state: &BrokerState<S>,
-    correlation: i32,
     names: &Array<'a, Name<'a>>,
     out: &mut Vec<u8, A>,
 ) -> Result<(), AllocError>
-    ensures appends { OnOk result (out.new.items ≡ out.old.items ++ response_head correlation
-        ++ metadata_body state.now (Some (metadata_names names.now))) }
+    ensures appends { OnOk result (out.new.items
+        ≡ out.old.items ++ metadata_body state.now (Some (metadata_names names.now))) }
     ensures begins { OnErr result (Begins out.old.items out.new.items) }
 {
     metadata_parts();
     // The set has at most as many names, so their count fits as this one does.
     let _sent = names.len();
     let set = each_once(*out.allocator(), names.duplicate())?;
-    put_head(state, correlation, set.len() as u32, out)?;
+    put_broker(state, set.len() as u32, out)?;
     put_names(state, set.as_slice(), out)
 }
 
-/// Appends the whole response behind its size, which is not set yet.
-fn put_response<S: BatchStore, A: Allocator + Copy>(
-    state: &BrokerState<S>,
-    correlation: i32,
-    request: &MetadataRequest<'_>,
-    out: &mut Vec<u8, A>,
-) -> Result<(), AllocError>
-    ensures appends { OnOk result (out.new.items ≡ out.old.items ++ response_head correlation
-        ++ metadata_body state.now (metadata_view request.now)) }
-    ensures begins { OnErr result (Begins out.old.items out.new.items) }
-{
-    match &request.names {
-        None => put_all(state, correlation, out),
-        Some(names) => put_asked(state, correlation, names, out),
-    }
+/// A Metadata request, and what it is answered from.
+#[derive(Drop)]
+struct Listing<'q, 'r, S: BatchStore> {
+    state: &'q BrokerState<S>,
+    request: &'q MetadataRequest<'r>,
 }
 
-/// Appends the whole response, or nothing.
-fn append_response<S: BatchStore, A: Allocator + Copy>(
-    state: &BrokerState<S>,
-    correlation: i32,
-    request: &MetadataRequest<'_>,
-    out: &mut Vec<u8, A>,
-) -> Result<(), AllocError>
-    ensures appends { OnOk result (out.new.items ≡ out.old.items
-        ++ metadata_reply state.now correlation (metadata_view request.now)) }
-    ensures unchanged_on_error { OnErr result (out.new.items ≡ out.old.items) }
-{
-    let start = out.len();
-    match put_response(state, correlation, request, out) {
-        Ok(()) => {
-            finish_response(out, start);
-            Ok(())
-        }
-        Err(refused) => {
-            out.truncate(start);
-            Err(refused)
+impl<'q, 'r, S: BatchStore> Body for Listing<'q, 'r, S> {
+    ghost use Rattle.std.specs.Prelude.{None};
+    ghost use Rattle.request_frames.specs.Views.{metadata_view};
+    ghost use Rattle.log_requests.specs.Metadata.Names.{metadata_body};
+
+    ghost bytes = { λ asked. metadata_body asked.state.now (metadata_view asked.request.now) };
+
+    ghost size = { λ asked. None };
+
+    fn put<A: Allocator + Copy>(&self, out: &mut Vec<u8, A>) -> Result<(), AllocError> {
+        match &self.request.names {
+            None => put_all(self.state, out),
+            Some(names) => put_asked(self.state, names, out),
         }
     }
 }
@@ -157,5 +121,5 @@ pub fn reply_to_metadata<S: BatchStore, A: Allocator + Copy>(
         ++ metadata_reply state.now correlation (metadata_view request.now)) }
     ensures unchanged_on_error { OnErr result (out.new.items ≡ out.old.items) }
 {
-    append_response(state, correlation, request, out)
+    respond_with(correlation, &Listing { state, request }, out)
 }

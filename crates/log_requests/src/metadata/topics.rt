@@ -2,7 +2,7 @@
 
 ghost use Rattle.std.specs.Prelude.{◌≡◌, ◌≤◌, ◌++◌, map, length, OnOk, OnErr};
 ghost use Rattle.std.specs.List.{flat_map, range_with_len};
-ghost use Rattle.batch_codec.specs.Writing.{Begins};
+ghost use Rattle.answering.specs.Writing.{Begins};
 ghost use Rattle.request_frames.specs.Responses.{leader_id, metadata_head, metadata_topic_bytes, metadata_partition_bytes};
 ghost use Rattle.log_requests.specs.Metadata.{known_leader, partition_metadata, topic_metadata, failed_topic, metadata_at};
 ghost use Rattle.broker_state.specs.Parts.{topic_contents};

@@ -6,7 +6,7 @@ use Rattle.request_frames.specs.Responses.{fetched_bytes}
 use Rattle.request_frames.specs.Views.{fetch_view}
 use Rattle.answering.proofs.Planned.{plan_responded}
 use Rattle.log_requests.specs.Fetch.{FetchRoom, fetch_plan}
-use Rattle.log_requests.proofs.Written.{on_ok}
+use Rattle.answering.proofs.Begun.{on_ok}
 use Rattle.log_requests.proofs.FetchReplies.{fetch_may, fetch_sends}
 use Rattle.log_requests.proofs.fetch.reply_to_fetch.Goals as goal
 

@@ -6,7 +6,7 @@ use Rattle.request_frames.specs.Responses.{listed_bytes}
 use Rattle.request_frames.specs.Views.{list_offsets_view}
 use Rattle.answering.proofs.Planned.{plan_responded}
 use Rattle.log_requests.specs.ListOffsets.{list_offsets_plan}
-use Rattle.log_requests.proofs.Written.{on_ok}
+use Rattle.answering.proofs.Begun.{on_ok}
 use Rattle.log_requests.proofs.ListOffsetsReplies.{list_offsets_may, list_offsets_sends}
 use Rattle.log_requests.proofs.list_offsets.reply_to_list_offsets.Goals as goal
 

@@ -2,7 +2,7 @@ use Rattle.std.proofs.Common.{refl}
 use Rattle.request_frames.specs.Responses.{metadata_topic_bytes}
 use Rattle.log_requests.specs.Metadata.{metadata_at}
 use Rattle.log_requests.proofs.MetadataTopics.{all_seen}
-use Rattle.log_requests.proofs.Written.{begins_both, on_err_of}
+use Rattle.answering.proofs.Begun.{begins_both, on_err_of}
 use Rattle.log_requests.proofs.metadata.put_names.Goals as goal
 
 pub returns-clause-appends : goal.returns-clause-appends

@@ -2,7 +2,8 @@ use Rattle.request_frames.specs.Responses.{metadata_topic_bytes}
 use Rattle.log_requests.specs.Metadata.{topic_metadata}
 use Rattle.broker_state.specs.Parts.{topic_contents}
 use Rattle.log_requests.proofs.MetadataTopics.{all_seen}
-use Rattle.log_requests.proofs.Written.{begins_both, on_err_of, next_written}
+use Rattle.answering.proofs.Begun.{begins_both, on_err_of}
+use Rattle.log_requests.proofs.Written.{next_written}
 use Rattle.log_requests.proofs.metadata.put_topics.Goals as goal
 
 pub returns-in_err-put_topic-clause-begins : goal.returns-in_err-put_topic-clause-begins

@@ -4,7 +4,7 @@ use Rattle.std.specs.List.{flat_map, range_with_len}
 use Rattle.request_frames.specs.Responses.{metadata_partition_bytes}
 use Rattle.log_requests.specs.Metadata.{partition_metadata}
 use Rattle.log_requests.proofs.MetadataTopics.{one_more}
-use Rattle.log_requests.proofs.Written.{begins_kept, on_err_of}
+use Rattle.answering.proofs.Begun.{begins_kept, on_err_of}
 use Rattle.log_requests.proofs.metadata.topics.put_partitions.Goals as goal
 
 pub loop-index-init : goal.loop-index-init

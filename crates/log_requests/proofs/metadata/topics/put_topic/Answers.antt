@@ -2,7 +2,7 @@ use Rattle.std.proofs.Common.{◌≡◌, ◌++◌, rules}
 use Rattle.request_frames.specs.Responses.{metadata_topic_head}
 use Rattle.answering.specs.Codes.{no_error}
 use Rattle.broker_state.specs.State.{is_group_topic}
-use Rattle.log_requests.proofs.Written.{on_ok}
+use Rattle.answering.proofs.Begun.{on_ok}
 use Rattle.log_requests.proofs.MetadataTopics.{topic_written}
 use Rattle.log_requests.proofs.metadata.topics.put_topic.Goals as goal
 

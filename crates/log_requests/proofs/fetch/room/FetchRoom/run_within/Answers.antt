@@ -2,7 +2,7 @@ use Rattle.std.proofs.Common.{FitsSigned, w32, w64, rules}
 use Rattle.std.proofs.lemmas.Int.{to_z-of_z}
 use Rattle.log_requests.specs.Fetch.Entries.{fetch_entry_value}
 use Rattle.log_requests.proofs.FetchRuns.{runs_small, run_of_room, inside_range, outside_range}
-use Rattle.log_requests.proofs.Written.{on_ok, on_err}
+use Rattle.answering.proofs.Begun.{on_ok, on_err}
 use Rattle.log_requests.proofs.fetch.room.FetchRoom.run_within.Goals as goal
 
 pub returns-clause-gives : goal.returns-clause-gives
