@@ -1,14 +1,10 @@
 -- What is written of a broker's topics.
-use Rattle.std.proofs.Common.{◌≡◌, ℕ, ◌+◌, ◌≤◌, take, arith, Bool, true, false, cond, ℤ, List, [], ◌∷◌, ◌++◌, length, Option, Some, None, refl, sym, ap, subst, ◌∙◌, append_assoc, append-nil}
-use Rattle.std.specs.Prelude.{map, not, bytes_eq, IfSome}
-use Rattle.std.specs.List.{flat_map, find, range_with_len, All}
-use Rattle.std.specs.Option.{option_map}
+use Rattle.std.proofs.Common.{◌≡◌, ℕ, ◌+◌, ◌≤◌, take, arith, Bool, true, false, cond, ℤ, List, [], ◌∷◌, ◌++◌, length, Option, Some, None, sym, ap, ◌∙◌, append_assoc, append-nil}
+use Rattle.std.specs.Prelude.{map, not}
+use Rattle.std.specs.List.{flat_map, range_with_len}
 use Rattle.std.proofs.lemmas.Grind.{flat_map-append}
 use Rattle.std.proofs.lemmas.List.{length-map, take_all}
-use Rattle.std.proofs.lemmas.List.Elements.{All-head, All-tail}
-use Rattle.std.proofs.lemmas.Option.{same_Some}
 use Rattle.std.proofs.lemmas.List.FromFn.{length-map-range_with_len, map-range_with_len_more}
-use Rattle.std.specs.Borrow.{Bor}
 use Rattle.request_frames.specs.Names.{is_topic_name}
 use Rattle.request_frames.specs.Responses.{Broker, TopicMetadata, metadata_response, metadata_value, leader_id, metadata_head, metadata_topic_head, metadata_topic_bytes, metadata_partition_bytes}
 use Rattle.request_frames.specs.Fields.{encoded}
@@ -18,7 +14,6 @@ use Rattle.broker_state.specs.State.{ConfigValue, Topic, State, is_group_topic, 
 use Rattle.log_requests.specs.Metadata.{broker_of, known_leader, metadata_topics, partition_metadata, topic_metadata, failed_topic, metadata_of, metadata_at}
 use Rattle.broker_state.specs.Parts.{TopicParts, topic_contents}
 use Rattle.log_requests.specs.Metadata.Names.{metadata_body}
-use Rattle.broker_state.proofs.NewStates.{find_map}
 use Rattle.log_requests.proofs.Written.{map_twice}
 
 -- ---- a topic by its name
