@@ -3,12 +3,15 @@ use Rattle.std.proofs.Common.{◌≡◌, ℕ, List, ◌++◌, Some, refl, sym, a
 use Rattle.request_frames.specs.declared.parsing.RequestBody.TheVariants as variants
 use Rattle.request_frames.specs.declared.parsing.Request.{Request}
 use Rattle.request_frames.specs.declared.parsing.RequestBody.{RequestBody}
-use Rattle.request_frames.specs.declared.requests.FetchRequest.{FetchRequest}
-use Rattle.request_frames.specs.declared.requests.ListOffsetsRequest.{ListOffsetsRequest}
-use Rattle.request_frames.specs.declared.requests.MetadataRequest.{MetadataRequest}
+use Rattle.request_frames.specs.declared.fetch.request.FetchRequest.{FetchRequest}
+use Rattle.request_frames.specs.declared.list_offsets.request.ListOffsetsRequest.{ListOffsetsRequest}
+use Rattle.request_frames.specs.declared.metadata.request.MetadataRequest.{MetadataRequest}
 use Rattle.request_frames.specs.Requests.BodyValue.{fetch, list_offsets, metadata}
 use Rattle.request_frames.specs.Requests.{RequestValue}
-use Rattle.request_frames.specs.Views.{fetch_view, list_offsets_view, metadata_view, request_body, request_value}
+use Rattle.request_frames.specs.Fetch.{fetch_view}
+use Rattle.request_frames.specs.ListOffsets.{list_offsets_view}
+use Rattle.request_frames.specs.Metadata.{metadata_view}
+use Rattle.request_frames.specs.Views.{request_body, request_value}
 use Rattle.broker_node.specs.declared.handling.Answer.TheVariants.{Reply}
 use Rattle.broker_node.specs.State.{State}
 use Rattle.broker_node.specs.Replies.{reply}

@@ -1,14 +1,14 @@
 -- Fetch: the request as a value, and the response as the code goes.
 use Rattle.std.specs.Prelude.{◌-◌, ℕ, ℤ, List, take, drop}
-use Rattle.request_frames.specs.declared.requests.FetchPartition.{FetchPartition}
-use Rattle.request_frames.specs.declared.requests.FetchRequest.{FetchRequest}
-use Rattle.request_frames.specs.Arrays.{values}
-use Rattle.request_frames.specs.Fields.{Value}
-use Rattle.request_frames.specs.Types.{TopicOf, topic}
-use Rattle.request_frames.specs.Views.{fetch_view}
+use Rattle.request_frames.specs.declared.fetch.partition.FetchPartition.{FetchPartition}
+use Rattle.request_frames.specs.declared.fetch.request.FetchRequest.{FetchRequest}
+use Rattle.frame_fields.specs.Arrays.{values}
+use Rattle.frame_fields.specs.Fields.{Value}
+use Rattle.frame_fields.specs.Types.{TopicOf, topic}
+use Rattle.request_frames.specs.Fetch.{fetch_view, FetchPartitionValue, fetch_partition, fetch_partition_value}
 use Rattle.request_frames.specs.Requests.BodyValue.{fetch}
-use Rattle.request_frames.specs.Requests.{RequestValue, FetchPartitionValue, fetch_partition, fetch_partition_value}
-use Rattle.request_frames.specs.Responses.{Fetched}
+use Rattle.request_frames.specs.Requests.{RequestValue}
+use Rattle.responses.specs.Fetch.{Fetched}
 use Rattle.answering.specs.Lists.{map_accum}
 use Rattle.broker_node.specs.State.{State}
 use Rattle.answering.specs.Work.{answer}

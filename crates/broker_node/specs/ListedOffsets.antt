@@ -1,13 +1,13 @@
 -- ListOffsets: the request as a value, and the response as the code goes.
 use Rattle.std.specs.Prelude.{ℕ, ℤ, List, map}
-use Rattle.request_frames.specs.declared.response.list_offsets.ListedPartition.{ListedPartition}
-use Rattle.request_frames.specs.declared.requests.ListOffsetsRequest.{ListOffsetsRequest}
-use Rattle.request_frames.specs.Arrays.{values}
-use Rattle.request_frames.specs.Fields.{Value}
-use Rattle.request_frames.specs.Types.{TopicOf, topic}
-use Rattle.request_frames.specs.Views.{list_offsets_view}
+use Rattle.responses.specs.declared.list_offsets.partition.ListedPartition.{ListedPartition}
+use Rattle.request_frames.specs.declared.list_offsets.request.ListOffsetsRequest.{ListOffsetsRequest}
+use Rattle.frame_fields.specs.Arrays.{values}
+use Rattle.frame_fields.specs.Fields.{Value}
+use Rattle.frame_fields.specs.Types.{TopicOf, topic}
+use Rattle.request_frames.specs.ListOffsets.{list_offsets_view, list_offsets_partition, list_offsets_partition_value}
 use Rattle.request_frames.specs.Requests.BodyValue.{list_offsets}
-use Rattle.request_frames.specs.Requests.{RequestValue, list_offsets_partition, list_offsets_partition_value}
+use Rattle.request_frames.specs.Requests.{RequestValue}
 use Rattle.broker_node.specs.State.{State}
 use Rattle.answering.specs.Work.{answer}
 use Rattle.broker_node.specs.Entries.{list_offsets_work}

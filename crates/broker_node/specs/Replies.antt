@@ -2,12 +2,19 @@
 -- Messages" and "Network" (requests are answered in order, and Produce with acks 0 is not answered).
 use Rattle.std.specs.Prelude.{◌≡◌, ℕ, ℤ, pos, List, Option, Some, None, if◌then◌else◌}
 use Rattle.std.specs.Ordering.{int_eq}
-use Rattle.request_frames.specs.declared.response.produce.ProducedPartition.{ProducedPartition}
-use Rattle.request_frames.specs.declared.response.list_offsets.ListedPartition.{ListedPartition}
-use Rattle.request_frames.specs.Types.{TopicOf}
+use Rattle.responses.specs.declared.produce.partition.ProducedPartition.{ProducedPartition}
+use Rattle.responses.specs.declared.list_offsets.partition.ListedPartition.{ListedPartition}
+use Rattle.frame_fields.specs.Types.{TopicOf}
 use Rattle.request_frames.specs.Requests.BodyValue.{produce, fetch, list_offsets, metadata}
-use Rattle.request_frames.specs.Requests.{BodyValue, RequestValue, ProduceValue, ProducePartitionValue, FetchValue, FetchPartitionValue, ListOffsetsPartitionValue}
-use Rattle.request_frames.specs.Responses.{response, Fetched, produce_response, produce_value, fetch_response, fetch_value, list_offsets_response, list_offsets_value, metadata_response, metadata_value, leader_id}
+use Rattle.request_frames.specs.Requests.{BodyValue, RequestValue}
+use Rattle.request_frames.specs.Produce.{ProduceValue, ProducePartitionValue}
+use Rattle.request_frames.specs.Fetch.{FetchValue, FetchPartitionValue}
+use Rattle.request_frames.specs.ListOffsets.{ListOffsetsPartitionValue}
+use Rattle.responses.specs.Responses.{response}
+use Rattle.responses.specs.Fetch.{Fetched, fetch_response, fetch_value}
+use Rattle.responses.specs.Produce.{produce_response, produce_value}
+use Rattle.responses.specs.ListOffsets.{list_offsets_response, list_offsets_value}
+use Rattle.responses.specs.Metadata.{metadata_response, metadata_value, metadata_leader_id}
 use Rattle.broker_node.specs.State.{State}
 use Rattle.answering.specs.Work.{IsAnswer, MayAnswer}
 use Rattle.broker_node.specs.Entries.{produce_work, FetchRoom, first_room, fetch_work, list_offsets_work}
@@ -48,7 +55,7 @@ list_offsets_plan s correlation topics = record {
 -- It has no entries: the broker and its topics are read from the state.
 abbrev pub metadata_reply : State → ℤ → Option (List (List ℕ)) → List ℕ
 metadata_reply s correlation names = response correlation metadata_response
-    (metadata_value (broker_of s.config) (leader_id (known_leader s.config)) (listed_topics s names))
+    (metadata_value (broker_of s.config) (metadata_leader_id (known_leader s.config)) (listed_topics s names))
 
 -- ---- all requests
 

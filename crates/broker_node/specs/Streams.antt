@@ -3,9 +3,9 @@
 -- Structure".
 use Rattle.std.specs.Prelude.{◌≡◌, ◌⊎◌, ℕ, List, [], ◌∷◌, ◌++◌, Option}
 use Rattle.std.specs.Option.{unwrap_or}
-use Rattle.request_frames.specs.declared.error.FrameError.{FrameError}
+use Rattle.frame_fields.specs.declared.error.FrameError.{FrameError}
 use Rattle.request_frames.specs.Requests.{RequestValue, IsRequest, IsRefused}
-use Rattle.request_frames.specs.Frames.{IsFrames, IsFirstFrame, SizeFault}
+use Rattle.frame_fields.specs.Frames.{IsFrames, IsFirstFrame, SizeFault}
 use Rattle.broker_node.specs.State.{State}
 use Rattle.broker_node.specs.Replies.{MayReply}
 

@@ -2,11 +2,12 @@
 
 ghost use Rattle.std.specs.Prelude.{◌≡◌, ◌++◌, map, OnOk, OnErr};
 ghost use Rattle.std.specs.List.{flat_map};
-ghost use Rattle.request_frames.specs.Fields.{encoded};
-ghost use Rattle.request_frames.specs.Types.{topic};
-ghost use Rattle.request_frames.specs.Arrays.{values};
-ghost use Rattle.request_frames.specs.Requests.{list_offsets_partition};
-ghost use Rattle.request_frames.specs.Responses.{response, response_head, topic_bytes, listed_bytes, list_offsets_response, list_offsets_value};
+ghost use Rattle.frame_fields.specs.Fields.{encoded};
+ghost use Rattle.frame_fields.specs.Types.{topic};
+ghost use Rattle.frame_fields.specs.Arrays.{values};
+ghost use Rattle.request_frames.specs.ListOffsets.{list_offsets_partition};
+ghost use Rattle.responses.specs.Responses.{response, response_head, topic_bytes};
+ghost use Rattle.responses.specs.ListOffsets.{list_offsets_answer_bytes, list_offsets_response, list_offsets_value};
 ghost use Rattle.batch_codec.specs.Writing.{Begins};
 ghost use Rattle.broker_node.specs.ListedOffsets.{listed_topic, listed_topics, listing_request};
 ghost use Rattle.broker_node.specs.Replies.{reply};
@@ -14,10 +15,11 @@ ghost use Rattle.broker_node.specs.Streams.{sent};
 
 use crate::entries::list_offsets;
 use crate::node::Node;
-use request_frames::response::list_offsets::{begin_list_offsets, put_listed_partition};
-use request_frames::response::{begin_response, begin_topic, finish_response};
-use request_frames::response_laws::list_offsets_parts;
-use request_frames::{Array, ListOffsetsPartition, ListOffsetsRequest, Topic};
+use frame_fields::{Array, Topic};
+use request_frames::{ListOffsetsPartition, ListOffsetsRequest};
+use responses::laws::list_offsets_parts;
+use responses::list_offsets::{begin_list_offsets, put_listed_partition};
+use responses::{begin_response, begin_topic, finish_response};
 use segment::BatchStore;
 use std::alloc::{AllocError, Allocator};
 
@@ -27,7 +29,7 @@ fn put_topic<S: BatchStore, A: Allocator + Copy>(
     topic: Topic<'_, ListOffsetsPartition>,
     out: &mut Vec<u8, A>,
 ) -> Result<(), AllocError>
-    ensures appends { OnOk result (out.new.items ≡ out.old.items ++ topic_bytes listed_bytes
+    ensures appends { OnOk result (out.new.items ≡ out.old.items ++ topic_bytes list_offsets_answer_bytes
         (listed_topic node.now (topic.entry.name.now, (values list_offsets_partition topic.entry.partitions, tt)))) }
     ensures begins { OnErr result (Begins out.old.items out.new.items) }
 {
@@ -45,7 +47,7 @@ fn put_topics<'a, S: BatchStore, A: Allocator + Copy>(
     out: &mut Vec<u8, A>,
 ) -> Result<(), AllocError>
     ensures appends { OnOk result (out.new.items ≡ out.old.items
-        ++ flat_map (topic_bytes listed_bytes) (map (listed_topic node.now)
+        ++ flat_map (topic_bytes list_offsets_answer_bytes) (map (listed_topic node.now)
         (values (topic list_offsets_partition) topics.entry))) }
     ensures begins { OnErr result (Begins out.old.items out.new.items) }
 {

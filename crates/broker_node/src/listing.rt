@@ -4,7 +4,7 @@ ghost use Rattle.std.specs.Prelude.{◌≡◌, ◌≤◌, ◌++◌, map, length,
 ghost use Rattle.std.specs.Option.{option_map};
 ghost use Rattle.std.specs.List.{flat_map, range_with_len};
 ghost use Rattle.batch_codec.specs.Writing.{Begins};
-ghost use Rattle.request_frames.specs.Responses.{leader_id, metadata_head, metadata_topic_bytes, metadata_partition_bytes};
+ghost use Rattle.responses.specs.Metadata.{metadata_leader_id, metadata_head, metadata_topic_bytes, metadata_partition_bytes};
 ghost use Rattle.broker_node.specs.Listing.{known_leader, partition_metadata, topic_metadata, failed_topic, metadata_at};
 ghost use Rattle.broker_node.specs.State.{topic_of};
 ghost use Rattle.broker_node.specs.Parts.{topic_contents};
@@ -13,8 +13,8 @@ use crate::config::Role;
 use crate::limits::{GROUP_TOPIC, MAX_PARTITIONS};
 use crate::node::{Node, TopicLogs, topic_of};
 use answering::ErrorCode;
-use request_frames::is_topic_name;
-use request_frames::response::metadata::{
+use frame_fields::is_topic_name;
+use responses::metadata::{
     MetadataPartition, MetadataTopic, begin_metadata, begin_metadata_topic, put_metadata_partition,
 };
 use segment::BatchStore;
@@ -28,7 +28,7 @@ pub(crate) fn put_broker<S: BatchStore, A: Allocator + Copy>(
 ) -> Result<(), AllocError>
     ensures appends { OnOk result (out.new.items ≡ out.old.items ++ metadata_head
         node.now.config.node_id node.now.config.host node.now.config.port
-        (leader_id (known_leader node.now.config)) topic_count) }
+        (metadata_leader_id (known_leader node.now.config)) topic_count) }
     ensures begins { OnErr result (Begins out.old.items out.new.items) }
 {
     let broker = node.broker();

@@ -3,8 +3,9 @@
 ghost use Rattle.std.specs.Prelude.{◌≡◌, ◌++◌, None, Some, map, OnOk, OnErr};
 ghost use Rattle.std.specs.List.{flat_map};
 ghost use Rattle.batch_codec.specs.Writing.{Begins};
-ghost use Rattle.request_frames.specs.Responses.{response_head, leader_id, metadata_head, metadata_topic_bytes};
-ghost use Rattle.request_frames.specs.Views.{metadata_view};
+ghost use Rattle.responses.specs.Responses.{response_head};
+ghost use Rattle.responses.specs.Metadata.{metadata_leader_id, metadata_head, metadata_topic_bytes};
+ghost use Rattle.request_frames.specs.Metadata.{metadata_view};
 ghost use Rattle.request_frames.specs.Requests.BodyValue.{metadata};
 ghost use Rattle.broker_node.specs.Listing.{known_leader, topic_metadata, metadata_at};
 ghost use Rattle.broker_node.specs.AskedTopics.{asked_names, metadata_body};
@@ -14,9 +15,10 @@ ghost use Rattle.broker_node.specs.Streams.{sent};
 use crate::asked::each_once;
 use crate::listing::{put_broker, put_name, put_topic};
 use crate::node::Node;
-use request_frames::response::{begin_response, finish_response};
-use request_frames::response_laws::metadata_parts;
-use request_frames::{Array, MetadataRequest, Name};
+use frame_fields::{Array, Name};
+use request_frames::MetadataRequest;
+use responses::laws::metadata_parts;
+use responses::{begin_response, finish_response};
 use segment::BatchStore;
 use std::alloc::{AllocError, Allocator};
 
@@ -29,7 +31,7 @@ fn put_head<S: BatchStore, A: Allocator + Copy>(
 ) -> Result<(), AllocError>
     ensures appends { OnOk result (out.new.items ≡ out.old.items ++ response_head correlation
         ++ metadata_head node.now.config.node_id node.now.config.host node.now.config.port
-        (leader_id (known_leader node.now.config)) topic_count) }
+        (metadata_leader_id (known_leader node.now.config)) topic_count) }
     ensures begins { OnErr result (Begins out.old.items out.new.items) }
 {
     begin_response(out, correlation)?;

@@ -18,7 +18,7 @@ use crate::limits::{GROUP_TOPIC, MAX_PARTITIONS, MAX_TOPICS};
 use crate::partition::Partition;
 use batch_codec::BatchView;
 use partition_log::{AppendError, Appended, PartitionLog};
-use request_frames::response::metadata::MetadataBroker;
+use responses::metadata::MetadataBroker;
 use segment::BatchStore;
 use std::alloc::AllocError;
 use std::marker::Model;

@@ -1,6 +1,7 @@
 use Rattle.std.proofs.Common.{◌≡◌, ◌∙◌, ◌++◌, ap, rules}
-use Rattle.request_frames.specs.Responses.{response_head, fetch_response, fetch_value}
-use Rattle.request_frames.specs.Fields.{encoded}
+use Rattle.responses.specs.Responses.{response_head}
+use Rattle.responses.specs.Fetch.{fetch_response, fetch_value}
+use Rattle.frame_fields.specs.Fields.{encoded}
 use Rattle.broker_node.specs.FetchedTopics.{fetched_topics}
 use Rattle.broker_node.proofs.UnchangedStates.{on_ok}
 use Rattle.broker_node.proofs.FetchReplies.{fetch_written}

@@ -1,7 +1,7 @@
 use Rattle.std.proofs.Common.{◌≡◌, ◌++◌, ◌∙◌, ap, sym, append-nil, arith}
 use Rattle.std.specs.Prelude.{map}
 use Rattle.std.specs.List.{flat_map, range_with_len}
-use Rattle.request_frames.specs.Responses.{metadata_partition_bytes}
+use Rattle.responses.specs.Metadata.{metadata_partition_bytes}
 use Rattle.broker_node.specs.Listing.{partition_metadata}
 use Rattle.broker_node.proofs.Listings.{one_more}
 use Rattle.broker_node.proofs.Written.{begins_kept, on_err_of}

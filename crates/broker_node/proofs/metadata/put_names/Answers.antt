@@ -1,5 +1,5 @@
 use Rattle.std.proofs.Common.{refl}
-use Rattle.request_frames.specs.Responses.{metadata_topic_bytes}
+use Rattle.responses.specs.Metadata.{metadata_topic_bytes}
 use Rattle.broker_node.specs.Listing.{metadata_at}
 use Rattle.broker_node.proofs.Listings.{all_seen}
 use Rattle.broker_node.proofs.Written.{begins_both, on_err_of}

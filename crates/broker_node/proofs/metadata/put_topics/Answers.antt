@@ -1,4 +1,4 @@
-use Rattle.request_frames.specs.Responses.{metadata_topic_bytes}
+use Rattle.responses.specs.Metadata.{metadata_topic_bytes}
 use Rattle.broker_node.specs.Listing.{topic_metadata}
 use Rattle.broker_node.specs.Parts.{topic_contents}
 use Rattle.broker_node.proofs.Listings.{all_seen}

@@ -1,7 +1,8 @@
 use Rattle.std.proofs.Common.{sym, ap, ◌∙◌, ◌++◌}
 use Rattle.std.specs.Int.{w32}
 use Rattle.std.proofs.lemmas.Int.{to_z-of_z}
-use Rattle.request_frames.specs.Responses.{response, list_offsets_response, list_offsets_value}
+use Rattle.responses.specs.Responses.{response}
+use Rattle.responses.specs.ListOffsets.{list_offsets_response, list_offsets_value}
 use Rattle.broker_node.specs.ListedOffsets.{listed_topics}
 use Rattle.broker_node.specs.Streams.{sent}
 use Rattle.broker_node.proofs.UnchangedStates.{on_ok, listing_is_reply}

@@ -1,7 +1,7 @@
 use Rattle.std.proofs.Common.{ap, ◌∙◌, ◌++◌}
 use Rattle.std.specs.Int.{w32}
 use Rattle.std.proofs.lemmas.Int.{to_z-of_z}
-use Rattle.request_frames.specs.Views.{metadata_view}
+use Rattle.request_frames.specs.Metadata.{metadata_view}
 use Rattle.broker_node.specs.Replies.{metadata_reply}
 use Rattle.broker_node.proofs.UnchangedStates.{on_ok}
 use Rattle.broker_node.proofs.node.Node.metadata.Goals as goal

@@ -1,7 +1,7 @@
 use Rattle.std.proofs.Common.{rules}
 use Rattle.std.specs.Int.{w32}
 use Rattle.std.proofs.lemmas.Int.{to_z-of_z}
-use Rattle.request_frames.specs.Views.{produce_view}
+use Rattle.request_frames.specs.Produce.{produce_view}
 use Rattle.broker_node.proofs.ProducedReplies.{replied}
 use Rattle.broker_node.proofs.node.Node.produce.Goals as goal
 
