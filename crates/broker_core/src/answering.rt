@@ -3,14 +3,15 @@
 ghost use Rattle.std.specs.Prelude.{◌≡◌, ◌+◌, ◌^◌, ◌<◌, true, length, MatchBool, MatchOption, IfOk, IfErr, OnOk, OnErr};
 ghost use Rattle.std.specs.Io.KnownBytes.{Appends};
 ghost use Rattle.streams.specs.State.{LosesRest};
-ghost use Rattle.request_frames.specs.Frames.{IsIncomplete, IsFirstFrame};
+ghost use Rattle.frame_fields.specs.Frames.{IsIncomplete, IsFirstFrame};
 ghost use Rattle.broker_node.specs.Streams.{IsAnswered};
 ghost use Rattle.broker_core.specs.SessionSteps.{StopsTaking, StopsReplying, AnswersFront, StopsNext, StopsWithin};
 
 use crate::session::SessionError;
 use broker_node::Node;
 use bytes::{Bytes, BytesMut};
-use request_frames::{FrameError, parse, take_frame};
+use frame_fields::{FrameError, take_frame};
+use request_frames::parse;
 use segment::BatchStore;
 use std::alloc::Allocator;
 use std::io::Write;

@@ -7,7 +7,7 @@ use crate::answering::answer_frames;
 use crate::receiving::read_more;
 use broker_node::Node;
 use bytes::BytesMut;
-use request_frames::FrameError;
+use frame_fields::FrameError;
 use segment::BatchStore;
 use std::alloc::Allocator;
 use std::io::{Read, Write};

@@ -2,13 +2,13 @@
 use Rattle.std.proofs.Common.{◌≡◌, ℕ, suc, ℤ, List, [], ◌∷◌, ◌++◌, length, Some, refl, sym, ap, ◌∙◌, append_assoc, append-nil}
 use Rattle.std.specs.Prelude.{map}
 use Rattle.std.specs.List.{flat_map}
-use Rattle.request_frames.specs.declared.requests.FetchRequest.{FetchRequest}
-use Rattle.request_frames.specs.Types.{TopicOf, topic}
-use Rattle.request_frames.specs.Fields.{Value, encoded}
-use Rattle.request_frames.specs.Arrays.{ArrayBytes, values}
-use Rattle.request_frames.specs.Requests.{topic_request, fetch_partition, fetch_partition_value}
-use Rattle.request_frames.specs.Responses.{response, topic_head, topic_bytes, Fetched, fetched_bytes, fetch_head, fetch_response, fetch_value}
-use Rattle.request_frames.specs.Views.{fetch_view}
+use Rattle.request_frames.specs.declared.fetch.request.FetchRequest.{FetchRequest}
+use Rattle.frame_fields.specs.Types.{TopicOf, topic, topic_request}
+use Rattle.frame_fields.specs.Fields.{Value, encoded}
+use Rattle.frame_fields.specs.Arrays.{ArrayBytes, values}
+use Rattle.request_frames.specs.Fetch.{fetch_partition, fetch_partition_value, fetch_view}
+use Rattle.responses.specs.Responses.{response, topic_head, topic_bytes}
+use Rattle.responses.specs.Fetch.{Fetched, fetched_bytes, fetch_head, fetch_response, fetch_value}
 use Rattle.answering.specs.Lists.{map_accum}
 use Rattle.broker_state.specs.State.{State}
 use Rattle.log_requests.specs.Fetch.{FetchRoom, fetch_room, fetch_plan}

@@ -1,13 +1,13 @@
 -- Requests whose entries leave the state as it is.
 use Rattle.std.proofs.Common.{◌≡◌, ℕ, ℤ, List, [], ◌∷◌, ◌++◌, Option, Some, None, refl, ap, ◌∙◌}
 use Rattle.std.specs.Prelude.{map}
-use Rattle.request_frames.specs.declared.requests.ListOffsetsRequest.{ListOffsetsRequest}
-use Rattle.request_frames.specs.Types.{TopicOf, topic}
-use Rattle.request_frames.specs.Fields.{Value}
-use Rattle.request_frames.specs.Arrays.{values}
-use Rattle.request_frames.specs.Requests.{ListOffsetsPartitionValue, topic_request, list_offsets_partition, list_offsets_partition_value}
-use Rattle.request_frames.specs.Responses.{response, list_offsets_response, list_offsets_value}
-use Rattle.request_frames.specs.Views.{list_offsets_view}
+use Rattle.request_frames.specs.declared.list_offsets.request.ListOffsetsRequest.{ListOffsetsRequest}
+use Rattle.frame_fields.specs.Types.{TopicOf, topic, topic_request}
+use Rattle.frame_fields.specs.Fields.{Value}
+use Rattle.frame_fields.specs.Arrays.{values}
+use Rattle.request_frames.specs.ListOffsets.{ListOffsetsPartitionValue, list_offsets_partition, list_offsets_partition_value, list_offsets_view}
+use Rattle.responses.specs.Responses.{response}
+use Rattle.responses.specs.ListOffsets.{list_offsets_response, list_offsets_value}
 use Rattle.answering.specs.declared.codes.ErrorCode.{ErrorCode}
 use Rattle.answering.specs.Lists.{map_accum, first_some}
 use Rattle.broker_state.specs.State.{State}

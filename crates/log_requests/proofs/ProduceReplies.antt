@@ -2,9 +2,11 @@
 use Rattle.std.proofs.Common.{◌≡◌, ℕ, ℤ, pos, Bool, true, false, cond, List, ◌++◌, length, Some, None, of_z, w16, refl, sym, ap, ◌∙◌, arith}
 use Rattle.std.specs.Ordering.{int_eq}
 use Rattle.std.proofs.lemmas.Int.{ints}
-use Rattle.request_frames.specs.Fields.{size32, be, encoded}
-use Rattle.request_frames.specs.Requests.{ProduceValue}
-use Rattle.request_frames.specs.Responses.{framed, response, response_head, produce_response, produce_value}
+use Rattle.frame_fields.specs.Fields.{size32, be, encoded}
+use Rattle.request_frames.specs.Produce.{ProduceValue}
+use Rattle.frame_fields.specs.Frames.{framed}
+use Rattle.responses.specs.Responses.{response, response_head}
+use Rattle.responses.specs.Produce.{produce_response, produce_value}
 use Rattle.broker_state.specs.State.{State}
 use Rattle.log_requests.specs.Responding.{RespondsBy}
 use Rattle.log_requests.specs.Produce.{produce_plan}

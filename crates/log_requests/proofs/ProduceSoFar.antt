@@ -2,10 +2,10 @@
 use Rattle.std.proofs.Common.{◌≡◌, ℕ, suc, ◌+◌, ◌*◌, ◌≤◌, List, [], ◌∷◌, ◌++◌, length, refl, sym, ap, subst, ◌∙◌, arith, append_assoc, append-nil}
 use Rattle.std.specs.List.{flat_map}
 use Rattle.std.proofs.lemmas.List.{length-append}
-use Rattle.request_frames.specs.Fields.{Value}
-use Rattle.request_frames.specs.Types.{topic}
-use Rattle.request_frames.specs.Requests.{produce_partition}
-use Rattle.request_frames.specs.Responses.{topic_head, topic_bytes}
+use Rattle.frame_fields.specs.Fields.{Value}
+use Rattle.frame_fields.specs.Types.{topic}
+use Rattle.request_frames.specs.Produce.{produce_partition}
+use Rattle.responses.specs.Responses.{topic_head, topic_bytes}
 use Rattle.answering.specs.Plans.{AnswersAll}
 use Rattle.log_requests.specs.Produce.Room.{produce_topic_room, produce_topics_room, SoFar}
 

@@ -4,7 +4,7 @@ use Rattle.std.specs.Prelude.{map, OnOk, OnErr}
 use Rattle.std.specs.List.{flat_map}
 use Rattle.std.proofs.lemmas.List.{length-map, length-append, take_more, map-append}
 use Rattle.std.proofs.lemmas.Grind.{flat_map-append}
-use Rattle.request_frames.specs.Responses.{response_head, topic_head, topic_bytes}
+use Rattle.responses.specs.Responses.{response_head, topic_head, topic_bytes}
 use Rattle.batch_codec.specs.Writing.{Begins}
 
 pub begins_same : (a b : List ℕ) → b ≡ a → Begins a b

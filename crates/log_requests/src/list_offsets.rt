@@ -2,12 +2,12 @@
 
 ghost use Rattle.std.specs.Prelude.{◌≡◌, ◌++◌, map, OnOk, OnErr};
 ghost use Rattle.std.specs.List.{flat_map};
-ghost use Rattle.request_frames.specs.Fields.{encoded};
-ghost use Rattle.request_frames.specs.Types.{topic};
-ghost use Rattle.request_frames.specs.Arrays.{values};
-ghost use Rattle.request_frames.specs.Requests.{list_offsets_partition};
-ghost use Rattle.request_frames.specs.Views.{list_offsets_view};
-ghost use Rattle.request_frames.specs.Responses.{response, response_head, topic_bytes, listed_bytes, list_offsets_response, list_offsets_value};
+ghost use Rattle.frame_fields.specs.Fields.{encoded};
+ghost use Rattle.frame_fields.specs.Types.{topic};
+ghost use Rattle.frame_fields.specs.Arrays.{values};
+ghost use Rattle.request_frames.specs.ListOffsets.{list_offsets_partition, list_offsets_view};
+ghost use Rattle.responses.specs.Responses.{response, response_head, topic_bytes};
+ghost use Rattle.responses.specs.ListOffsets.{list_offsets_answer_bytes, list_offsets_response, list_offsets_value};
 ghost use Rattle.batch_codec.specs.Writing.{Begins};
 ghost use Rattle.log_requests.specs.ListOffsets.{list_offsets_plan};
 ghost use Rattle.log_requests.specs.ListOffsets.Topics.{list_offsets_topic, list_offsets_topics};
@@ -17,10 +17,11 @@ mod entry;
 
 use crate::list_offsets::entry::list_offsets_entry;
 use broker_state::BrokerState;
-use request_frames::response::list_offsets::{begin_list_offsets, put_listed_partition};
-use request_frames::response::{begin_response, begin_topic, finish_response};
-use request_frames::response_laws::list_offsets_parts;
-use request_frames::{Array, ListOffsetsPartition, ListOffsetsRequest, Topic};
+use responses::list_offsets::{begin_list_offsets, put_listed_partition};
+use responses::{begin_response, begin_topic, finish_response};
+use responses::laws::list_offsets_parts;
+use frame_fields::{Array, Topic};
+use request_frames::{ListOffsetsPartition, ListOffsetsRequest};
 use segment::BatchStore;
 use std::alloc::{AllocError, Allocator};
 
@@ -30,7 +31,7 @@ fn put_topic<S: BatchStore, A: Allocator + Copy>(
     topic: Topic<'_, ListOffsetsPartition>,
     out: &mut Vec<u8, A>,
 ) -> Result<(), AllocError>
-    ensures appends { OnOk result (out.new.items ≡ out.old.items ++ topic_bytes listed_bytes
+    ensures appends { OnOk result (out.new.items ≡ out.old.items ++ topic_bytes list_offsets_answer_bytes
         (list_offsets_topic state.now (topic.entry.name.now, (values list_offsets_partition topic.entry.partitions, tt)))) }
     ensures begins { OnErr result (Begins out.old.items out.new.items) }
 {
@@ -48,7 +49,7 @@ fn put_topics<'a, S: BatchStore, A: Allocator + Copy>(
     out: &mut Vec<u8, A>,
 ) -> Result<(), AllocError>
     ensures appends { OnOk result (out.new.items ≡ out.old.items
-        ++ flat_map (topic_bytes listed_bytes) (map (list_offsets_topic state.now)
+        ++ flat_map (topic_bytes list_offsets_answer_bytes) (map (list_offsets_topic state.now)
         (values (topic list_offsets_partition) topics.entry))) }
     ensures begins { OnErr result (Begins out.old.items out.new.items) }
 {

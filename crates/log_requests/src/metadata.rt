@@ -3,8 +3,9 @@
 ghost use Rattle.std.specs.Prelude.{◌≡◌, ◌++◌, None, Some, map, OnOk, OnErr};
 ghost use Rattle.std.specs.List.{flat_map};
 ghost use Rattle.batch_codec.specs.Writing.{Begins};
-ghost use Rattle.request_frames.specs.Responses.{response_head, leader_id, metadata_head, metadata_topic_bytes};
-ghost use Rattle.request_frames.specs.Views.{metadata_view};
+ghost use Rattle.responses.specs.Responses.{response_head};
+ghost use Rattle.responses.specs.Metadata.{metadata_leader_id, metadata_head, metadata_topic_bytes};
+ghost use Rattle.request_frames.specs.Metadata.{metadata_view};
 ghost use Rattle.log_requests.specs.Metadata.{known_leader, topic_metadata, metadata_at, metadata_reply};
 ghost use Rattle.log_requests.specs.Metadata.Names.{metadata_names, metadata_body};
 
@@ -14,9 +15,10 @@ mod topics;
 use crate::metadata::names::each_once;
 use crate::metadata::topics::{put_broker, put_name, put_topic};
 use broker_state::BrokerState;
-use request_frames::response::{begin_response, finish_response};
-use request_frames::response_laws::metadata_parts;
-use request_frames::{Array, MetadataRequest, Name};
+use responses::{begin_response, finish_response};
+use responses::laws::metadata_parts;
+use frame_fields::{Array, Name};
+use request_frames::MetadataRequest;
 use segment::BatchStore;
 use std::alloc::{AllocError, Allocator};
 
@@ -29,7 +31,7 @@ fn put_head<S: BatchStore, A: Allocator + Copy>(
 ) -> Result<(), AllocError>
     ensures appends { OnOk result (out.new.items ≡ out.old.items ++ response_head correlation
         ++ metadata_head state.now.config.node_id state.now.config.host state.now.config.port
-        (leader_id (known_leader state.now.config)) topic_count) }
+        (metadata_leader_id (known_leader state.now.config)) topic_count) }
     ensures begins { OnErr result (Begins out.old.items out.new.items) }
 {
     begin_response(out, correlation)?;

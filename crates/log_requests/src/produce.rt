@@ -2,10 +2,9 @@
 
 ghost use Rattle.std.specs.Prelude.{◌≡◌, ◌≤◌, ◌+◌, ◌^◌, ◌++◌, length, OnOk, IfSome, IfNone, OnErr};
 ghost use Rattle.std.specs.Vec.{vec_len, vec_capacity};
-ghost use Rattle.request_frames.specs.Arrays.{values};
-ghost use Rattle.request_frames.specs.Types.{topic};
-ghost use Rattle.request_frames.specs.Views.{produce_view};
-ghost use Rattle.request_frames.specs.Requests.{produce_partition};
+ghost use Rattle.frame_fields.specs.Arrays.{values};
+ghost use Rattle.frame_fields.specs.Types.{topic};
+ghost use Rattle.request_frames.specs.Produce.{produce_view, produce_partition};
 ghost use Rattle.log_requests.specs.Responding.{RespondsBy};
 ghost use Rattle.log_requests.specs.Produce.{produce_plan};
 ghost use Rattle.log_requests.specs.Produce.Room.{produce_topic_room, produce_topics_room, produce_room, AnswersTopicIn, AnswersTopicsIn, AnswersIn};
@@ -14,16 +13,17 @@ mod entry;
 
 use crate::produce::entry::produce_entry;
 use broker_state::BrokerState;
-use request_frames::response::produce::{
+use responses::produce::{
     PRODUCE_TAIL_BYTES, PRODUCED_PARTITION_BYTES, begin_produce, end_produce,
     put_produced_partition,
 };
-use request_frames::response::{
+use responses::{
     COUNT_BYTES, RESPONSE_HEAD_BYTES, TOPIC_HEAD_BYTES, begin_response, begin_topic,
     finish_response,
 };
-use request_frames::response_laws::produce_parts;
-use request_frames::{Array, ProducePartition, ProduceRequest, Topic};
+use responses::laws::produce_parts;
+use frame_fields::{Array, Topic};
+use request_frames::{ProducePartition, ProduceRequest};
 use segment::BatchStore;
 use std::alloc::{AllocError, Allocator};
 

@@ -1,12 +1,12 @@
 -- Fetch: the entries as values, and the response as the code goes.
 use Rattle.std.specs.Prelude.{◌-◌, ℕ, List, take, drop}
-use Rattle.request_frames.specs.declared.requests.FetchPartition.{FetchPartition}
-use Rattle.request_frames.specs.declared.requests.FetchRequest.{FetchRequest}
-use Rattle.request_frames.specs.Arrays.{values}
-use Rattle.request_frames.specs.Fields.{Value}
-use Rattle.request_frames.specs.Types.{TopicOf, topic}
-use Rattle.request_frames.specs.Requests.{FetchPartitionValue, fetch_partition, fetch_partition_value}
-use Rattle.request_frames.specs.Responses.{Fetched}
+use Rattle.request_frames.specs.declared.fetch.partition.FetchPartition.{FetchPartition}
+use Rattle.request_frames.specs.declared.fetch.request.FetchRequest.{FetchRequest}
+use Rattle.frame_fields.specs.Arrays.{values}
+use Rattle.frame_fields.specs.Fields.{Value}
+use Rattle.frame_fields.specs.Types.{TopicOf, topic}
+use Rattle.request_frames.specs.Fetch.{FetchPartitionValue, fetch_partition, fetch_partition_value}
+use Rattle.responses.specs.Fetch.{Fetched}
 use Rattle.answering.specs.Lists.{map_accum}
 use Rattle.broker_state.specs.State.{State}
 use Rattle.answering.specs.Work.{answer}

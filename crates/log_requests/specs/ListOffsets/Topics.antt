@@ -1,11 +1,11 @@
 -- ListOffsets: the response as the code goes.
 use Rattle.std.specs.Prelude.{ℕ, List, map}
-use Rattle.request_frames.specs.declared.response.list_offsets.ListedPartition.{ListedPartition}
-use Rattle.request_frames.specs.declared.requests.ListOffsetsRequest.{ListOffsetsRequest}
-use Rattle.request_frames.specs.Arrays.{values}
-use Rattle.request_frames.specs.Fields.{Value}
-use Rattle.request_frames.specs.Types.{TopicOf, topic}
-use Rattle.request_frames.specs.Requests.{list_offsets_partition, list_offsets_partition_value}
+use Rattle.responses.specs.declared.list_offsets.partition.ListedPartition.{ListedPartition}
+use Rattle.request_frames.specs.declared.list_offsets.request.ListOffsetsRequest.{ListOffsetsRequest}
+use Rattle.frame_fields.specs.Arrays.{values}
+use Rattle.frame_fields.specs.Fields.{Value}
+use Rattle.frame_fields.specs.Types.{TopicOf, topic}
+use Rattle.request_frames.specs.ListOffsets.{list_offsets_partition, list_offsets_partition_value}
 use Rattle.broker_state.specs.State.{State}
 use Rattle.answering.specs.Work.{answer}
 use Rattle.log_requests.specs.ListOffsets.{list_offsets_work}

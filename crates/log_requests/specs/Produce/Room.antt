@@ -1,15 +1,17 @@
 -- How many bytes a Produce response has, and what was answered of a request so far.
 use Rattle.std.specs.Prelude.{◌≡◌, ℕ, ℤ, ◌+◌, ◌*◌, List, [], ◌∷◌, ◌++◌, length, map}
 use Rattle.std.specs.List.{flat_map}
-use Rattle.request_frames.specs.declared.response.TheConstants.{RESPONSE_HEAD_BYTES, COUNT_BYTES, TOPIC_HEAD_BYTES}
-use Rattle.request_frames.specs.declared.response.produce.TheConstants.{PRODUCED_PARTITION_BYTES, PRODUCE_TAIL_BYTES}
-use Rattle.request_frames.specs.declared.response.produce.ProducedPartition.{ProducedPartition}
-use Rattle.request_frames.specs.declared.requests.ProduceRequest.{ProduceRequest}
-use Rattle.request_frames.specs.Arrays.{values}
-use Rattle.request_frames.specs.Fields.{Value, encoded}
-use Rattle.request_frames.specs.Types.{TopicOf, topic}
-use Rattle.request_frames.specs.Requests.{ProduceValue, ProducePartitionValue, produce_partition, produce_partition_value, topic_request}
-use Rattle.request_frames.specs.Responses.{response_head, produced_bytes, topic_bytes, produce_response, produce_value}
+use Rattle.responses.specs.declared.parts.TheConstants.{RESPONSE_HEAD_BYTES, COUNT_BYTES, TOPIC_HEAD_BYTES}
+use Rattle.responses.specs.declared.produce.partition.TheConstants.{PRODUCED_PARTITION_BYTES}
+use Rattle.responses.specs.declared.produce.response.TheConstants.{PRODUCE_TAIL_BYTES}
+use Rattle.responses.specs.declared.produce.partition.ProducedPartition.{ProducedPartition}
+use Rattle.request_frames.specs.declared.produce.request.ProduceRequest.{ProduceRequest}
+use Rattle.frame_fields.specs.Arrays.{values}
+use Rattle.frame_fields.specs.Fields.{Value, encoded}
+use Rattle.frame_fields.specs.Types.{TopicOf, topic, topic_request}
+use Rattle.request_frames.specs.Produce.{ProduceValue, ProducePartitionValue, produce_partition, produce_partition_value}
+use Rattle.responses.specs.Responses.{response_head, topic_bytes}
+use Rattle.responses.specs.Produce.{produced_bytes, produce_response, produce_value}
 use Rattle.broker_state.specs.State.{State}
 use Rattle.answering.specs.Work.{MayAnswer}
 use Rattle.log_requests.specs.Produce.{produce_work}

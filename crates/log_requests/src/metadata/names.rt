@@ -5,7 +5,7 @@ ghost use Rattle.log_requests.specs.Metadata.{each_once};
 ghost use Rattle.log_requests.specs.Metadata.Names.{metadata_names};
 
 use indexmap::IndexSet;
-use request_frames::{Array, Name};
+use frame_fields::{Array, Name};
 use std::alloc::{AllocError, Allocator};
 use std::hash::{BuildHasherDefault, FoldHasher};
 

@@ -1,6 +1,7 @@
 use Rattle.std.proofs.Common.{◌≡◌, ◌∙◌, ◌++◌, ap, rules}
-use Rattle.request_frames.specs.Responses.{response_head, fetch_response, fetch_value}
-use Rattle.request_frames.specs.Fields.{encoded}
+use Rattle.responses.specs.Responses.{response_head}
+use Rattle.responses.specs.Fetch.{fetch_response, fetch_value}
+use Rattle.frame_fields.specs.Fields.{encoded}
 use Rattle.log_requests.specs.Fetch.Topics.{fetch_topics}
 use Rattle.log_requests.proofs.Written.{on_ok}
 use Rattle.log_requests.proofs.FetchReplies.{fetch_written}

@@ -1,9 +1,10 @@
 use Rattle.std.proofs.Common.{◌++◌, ap, refl}
 use Rattle.std.specs.List.{flat_map}
-use Rattle.request_frames.specs.Arrays.{values}
-use Rattle.request_frames.specs.Types.{topic}
-use Rattle.request_frames.specs.Requests.{fetch_partition}
-use Rattle.request_frames.specs.Responses.{topic_bytes, fetched_bytes}
+use Rattle.frame_fields.specs.Arrays.{values}
+use Rattle.frame_fields.specs.Types.{topic}
+use Rattle.request_frames.specs.Fetch.{fetch_partition}
+use Rattle.responses.specs.Responses.{topic_bytes}
+use Rattle.responses.specs.Fetch.{fetched_bytes}
 use Rattle.answering.specs.Lists.{map_accum}
 use Rattle.log_requests.specs.Fetch.Topics.{fetch_topic}
 use Rattle.log_requests.proofs.Written.{begins_same, begins_more, begins_both, on_err_of}

@@ -1,8 +1,9 @@
 use Rattle.std.proofs.Common.{Some, ap, ◌∙◌, ◌++◌}
 use Rattle.std.specs.Int.{w32}
 use Rattle.std.proofs.lemmas.Int.{to_z-of_z}
-use Rattle.request_frames.specs.Views.{fetch_view}
-use Rattle.request_frames.specs.Responses.{response, fetch_response, fetch_value}
+use Rattle.request_frames.specs.Fetch.{fetch_view}
+use Rattle.responses.specs.Responses.{response}
+use Rattle.responses.specs.Fetch.{fetch_response, fetch_value}
 use Rattle.log_requests.specs.Fetch.{fetch_plan}
 use Rattle.log_requests.specs.Fetch.Topics.{fetch_topics}
 use Rattle.log_requests.proofs.Written.{on_ok}

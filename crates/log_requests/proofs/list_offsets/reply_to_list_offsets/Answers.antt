@@ -1,8 +1,9 @@
 use Rattle.std.proofs.Common.{Some, ap, ◌∙◌, ◌++◌}
 use Rattle.std.specs.Int.{w32}
 use Rattle.std.proofs.lemmas.Int.{to_z-of_z}
-use Rattle.request_frames.specs.Views.{list_offsets_view}
-use Rattle.request_frames.specs.Responses.{response, list_offsets_response, list_offsets_value}
+use Rattle.request_frames.specs.ListOffsets.{list_offsets_view}
+use Rattle.responses.specs.Responses.{response}
+use Rattle.responses.specs.ListOffsets.{list_offsets_response, list_offsets_value}
 use Rattle.log_requests.specs.ListOffsets.{list_offsets_plan}
 use Rattle.log_requests.specs.ListOffsets.Topics.{list_offsets_topics}
 use Rattle.log_requests.proofs.Written.{on_ok}

@@ -1,7 +1,7 @@
 use Rattle.std.proofs.Common.{◌≡◌, ◌+◌}
-use Rattle.request_frames.specs.Types.{topic}
-use Rattle.request_frames.specs.Arrays.{values}
-use Rattle.request_frames.specs.Requests.{produce_partition}
+use Rattle.frame_fields.specs.Types.{topic}
+use Rattle.frame_fields.specs.Arrays.{values}
+use Rattle.request_frames.specs.Produce.{produce_partition}
 use Rattle.log_requests.specs.Produce.Room.{produce_topics_room, produce_room}
 use Rattle.log_requests.proofs.produce.produce_room.Given as goal
 

@@ -1,10 +1,9 @@
 use Rattle.std.proofs.Common.{[], ◌∷◌, ◌++◌, refl, ap}
 use Rattle.std.specs.Prelude.{map}
 use Rattle.std.specs.Vec.{vec_len}
-use Rattle.request_frames.specs.Arrays.{values}
-use Rattle.request_frames.specs.Requests.{produce_partition, produce_partition_value}
-use Rattle.request_frames.specs.Responses.{produced_bytes}
-use Rattle.request_frames.specs.Views.{produce_view}
+use Rattle.frame_fields.specs.Arrays.{values}
+use Rattle.request_frames.specs.Produce.{produce_partition, produce_partition_value, produce_view}
+use Rattle.responses.specs.Produce.{produced_bytes}
 use Rattle.log_requests.specs.Produce.Room.{MayProduce}
 use Rattle.log_requests.proofs.ProduceSoFar.{one_more, none_left, written_more, counted_more, topic_written, room_less, no_less}
 use Rattle.log_requests.proofs.produce.put_topic.Goals as goal

@@ -2,11 +2,11 @@ use Rattle.std.proofs.Common.{◌≡◌, ◌≤◌, ◌+◌, ◌*◌, ◌++◌, 
 use Rattle.std.specs.Prelude.{map}
 use Rattle.std.specs.List.{flat_map}
 use Rattle.std.specs.Vec.{vec_len, vec_capacity}
-use Rattle.request_frames.specs.Arrays.{values}
-use Rattle.request_frames.specs.declared.response.produce.ProducedPartition.{ProducedPartition}
-use Rattle.request_frames.specs.Requests.{produce_partition, produce_partition_value}
-use Rattle.request_frames.specs.Responses.{topic_head, produced_bytes}
-use Rattle.request_frames.specs.Views.{produce_view}
+use Rattle.frame_fields.specs.Arrays.{values}
+use Rattle.responses.specs.declared.produce.partition.ProducedPartition.{ProducedPartition}
+use Rattle.request_frames.specs.Produce.{produce_partition, produce_partition_value, produce_view}
+use Rattle.responses.specs.Responses.{topic_head}
+use Rattle.responses.specs.Produce.{produced_bytes}
 use Rattle.log_requests.specs.Produce.Room.{produce_topic_room, MayProduce, SoFar}
 use Rattle.log_requests.proofs.produce.put_topic.Given as goal
 

@@ -1,11 +1,11 @@
 use Rattle.std.proofs.Common.{◌+◌, [], ◌∷◌, ◌++◌, sym, ap, append-nil}
 use Rattle.std.specs.Prelude.{map}
 use Rattle.std.specs.Vec.{vec_len}
-use Rattle.request_frames.specs.Arrays.{values}
-use Rattle.request_frames.specs.Types.{topic}
-use Rattle.request_frames.specs.Requests.{produce_partition, produce_partition_value, topic_request}
-use Rattle.request_frames.specs.Responses.{topic_bytes, produced_bytes}
-use Rattle.request_frames.specs.Views.{produce_view}
+use Rattle.frame_fields.specs.Arrays.{values}
+use Rattle.frame_fields.specs.Types.{topic, topic_request}
+use Rattle.request_frames.specs.Produce.{produce_partition, produce_partition_value, produce_view}
+use Rattle.responses.specs.Responses.{topic_bytes}
+use Rattle.responses.specs.Produce.{produced_bytes}
 use Rattle.answering.specs.Plans.{AnswersTopic}
 use Rattle.log_requests.specs.Produce.Room.{produce_topics_room, MayProduce}
 use Rattle.log_requests.proofs.ProduceSoFar.{started, one_more, none_left, written_more, counted_more, none_counted, all_counted, topics_room_less, no_less, as_much}

@@ -2,12 +2,12 @@ use Rattle.std.proofs.Common.{◌≡◌, ◌≤◌, ◌+◌, ◌++◌, List, len
 use Rattle.std.specs.Prelude.{map}
 use Rattle.std.specs.List.{flat_map}
 use Rattle.std.specs.Vec.{vec_len, vec_capacity}
-use Rattle.request_frames.specs.Arrays.{values}
-use Rattle.request_frames.specs.Types.{TopicOf, topic}
-use Rattle.request_frames.specs.declared.response.produce.ProducedPartition.{ProducedPartition}
-use Rattle.request_frames.specs.Requests.{produce_partition, produce_partition_value, topic_request}
-use Rattle.request_frames.specs.Responses.{topic_bytes, produced_bytes}
-use Rattle.request_frames.specs.Views.{produce_view}
+use Rattle.frame_fields.specs.Arrays.{values}
+use Rattle.frame_fields.specs.Types.{TopicOf, topic, topic_request}
+use Rattle.responses.specs.declared.produce.partition.ProducedPartition.{ProducedPartition}
+use Rattle.request_frames.specs.Produce.{produce_partition, produce_partition_value, produce_view}
+use Rattle.responses.specs.Responses.{topic_bytes}
+use Rattle.responses.specs.Produce.{produced_bytes}
 use Rattle.answering.specs.Plans.{AnswersTopic}
 use Rattle.log_requests.specs.Produce.Room.{produce_topics_room, MayProduce, SoFar}
 use Rattle.log_requests.proofs.produce.put_topics.Given as goal

@@ -1,7 +1,7 @@
 use Rattle.std.proofs.Common.{rules}
 use Rattle.std.specs.Int.{w32}
 use Rattle.std.proofs.lemmas.Int.{to_z-of_z}
-use Rattle.request_frames.specs.Views.{produce_view}
+use Rattle.request_frames.specs.Produce.{produce_view}
 use Rattle.log_requests.proofs.ProduceReplies.{replied}
 use Rattle.log_requests.proofs.produce.reply_to_produce.Goals as goal
 
