@@ -1,5 +1,5 @@
 -- Each event leads from a consistent world to one, so the headline holds after each front of a list of events.
-use Rattle.std.proofs.Common.{◌≡◌, ℕ, zero, suc, ◌<◌, ◌×◌, ℤ, Result, Ok, Err, List, [], ◌∷◌, take, drop, Some, refl, sym, subst, true, false}
+use Rattle.std.proofs.Common.{◌≡◌, ℕ, zero, suc, ◌<◌, ℤ, Result, Ok, Err, List, [], ◌∷◌, take, drop, Some, refl, sym, subst, arith, true, false}
 use Rattle.batch_codec.specs.Values.{BatchValue}
 use Rattle.content.specs.Content.{Content}
 use Rattle.content.specs.Cleaning.{clean}
@@ -27,8 +27,8 @@ module _ (w : World) (is : IsConsistent w) where
   another after next e consistent = subst IsConsistent (sym e) consistent
 
   produced : (bytes : List ℕ) (after : World) (r : Result Outcome EventError) → Produces w bytes after r → IsConsistent after
-  produced bytes after (Ok (Based base true)) (b, batch, sendable, repeat, e) = same after e
-  produced bytes after (Ok (Based base false)) (b, batch, new, at, e) = another after _ e (after_new w is b bytes batch new)
+  produced bytes after (Ok (Based base true)) (b, batch, (sendable, repeat, e)) = same after e
+  produced bytes after (Ok (Based base false)) (b, batch, (new, at, e)) = another after _ e (after_new w is b bytes batch new)
   produced bytes after (Ok (Delivered x)) d = absurd d
   produced bytes after (Ok (Cleaned x)) d = absurd d
   produced bytes after (Ok (Sent x)) d = absurd d
@@ -46,7 +46,7 @@ module _ (w : World) (is : IsConsistent w) where
 
   cleaned_one : (copy : ℕ) (upto tomb_before : ℤ) (c : Content) → copy_at w copy ≡ Some c → IsConsistent (with_copy copy (clean upto tomb_before c) w)
   cleaned_one zero upto tomb_before c there = subst (λ (x : Content). IsConsistent (with_copy 0 (clean upto tomb_before x) w)) (some_is w.leader c there) (after_leader_cleaning w is upto tomb_before)
-  cleaned_one (suc i) upto tomb_before c there = after_change w is (suc i) _ tt (cleaned_copy w is upto tomb_before c (copy_is w is (suc i) c there))
+  cleaned_one (suc i) upto tomb_before c there = after_change w is (suc i) _ (omega arith) (cleaned_copy w is upto tomb_before c (copy_is w is (suc i) c there))
 
   cleaned : (copy : ℕ) (upto tomb_before : ℤ) (after : World) (r : Result Outcome EventError) → Cleans w copy upto tomb_before after r → IsConsistent after
   cleaned copy upto tomb_before after (Ok (Cleaned x)) (c, there, e, report) = another after _ e (cleaned_one copy upto tomb_before c there)

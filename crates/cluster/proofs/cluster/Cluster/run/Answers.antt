@@ -23,5 +23,5 @@ returns-clause-headline g c = headline_of c.loop-event.self c.know_consistent-2.
 
 pub returns-clause-headline_on_the_way : goal.returns-clause-headline_on_the_way
 returns-clause-headline_on_the_way g c =
-    on_the_way c.args.self.now c.args.events.now c.loop-event.results.items c.loop-event.self c.know_consistent-1.ensures
+    on_the_way c.args.self.now c.args.events.now c.loop-event.results.items c.loop-event.self c.know_consistent.ensures
     (all_run c.args.self.now c.loop-event.self c.args.events.now c.loop-event.event-index c.loop-event.results.items c.loop-event-test.false c.loop-event.invariant.0)
