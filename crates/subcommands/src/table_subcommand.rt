@@ -6,7 +6,7 @@ ghost use Rattle.subcommands.specs.declared.error.Refusal.{Refusal};
 ghost use Rattle.subcommands.specs.Tables.{ReadsLog, PrintsTable};
 ghost use Rattle.subcommands.specs.Refused.{RefusesStream};
 
-use crate::status::{DONE, status_of};
+use crate::status::{DONE, table_status};
 use crate::table::run_table;
 use std::alloc::Allocator;
 use std::io::{Read, Write};
@@ -14,7 +14,7 @@ use std::io::{Read, Write};
 /// Runs the subcommand `table`: prints the table of what the reader gives, and answers the status,
 /// 0 done, 1 the input is refused, 3 out of memory, 4 a read or a write failed. A status that is
 /// not 0 comes with one line on `err`.
-pub fn run_subcommand<A: Allocator + Copy, R: Read, W: Write, E: Write>(
+pub fn run_table_subcommand<A: Allocator + Copy, R: Read, W: Write, E: Write>(
     alloc: A,
     reader: &mut R,
     out: &mut W,
@@ -39,7 +39,7 @@ pub fn run_subcommand<A: Allocator + Copy, R: Read, W: Write, E: Write>(
         Ok(()) => DONE,
         Err(why) => {
             let _ = writeln!(err, "kbroker: {why}");
-            status_of(why)
+            table_status(why)
         }
     }
 }

@@ -5,7 +5,7 @@ use Rattle.std.proofs.lemmas.Int.{to_z-of_z}
 use mir.Val.{SFits}
 use Rattle.cover_ranges.specs.Index.{IsIndexOf}
 use Rattle.cover_ranges.proofs.Splice.{reaches}
-use Rattle.cover_ranges.proofs.edit.plan_insertion.Goals as goal
+use Rattle.cover_ranges.proofs.edit.splice_of.Goals as goal
 
 pub returns : goal.returns
 returns c =
