@@ -3,3 +3,6 @@ pub mod Lists
 pub mod Codes
 pub mod Work
 pub mod Plans
+pub mod Writing
+pub mod Once
+pub mod WritingParts

@@ -20,11 +20,11 @@ pub(crate) mod room;
 use crate::fetch::entry::put_entry;
 use crate::fetch::room::FetchRoom;
 use broker_state::BrokerState;
-use responses::fetch::begin_fetch;
-use responses::{begin_response, begin_topic, finish_response};
-use responses::laws::fetch_parts;
 use frame_fields::{Array, Topic};
 use request_frames::{FetchPartition, FetchRequest};
+use responses::fetch::begin_fetch;
+use responses::laws::fetch_parts;
+use responses::{begin_response, begin_topic, finish_response};
 use segment::BatchStore;
 use std::alloc::{AllocError, Allocator};
 

@@ -17,11 +17,11 @@ mod entry;
 
 use crate::list_offsets::entry::list_offsets_entry;
 use broker_state::BrokerState;
-use responses::list_offsets::{begin_list_offsets, put_listed_partition};
-use responses::{begin_response, begin_topic, finish_response};
-use responses::laws::list_offsets_parts;
 use frame_fields::{Array, Topic};
 use request_frames::{ListOffsetsPartition, ListOffsetsRequest};
+use responses::laws::list_offsets_parts;
+use responses::list_offsets::{begin_list_offsets, put_listed_partition};
+use responses::{begin_response, begin_topic, finish_response};
 use segment::BatchStore;
 use std::alloc::{AllocError, Allocator};
 

@@ -15,10 +15,10 @@ mod topics;
 use crate::metadata::names::each_once;
 use crate::metadata::topics::{put_broker, put_name, put_topic};
 use broker_state::BrokerState;
-use responses::{begin_response, finish_response};
-use responses::laws::metadata_parts;
 use frame_fields::{Array, Name};
 use request_frames::MetadataRequest;
+use responses::laws::metadata_parts;
+use responses::{begin_response, finish_response};
 use segment::BatchStore;
 use std::alloc::{AllocError, Allocator};
 

@@ -13,6 +13,9 @@ mod entry;
 
 use crate::produce::entry::produce_entry;
 use broker_state::BrokerState;
+use frame_fields::{Array, Topic};
+use request_frames::{ProducePartition, ProduceRequest};
+use responses::laws::produce_parts;
 use responses::produce::{
     PRODUCE_TAIL_BYTES, PRODUCED_PARTITION_BYTES, begin_produce, end_produce,
     put_produced_partition,
@@ -21,9 +24,6 @@ use responses::{
     COUNT_BYTES, RESPONSE_HEAD_BYTES, TOPIC_HEAD_BYTES, begin_response, begin_topic,
     finish_response,
 };
-use responses::laws::produce_parts;
-use frame_fields::{Array, Topic};
-use request_frames::{ProducePartition, ProduceRequest};
 use segment::BatchStore;
 use std::alloc::{AllocError, Allocator};
 
