@@ -1,4 +1,6 @@
 //! Readers and writers that fail, at once and in mid-stream.
+
+use crate::frames::{LIST, LISTED};
 use outside_batches::THREE;
 use std::alloc::{Allocator, Global};
 use std::io::{Error, ErrorKind, Read, Result, Write};
@@ -27,6 +29,8 @@ impl Read for Source<'_> {
 struct Sink {
     room: usize,
     taken: usize,
+    /// How many of them are flushed.
+    flushed: usize,
     flushes: bool,
 }
 
@@ -43,6 +47,7 @@ impl Write for Sink {
 
     fn flush(&mut self) -> Result<()> {
         if self.flushes {
+            self.flushed = self.taken;
             Ok(())
         } else {
             Err(Error::from(ErrorKind::BrokenPipe))
@@ -64,6 +69,7 @@ fn sink_of(streams: Streams) -> Sink {
     Sink {
         room: streams.room,
         taken: 0,
+        flushed: 0,
         flushes: streams.flushes,
     }
 }
@@ -84,6 +90,27 @@ fn is_answered<A: Allocator + Copy>(
     run_table(alloc, &mut source, &mut sink) == wanted && sink.taken == taken
 }
 
+/// Whether a line has this status, and this comes on standard error. Gives its writer.
+fn told(
+    alloc: Global,
+    arguments: &[&str],
+    input: &[u8],
+    streams: Streams,
+    wanted: (u8, &str),
+) -> (bool, Sink) {
+    let mut source = Source {
+        left: input,
+        fails: streams.fails,
+    };
+    let mut sink = sink_of(streams);
+    let mut err = Vec::new(alloc);
+    let status = run_line(alloc, arguments, &mut source, &mut sink, &mut err);
+    (
+        status == wanted.0 && err.as_slice() == wanted.1.as_bytes(),
+        sink,
+    )
+}
+
 /// Whether the line for a table has this status, its writer takes so many bytes, and this comes on standard
 /// error.
 fn is_told(
@@ -93,15 +120,8 @@ fn is_told(
     wanted: (u8, &str),
     taken: usize,
 ) -> bool {
-    let mut source = Source {
-        left: input,
-        fails: streams.fails,
-    };
-    let mut sink = sink_of(streams);
-    let mut err = Vec::new(alloc);
-    let arguments = ["kbroker", "table"];
-    let status = run_line(alloc, &arguments, &mut source, &mut sink, &mut err);
-    status == wanted.0 && sink.taken == taken && err.as_slice() == wanted.1.as_bytes()
+    let (is_wanted, sink) = told(alloc, &["kbroker", "table"], input, streams, wanted);
+    is_wanted && sink.taken == taken
 }
 
 /// The status and the line on standard error for an answer.
@@ -154,4 +174,47 @@ fn failing_streams(rt: HostRuntime) -> std::result::Result<(), Fail> {
         );
     }
     Ok(())
+}
+
+/// The image of a copy that has seen nothing, behind its size, twice.
+const TWO_IMAGES: &[u8] =
+    b"\0\0\0\x12KCPY\0\0\0\0\0\0\0\0\0\0\x59\x1a\x35\x81\0\0\0\x12KCPY\0\0\0\0\0\0\0\0\0\0\x59\x1a\x35\x81";
+
+/// A writer with room for all, which flushes or doesn't, and a reader that fails at its end or doesn't.
+fn streams_of(fails: bool, flushes: bool) -> Streams {
+    Streams {
+        fails,
+        room: 99,
+        flushes,
+    }
+}
+
+#[test]
+fn a_merge_is_flushed(rt: HostRuntime) {
+    let line = ["kbroker", "merge"];
+    let (done, sink) = told(
+        rt.alloc(),
+        &line,
+        TWO_IMAGES,
+        streams_of(false, true),
+        (0, ""),
+    );
+    assert!(rt; done && sink.taken == 18 && sink.flushed == 18);
+    let failed = (4, "kbroker: write failed\n");
+    let (done, sink) = told(
+        rt.alloc(),
+        &line,
+        TWO_IMAGES,
+        streams_of(false, false),
+        failed,
+    );
+    assert!(rt; done && sink.taken == 18, "a flush that fails");
+}
+
+#[test]
+fn replies_before_a_read_that_fails_are_flushed(rt: HostRuntime) {
+    let line = ["kbroker", "session", "t:1"];
+    let failed = (4, "kbroker: read failed\n");
+    let (done, sink) = told(rt.alloc(), &line, LIST, streams_of(true, true), failed);
+    assert!(rt; done && sink.taken == LISTED.len() && sink.flushed == LISTED.len());
 }

@@ -1,7 +1,8 @@
 //! A caller of the parts: a whole response, in room that is taken first.
 
 ghost use Rattle.std.specs.Prelude.{◌≡◌, ◌≤◌, ◌++◌, [], ◌∷◌, length, OnOk, OnErr};
-ghost use Rattle.request_frames.specs.Responses.{response, produce_response, produce_value};
+ghost use Rattle.responses.specs.Responses.{response};
+ghost use Rattle.responses.specs.Produce.{produce_response, produce_value};
 
 use request_frames::response::produce::{
     PRODUCE_TAIL_BYTES, PRODUCED_PARTITION_BYTES, ProducedPartition, begin_produce, end_produce,

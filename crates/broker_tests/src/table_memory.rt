@@ -3,7 +3,7 @@ use outside_batches::THREE;
 use refusing_alloc::Refusing;
 use std::alloc::Allocator;
 use std::test::Fail;
-use tcp_edge::{TableError, run_subcommand, run_table};
+use tcp_edge::{TableError, run_table, run_table_subcommand};
 
 /// More allocations than any run below asks for.
 const MOST: u64 = 100;
@@ -48,7 +48,7 @@ fn is_told<A: Allocator + Copy>(alloc: A, refused: u64, has_memory: bool) -> boo
     let mut input: &[u8] = &THREE;
     let mut out = Vec::new(alloc);
     let mut err = Vec::new(alloc);
-    let status = run_subcommand(&heap, &mut input, &mut out, &mut err);
+    let status = run_table_subcommand(&heap, &mut input, &mut out, &mut err);
     is_status(status, &out, &err, has_memory)
 }
 

@@ -2,8 +2,10 @@ use Rattle.std.proofs.Common.{rules, ◌≡◌, ◌∙◌, ◌++◌, [], ◌∷�
 use Rattle.std.specs.Prelude.{ℤ}
 use Rattle.std.specs.Int.{w32}
 use Rattle.std.proofs.lemmas.Int.{to_z-of_z}
-use Rattle.request_frames.specs.Fields.{size32, be}
-use Rattle.request_frames.specs.Responses.{framed, response_head, topic_head, produce_head, produced_bytes, produce_tail}
+use Rattle.frame_fields.specs.Fields.{size32, be}
+use Rattle.frame_fields.specs.Frames.{framed}
+use Rattle.responses.specs.Responses.{response_head, topic_head}
+use Rattle.responses.specs.Produce.{produce_head, produced_bytes, produce_tail}
 use Rattle.broker_tests.proofs.one.put_one.Goals as goal
 
 -- the parts, as the law names them
