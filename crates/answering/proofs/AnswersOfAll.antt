@@ -1,6 +1,6 @@
 -- Answers that a function gives, as a relation and by one pass.
 use Rattle.std.proofs.Common.{◌≡◌, ℕ, List, [], ◌∷◌, Option, inl, refl, sym, ap, ◌∙◌}
-use Rattle.request_frames.specs.Types.{TopicOf}
+use Rattle.frame_fields.specs.Types.{TopicOf}
 use Rattle.answering.specs.Lists.{map_accum}
 use Rattle.answering.specs.Work.{answer, IsAnswer, MayAnswer}
 use Rattle.answering.specs.Plans.{over_entries, over_topics, AnswersAll, AnswersTopic, AnswersTopics, Plan, HowAnswered, reply_by, RepliesBy}

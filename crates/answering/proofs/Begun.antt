@@ -3,7 +3,7 @@ use Rattle.std.proofs.Common.{◌≡◌, ℕ, ◌+◌, ◌≤◌, arith, Result,
 use Rattle.std.specs.Prelude.{ℤ, OnOk, OnErr, if◌then◌else◌}
 use Rattle.std.specs.Result.{is_ok}
 use Rattle.std.proofs.lemmas.List.{length-append}
-use Rattle.request_frames.specs.Responses.{response_head}
+use Rattle.responses.specs.Responses.{response_head}
 use Rattle.answering.specs.Writing.{Begins}
 
 pub begins_same : (a b : List ℕ) → b ≡ a → Begins a b

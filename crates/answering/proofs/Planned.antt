@@ -1,11 +1,11 @@
 -- From answers that were given to what may be replied.
 use Rattle.std.proofs.Common.{◌≡◌, ℕ, List, [], ◌∷◌, ◌++◌, Option, Some, inl, refl, ap, subst, ◌∙◌, append-nil}
 use Rattle.std.specs.Prelude.{ℤ, map}
-use Rattle.request_frames.specs.Fields.{Fields, Value, size32, be, elements, encoded}
-use Rattle.request_frames.specs.Types.{TopicOf, topic}
-use Rattle.request_frames.specs.Requests.{topic_request}
-use Rattle.request_frames.specs.Responses.{framed, response, topic_bytes}
-use Rattle.request_frames.specs.Arrays.{ArrayBytes, values}
+use Rattle.frame_fields.specs.Fields.{Fields, Value, size32, be, elements, encoded}
+use Rattle.frame_fields.specs.Types.{TopicOf, topic, topic_request}
+use Rattle.frame_fields.specs.Frames.{framed}
+use Rattle.responses.specs.Responses.{response, topic_bytes}
+use Rattle.frame_fields.specs.Arrays.{ArrayBytes, values}
 use Rattle.answering.specs.Work.{Work, answer, MayAnswer}
 use Rattle.answering.specs.Plans.{AnswersAll, AnswersTopics, Plan, RepliesBy}
 use Rattle.answering.specs.Responding.{RespondsBy}

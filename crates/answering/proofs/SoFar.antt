@@ -2,8 +2,8 @@
 use Rattle.std.proofs.Common.{◌≡◌, ℕ, suc, ◌+◌, ◌*◌, ◌≤◌, List, [], ◌∷◌, ◌++◌, length, Option, Some, refl, sym, ap, subst, ◌∙◌, arith, append_assoc, append-nil}
 use Rattle.std.specs.List.{flat_map}
 use Rattle.std.proofs.lemmas.List.{length-append}
-use Rattle.request_frames.specs.Types.{TopicOf}
-use Rattle.request_frames.specs.Responses.{topic_head, topic_bytes}
+use Rattle.frame_fields.specs.Types.{TopicOf}
+use Rattle.responses.specs.Responses.{topic_head, topic_bytes}
 use Rattle.answering.specs.Plans.{AnswersAll}
 use Rattle.answering.specs.Writing.{Begins, topic_room, topics_room}
 use Rattle.answering.specs.WritingParts.{SoFar, WritesSoFar, FitsSoFar}

@@ -1,7 +1,7 @@
 -- Requests that are answered entry by entry: how one is answered, once as a function, and once as what may be answered
 -- where memory runs out in some entries. Both are read from one plan.
 use Rattle.std.specs.Prelude.{◌≡◌, ℕ, List, [], ◌∷◌, Option}
-use Rattle.request_frames.specs.Types.{TopicOf}
+use Rattle.frame_fields.specs.Types.{TopicOf}
 use Rattle.answering.specs.Lists.{map_accum}
 use Rattle.answering.specs.Work.{Work, answer}
 

@@ -1,11 +1,12 @@
 -- Answers as they are written behind an output, and the response that they make. Kafka's documentation, "Protocol Guide",
 -- section "The Messages": a response that answers entries has a list of topics, each with its name and a list of answers.
 use Rattle.std.specs.Prelude.{◌≡◌, ℕ, ℤ, ◌+◌, ◌*◌, List, [], ◌∷◌, ◌++◌, length, map}
-use Rattle.request_frames.specs.declared.response.TheConstants.{RESPONSE_HEAD_BYTES, COUNT_BYTES, TOPIC_HEAD_BYTES}
-use Rattle.request_frames.specs.Fields.{Fields, Value, size32, be, elements}
-use Rattle.request_frames.specs.Types.{TopicOf, topic}
-use Rattle.request_frames.specs.Arrays.{ArrayBytes, values}
-use Rattle.request_frames.specs.Responses.{framed, topic_bytes}
+use Rattle.responses.specs.declared.parts.TheConstants.{RESPONSE_HEAD_BYTES, COUNT_BYTES, TOPIC_HEAD_BYTES}
+use Rattle.frame_fields.specs.Fields.{Fields, Value, size32, be, elements}
+use Rattle.frame_fields.specs.Types.{TopicOf, topic}
+use Rattle.frame_fields.specs.Arrays.{ArrayBytes, values}
+use Rattle.frame_fields.specs.Frames.{framed}
+use Rattle.responses.specs.Responses.{topic_bytes}
 use Rattle.answering.specs.Plans.{AnswersTopics}
 
 -- what was there stands in front of what is there now

@@ -1,9 +1,9 @@
 -- The parts of a response, as the code writes them one after the other; no public clause names them.
 use Rattle.std.specs.Prelude.{◌≡◌, ◌≤◌, ℕ, ℤ, ◌+◌, List, ◌++◌, length, Option, Some}
 use Rattle.std.specs.List.{flat_map}
-use Rattle.request_frames.specs.Fields.{elements}
-use Rattle.request_frames.specs.Types.{TopicOf}
-use Rattle.request_frames.specs.Responses.{response_head, topic_bytes}
+use Rattle.frame_fields.specs.Fields.{elements}
+use Rattle.frame_fields.specs.Types.{TopicOf}
+use Rattle.responses.specs.Responses.{response_head, topic_bytes}
 use Rattle.answering.specs.Plans.{AnswersAll, AnswersTopic, AnswersTopics}
 
 -- a topic is answered, and the answer is written behind the output

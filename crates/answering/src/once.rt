@@ -2,11 +2,12 @@
 
 ghost use Rattle.std.specs.Prelude.{◌≡◌, ◌≤◌, ◌+◌, ◌++◌, ℕ, Some, length, IsOk, OnOk, OnErr};
 ghost use Rattle.std.specs.Vec.{vec_len, vec_capacity};
-ghost use Rattle.request_frames.specs.Fields.{size32, be};
-ghost use Rattle.request_frames.specs.Responses.{framed, response_head};
+ghost use Rattle.frame_fields.specs.Fields.{size32, be};
+ghost use Rattle.frame_fields.specs.Frames.{framed};
+ghost use Rattle.responses.specs.Responses.{response_head};
 ghost use Rattle.answering.specs.Writing.{Begins};
 
-use request_frames::response::{RESPONSE_HEAD_BYTES, begin_response, finish_response};
+use responses::{RESPONSE_HEAD_BYTES, begin_response, finish_response};
 use std::alloc::{AllocError, Allocator};
 
 /// What stands in a response behind the correlation id, written in any parts.

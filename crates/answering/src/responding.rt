@@ -2,17 +2,15 @@
 
 ghost use Rattle.std.specs.Prelude.{◌≡◌, ◌≤◌, ◌+◌, ◌++◌, ℕ, pos, length, IsOk, OnOk, OnErr};
 ghost use Rattle.std.specs.Vec.{vec_len, vec_capacity};
-ghost use Rattle.request_frames.specs.Fields.{size32, be};
-ghost use Rattle.request_frames.specs.Arrays.{values};
-ghost use Rattle.request_frames.specs.Responses.{response_head};
+ghost use Rattle.frame_fields.specs.Fields.{size32, be};
+ghost use Rattle.frame_fields.specs.Arrays.{values};
+ghost use Rattle.responses.specs.Responses.{response_head};
 ghost use Rattle.answering.specs.Writing.{Begins, Said, topics_said, Responds, topic_room, topics_room, response_room};
 ghost use Rattle.answering.specs.WritingParts.{WritesTopic, WritesTopics, WritesResponse};
 
 use crate::entries::Answers;
-use request_frames::response::{
-    COUNT_BYTES, RESPONSE_HEAD_BYTES, begin_response, begin_topic, finish_response,
-};
-use request_frames::{Array, Element, Topic, Topics};
+use frame_fields::{Array, Element, Topic, Topics};
+use responses::{COUNT_BYTES, RESPONSE_HEAD_BYTES, begin_response, begin_topic, finish_response};
 use std::alloc::{AllocError, Allocator};
 
 /// Appends what is answered of a topic.
@@ -64,7 +62,7 @@ fn put_topics<'a, E: Element<'a> + Drop, S, Q: Answers<E, S>, A: Allocator + Cop
 }
 
 /// Appends what comes before the topics: a response's head, the fields before, and their count.
-#[tactic(auto, unfolding(request_frames::specs::Fields::encoded))]
+#[tactic(auto, unfolding(frame_fields::specs::Fields::encoded))]
 fn put_head<A: Allocator + Copy>(
     correlation: i32,
     before: &[u8],

@@ -1,11 +1,11 @@
 //! How many bytes a response has whose answers all have as many.
 
 ghost use Rattle.std.specs.Prelude.{◌≡◌, ◌≤◌, ◌+◌, ◌^◌, length, IfSome, IfNone};
-ghost use Rattle.request_frames.specs.Arrays.{values};
+ghost use Rattle.frame_fields.specs.Arrays.{values};
 ghost use Rattle.answering.specs.Writing.{topics_said, topic_room, response_room};
 
-use request_frames::response::{COUNT_BYTES, RESPONSE_HEAD_BYTES, TOPIC_HEAD_BYTES};
-use request_frames::{Array, Element, Topic, Topics};
+use frame_fields::{Array, Element, Topic, Topics};
+use responses::{COUNT_BYTES, RESPONSE_HEAD_BYTES, TOPIC_HEAD_BYTES};
 
 /// The most bytes that `response_room` takes for an answer, and for what stands around the topics.
 pub const MAX_FIXED_BYTES: usize = 65_536;

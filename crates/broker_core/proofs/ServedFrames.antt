@@ -7,8 +7,8 @@ use Rattle.std.proofs.KnownBytes.{Appends-nil, Appends-trans}
 use Rattle.std.proofs.lemmas.Grind.{flat_map-append}
 use Rattle.std.proofs.lemmas.List.{length-append}
 use Rattle.streams.specs.State.{SinkState}
-use Rattle.request_frames.specs.Fields.{size32, be}
-use Rattle.request_frames.specs.Frames.{framed, stream, IsWithinLimit, IsFrames, IsFirstFrame}
+use Rattle.frame_fields.specs.Fields.{size32, be}
+use Rattle.frame_fields.specs.Frames.{framed, stream, IsWithinLimit, IsFrames, IsFirstFrame}
 use Rattle.request_frames.specs.Requests.{RequestValue, IsRequest}
 use Rattle.broker_node.specs.declared.handling.Answer.{Answer}
 use Rattle.broker_core.specs.declared.session.SessionError.{SessionError}

@@ -4,7 +4,7 @@ use Rattle.std.specs.Io.KnownBytes.{Consumes}
 use Rattle.std.proofs.KnownBytes.{Consumes-nil, Consumes-trans, Consumes-kept, Appends-trans}
 use Rattle.std.proofs.lemmas.Int.{clamps}
 use Rattle.streams.specs.State.{SourceState, SinkState, counted}
-use Rattle.request_frames.specs.Frames.{stream, IsIncomplete}
+use Rattle.frame_fields.specs.Frames.{stream, IsIncomplete}
 use Rattle.broker_core.specs.declared.session.SessionError.{SessionError}
 use Rattle.broker_core.specs.declared.session.SessionError.TheVariants.{Frame, Read, Write, OutOfMemory}
 use Rattle.broker_state.specs.State.{State}

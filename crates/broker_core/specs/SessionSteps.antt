@@ -2,7 +2,7 @@
 use Rattle.std.specs.Prelude.{◌≡◌, ℕ, ◌+◌, ◌<◌, ◌^◌, true, false, List, [], length, ⊤}
 use Rattle.std.specs.Io.KnownBytes.{Consumes, Keeps, Appends, IsAtEnd}
 use Rattle.streams.specs.State.{SourceState, SinkState, counted, MovesPiece, LosesRest}
-use Rattle.request_frames.specs.Frames.{IsIncomplete, IsFirstFrame, SizeFault}
+use Rattle.frame_fields.specs.Frames.{IsIncomplete, IsFirstFrame, SizeFault}
 use Rattle.request_frames.specs.Requests.{IsRefused}
 use Rattle.broker_core.specs.declared.session.SessionError.{SessionError}
 use Rattle.broker_core.specs.declared.session.SessionError.TheVariants.{Frame, Read, Write, OutOfMemory}

@@ -3,14 +3,15 @@
 ghost use Rattle.std.specs.Prelude.{◌≡◌, ◌+◌, ◌^◌, ◌<◌, true, length, MatchBool, MatchOption, IfOk, IfErr, OnOk, OnErr};
 ghost use Rattle.std.specs.Io.KnownBytes.{Appends};
 ghost use Rattle.streams.specs.State.{LosesRest};
-ghost use Rattle.request_frames.specs.Frames.{IsIncomplete, IsFirstFrame};
+ghost use Rattle.frame_fields.specs.Frames.{IsIncomplete, IsFirstFrame};
 ghost use Rattle.broker_node.specs.Streams.{IsAnswered};
 ghost use Rattle.broker_core.specs.SessionSteps.{StopsTaking, StopsReplying, AnswersFront, StopsNext, StopsWithin};
 
 use crate::session::SessionError;
 use broker_node::Node;
 use bytes::{Bytes, BytesMut};
-use request_frames::{FrameError, parse, take_frame};
+use frame_fields::{FrameError, take_frame};
+use request_frames::parse;
 use segment::BatchStore;
 use std::alloc::Allocator;
 use std::io::Write;
@@ -103,7 +104,7 @@ fn answer_next<S: BatchStore, W: Write, A: Allocator + Copy>(
 /// Answers each complete frame, the first of which has the number `first`. Gives the number of the
 /// incomplete one that is left.
 #[tactic(auto, using(crate::proofs::ServedFrames::front_none, crate::proofs::ServedFrames::front_then, crate::proofs::ServedFrames::less_is_held, crate::proofs::ServedFrames::stops_then))]
-pub(crate) fn answer_frames<S: BatchStore, W: Write, A: Allocator + Copy>(
+pub(crate) fn answer_held<S: BatchStore, W: Write, A: Allocator + Copy>(
     node: &mut Node<S>,
     buffer: &mut BytesMut<A>,
     first: u64,

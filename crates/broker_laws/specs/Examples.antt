@@ -3,12 +3,14 @@ use Rattle.std.specs.Prelude.{ℕ, ℤ, pos, negsuc, List, [], ◌∷◌, codes,
 use Rattle.batch_codec.specs.Grammar.{batch_encoding}
 use Rattle.content.specs.Cleaning.{clean}
 use Rattle.content.specs.Examples.{key_a, key_b, one, two, three, batch_0, copy_of_four, numbered, record_of, single}
-use Rattle.request_frames.specs.declared.response.produce.ProducedPartition.{ProducedPartition}
-use Rattle.request_frames.specs.declared.response.list_offsets.ListedPartition.{ListedPartition}
-use Rattle.request_frames.specs.Types.{TopicOf}
+use Rattle.responses.specs.declared.produce.partition.ProducedPartition.{ProducedPartition}
+use Rattle.responses.specs.declared.list_offsets.partition.ListedPartition.{ListedPartition}
+use Rattle.frame_fields.specs.Types.{TopicOf}
 use Rattle.request_frames.specs.Requests.BodyValue.{produce, list_offsets, metadata}
-use Rattle.request_frames.specs.Requests.{RequestValue, ProduceValue, ProducePartitionValue, FetchPartitionValue}
-use Rattle.request_frames.specs.Responses.{Fetched}
+use Rattle.request_frames.specs.Requests.{RequestValue}
+use Rattle.request_frames.specs.Produce.{ProduceValue, ProducePartitionValue}
+use Rattle.request_frames.specs.Fetch.{FetchPartitionValue}
+use Rattle.responses.specs.Fetch.{Fetched}
 use Rattle.broker_state.specs.declared.config.Role.TheVariants.{Leader, Follower}
 use Rattle.broker_state.specs.State.{TopicConfig, ConfigValue, State, new_state, with_content}
 use Rattle.answering.specs.Work.{answer}

@@ -3,12 +3,14 @@ use Rattle.std.proofs.Common.{◌≡◌, ℕ, ℤ, pos, Bool, true, false, cond,
 use Rattle.std.specs.Ordering.{int_eq}
 use Rattle.std.specs.Prelude.{OnOk}
 use Rattle.request_frames.specs.declared.parsing.RequestBody.TheVariants as variants
-use Rattle.request_frames.specs.declared.requests.MetadataRequest.{MetadataRequest}
+use Rattle.request_frames.specs.declared.metadata.request.MetadataRequest.{MetadataRequest}
 use Rattle.request_frames.specs.declared.parsing.Request.{Request}
 use Rattle.request_frames.specs.declared.parsing.RequestBody.{RequestBody}
 use Rattle.request_frames.specs.Requests.BodyValue.{produce, fetch, list_offsets, metadata}
-use Rattle.request_frames.specs.Requests.{BodyValue, RequestValue, ProduceValue}
-use Rattle.request_frames.specs.Views.{metadata_view, request_body, request_value}
+use Rattle.request_frames.specs.Requests.{BodyValue, RequestValue}
+use Rattle.request_frames.specs.Produce.{ProduceValue}
+use Rattle.request_frames.specs.Metadata.{metadata_view}
+use Rattle.request_frames.specs.Views.{request_body, request_value}
 use Rattle.answering.specs.Work.{MayAnswer}
 use Rattle.answering.specs.Plans.{Plan, RepliesBy}
 use Rattle.broker_state.specs.State.{State}

@@ -2,9 +2,9 @@
 -- "Protocol Guide", sections "Network" (requests of a connection are answered in order) and "Common Request and Response
 -- Structure".
 use Rattle.std.specs.Prelude.{◌≡◌, ◌⊎◌, ℕ, List, [], ◌∷◌, ◌++◌, Option}
-use Rattle.request_frames.specs.declared.error.FrameError.{FrameError}
+use Rattle.frame_fields.specs.declared.error.FrameError.{FrameError}
 use Rattle.request_frames.specs.Requests.{RequestValue, IsRequest, IsRefused}
-use Rattle.request_frames.specs.Frames.{IsFrames, IsFirstFrame, SizeFault}
+use Rattle.frame_fields.specs.Frames.{IsFrames, IsFirstFrame, SizeFault}
 use Rattle.broker_state.specs.State.{State}
 use Rattle.answering.specs.Responding.{sent}
 use Rattle.broker_node.specs.Replies.{MayReply}

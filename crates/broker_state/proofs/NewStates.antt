@@ -5,7 +5,7 @@ use Rattle.std.specs.List.{find, list_any, AllByRecursion}
 use Rattle.std.specs.Option.{option_map, option_or}
 use Rattle.std.specs.Int.{is_in_range}
 use Rattle.content.specs.Content.{empty}
-use Rattle.request_frames.specs.Names.{is_topic_name}
+use Rattle.frame_fields.specs.Names.{is_topic_name}
 use Rattle.broker_state.specs.declared.config.Role.{Role}
 use Rattle.broker_state.specs.declared.limits.TheConstants.{MAX_TOPICS, MAX_PARTITIONS, MAX_HOST_BYTES}
 use Rattle.broker_state.specs.declared.error.ConfigError.{ConfigError}

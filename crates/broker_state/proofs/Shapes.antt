@@ -6,7 +6,7 @@ use Rattle.std.specs.Option.{option_or}
 use Rattle.std.specs.Int.{is_in_range}
 use Rattle.std.proofs.lemmas.List.{length-append, length-map}
 use Rattle.std.proofs.lemmas.List.Elements.{All-from_recursion}
-use Rattle.request_frames.specs.Names.{is_topic_name}
+use Rattle.frame_fields.specs.Names.{is_topic_name}
 use Rattle.broker_state.specs.declared.limits.TheConstants.{MAX_TOPICS, MAX_PARTITIONS}
 use Rattle.broker_state.specs.declared.error.ConfigError.TheVariants.{TooManyTopics, BadTopic, BadPartitions, TopicTwice}
 use Rattle.answering.specs.Lists.{fault_if, first_some}

@@ -4,7 +4,7 @@ use Rattle.std.specs.Prelude.{◌≡◌, ℕ, not, nat_lt, List, [], ◌∷◌, 
 use Rattle.std.specs.List.{list_any}
 use Rattle.std.specs.Option.{option_or}
 use Rattle.std.specs.Int.{is_in_range}
-use Rattle.request_frames.specs.Names.{is_topic_name}
+use Rattle.frame_fields.specs.Names.{is_topic_name}
 use Rattle.broker_state.specs.declared.limits.TheConstants.{MAX_TOPICS, MAX_PARTITIONS, MAX_HOST_BYTES}
 use Rattle.broker_state.specs.declared.error.ConfigError.{ConfigError}
 use Rattle.broker_state.specs.declared.error.ConfigError.TheVariants.{BadHost, TooManyTopics, BadTopic, BadPartitions, TopicTwice, OutOfMemory}

@@ -10,7 +10,7 @@ ghost use Rattle.broker_state.specs.Configs.{config_fault, topic_fault, topics_f
 use crate::config::{Config, TopicConfig};
 use crate::error::ConfigError;
 use crate::limits::{GROUP_TOPIC, MAX_HOST_BYTES, MAX_PARTITIONS, MAX_TOPICS};
-use request_frames::is_topic_name;
+use frame_fields::is_topic_name;
 use std::alloc::Allocator;
 
 /// The first fault of a configuration.

@@ -2,13 +2,15 @@
 use Rattle.std.proofs.Common.{◌≡◌, ℕ, List, [], ◌++◌, length, Some, inl, ap, sym, ◌∙◌, append_assoc, append-nil}
 use Rattle.std.specs.Prelude.{ℤ, pos}
 use Rattle.std.specs.List.{flat_map}
-use Rattle.request_frames.specs.declared.requests.FetchPartition.{FetchPartition}
-use Rattle.request_frames.specs.Fields.{Value, size32, be, elements, encoded}
-use Rattle.request_frames.specs.Reading.{nothing}
-use Rattle.request_frames.specs.Types.{TopicOf}
-use Rattle.request_frames.specs.Requests.{fetch_partition, fetch_partition_value}
-use Rattle.request_frames.specs.Responses.{framed, response, topic_bytes, Fetched, fetched_bytes, fetch_response, fetch_value}
-use Rattle.request_frames.proofs.ResponseParts.{fetch_parts}
+use Rattle.request_frames.specs.declared.fetch.partition.FetchPartition.{FetchPartition}
+use Rattle.frame_fields.specs.Fields.{Value, size32, be, elements, encoded}
+use Rattle.frame_fields.specs.Reading.{nothing}
+use Rattle.frame_fields.specs.Types.{TopicOf}
+use Rattle.request_frames.specs.Fetch.{fetch_partition, fetch_partition_value}
+use Rattle.frame_fields.specs.Frames.{framed}
+use Rattle.responses.specs.Responses.{response, topic_bytes}
+use Rattle.responses.specs.Fetch.{Fetched, fetched_bytes, fetch_response, fetch_value}
+use Rattle.responses.proofs.FetchParts.{fetch_parts}
 use Rattle.answering.specs.Work.{MayAnswer}
 use Rattle.broker_state.specs.State.{State}
 use Rattle.log_requests.specs.Fetch.{FetchRoom, fetch_work}

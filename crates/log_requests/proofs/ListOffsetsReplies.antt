@@ -2,14 +2,16 @@
 use Rattle.std.proofs.Common.{◌≡◌, ℕ, List, [], ◌++◌, length, Some, inl, ap, sym, ◌∙◌, append_assoc, append-nil}
 use Rattle.std.specs.Prelude.{ℤ, pos}
 use Rattle.std.specs.List.{flat_map}
-use Rattle.request_frames.specs.declared.requests.ListOffsetsPartition.{ListOffsetsPartition}
-use Rattle.request_frames.specs.declared.response.list_offsets.ListedPartition.{ListedPartition}
-use Rattle.request_frames.specs.Fields.{Value, size32, be, elements, encoded}
-use Rattle.request_frames.specs.Reading.{nothing}
-use Rattle.request_frames.specs.Types.{TopicOf}
-use Rattle.request_frames.specs.Requests.{list_offsets_partition, list_offsets_partition_value}
-use Rattle.request_frames.specs.Responses.{framed, response, topic_bytes, listed_bytes, list_offsets_response, list_offsets_value}
-use Rattle.request_frames.proofs.ResponseParts.{list_offsets_parts}
+use Rattle.request_frames.specs.declared.list_offsets.partition.ListOffsetsPartition.{ListOffsetsPartition}
+use Rattle.responses.specs.declared.list_offsets.partition.ListedPartition.{ListedPartition}
+use Rattle.frame_fields.specs.Fields.{Value, size32, be, elements, encoded}
+use Rattle.frame_fields.specs.Reading.{nothing}
+use Rattle.frame_fields.specs.Types.{TopicOf}
+use Rattle.request_frames.specs.ListOffsets.{list_offsets_partition, list_offsets_partition_value}
+use Rattle.frame_fields.specs.Frames.{framed}
+use Rattle.responses.specs.Responses.{response, topic_bytes}
+use Rattle.responses.specs.ListOffsets.{list_offsets_answer_bytes, list_offsets_response, list_offsets_value}
+use Rattle.responses.proofs.ListOffsetsParts.{list_offsets_parts}
 use Rattle.answering.specs.Work.{answer, IsAnswer, MayAnswer}
 use Rattle.broker_state.specs.State.{State}
 use Rattle.log_requests.specs.ListOffsets.{list_offsets_work}
@@ -23,6 +25,6 @@ parts : (count topics : List ℕ) → (count ++ topics) ++ [] ≡ (count ++ []) 
 parts count topics = simp (append_assoc, append-nil {A = ℕ})
 
 pub list_offsets_sends : (n : ℤ) (ts : List (TopicOf ListedPartition))
-    → Some (framed (be size32 n ++ (elements (topic_bytes listed_bytes) ts ++ []))) ≡ Some (response n list_offsets_response (list_offsets_value ts))
+    → Some (framed (be size32 n ++ (elements (topic_bytes list_offsets_answer_bytes) ts ++ []))) ≡ Some (response n list_offsets_response (list_offsets_value ts))
 unfolding encoded
-list_offsets_sends n ts = ap (λ fields. Some (framed (be size32 n ++ fields))) (parts (be size32 (pos (length ts))) (flat_map (topic_bytes listed_bytes) ts) ∙ sym (list_offsets_parts ts))
+list_offsets_sends n ts = ap (λ fields. Some (framed (be size32 n ++ fields))) (parts (be size32 (pos (length ts))) (flat_map (topic_bytes list_offsets_answer_bytes) ts) ∙ sym (list_offsets_parts ts))

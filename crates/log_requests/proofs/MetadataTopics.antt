@@ -5,9 +5,9 @@ use Rattle.std.specs.List.{flat_map, range_with_len}
 use Rattle.std.proofs.lemmas.Grind.{flat_map-append}
 use Rattle.std.proofs.lemmas.List.{length-map, take_all}
 use Rattle.std.proofs.lemmas.List.FromFn.{length-map-range_with_len, map-range_with_len_more}
-use Rattle.request_frames.specs.Names.{is_topic_name}
-use Rattle.request_frames.specs.Responses.{Broker, TopicMetadata, metadata_response, metadata_value, leader_id, metadata_head, metadata_topic_head, metadata_topic_bytes, metadata_partition_bytes}
-use Rattle.request_frames.specs.Fields.{encoded}
+use Rattle.frame_fields.specs.Names.{is_topic_name}
+use Rattle.responses.specs.Metadata.{MetadataOfBroker, MetadataOfTopic, metadata_response, metadata_value, metadata_leader_id, metadata_head, metadata_topic_head, metadata_topic_bytes, metadata_partition_bytes}
+use Rattle.frame_fields.specs.Fields.{encoded}
 use Rattle.answering.specs.declared.codes.ErrorCode.TheVariants.{UnknownTopicOrPartition, InvalidTopic}
 use Rattle.answering.specs.Codes.{no_error}
 use Rattle.broker_state.specs.State.{ConfigValue, Topic, State, is_group_topic, topic_of}
@@ -61,15 +61,15 @@ all_seen enc see f old out i xs ys over same e =
 
 -- behind a response's head, what comes before the topics and the topics give the fields
 pub body_written : (s : State) (names : Option (List (List ℕ))) (begun headed out : List ℕ) (n : ℕ) → n ≡ length (metadata_topics s names)
-    → ((b : Broker) (controller : ℤ) (ts : List TopicMetadata) → encoded metadata_response (metadata_value b controller ts) ≡ metadata_head b.node_id b.host b.port controller (length ts) ++ flat_map metadata_topic_bytes ts)
-    → headed ≡ begun ++ metadata_head s.config.node_id s.config.host s.config.port (leader_id (known_leader s.config)) n
+    → ((b : MetadataOfBroker) (controller : ℤ) (ts : List MetadataOfTopic) → encoded metadata_response (metadata_value b controller ts) ≡ metadata_head b.node_id b.host b.port controller (length ts) ++ flat_map metadata_topic_bytes ts)
+    → headed ≡ begun ++ metadata_head s.config.node_id s.config.host s.config.port (metadata_leader_id (known_leader s.config)) n
     → out ≡ headed ++ flat_map metadata_topic_bytes (metadata_topics s names) → out ≡ begun ++ metadata_body s names
 body_written s names begun headed out n counts parts heads e =
     let ts = metadata_topics s names in
-    let head = metadata_head s.config.node_id s.config.host s.config.port (leader_id (known_leader s.config)) in
+    let head = metadata_head s.config.node_id s.config.host s.config.port (metadata_leader_id (known_leader s.config)) in
     e ∙ ap (λ (x : List ℕ). x ++ flat_map metadata_topic_bytes ts) (heads ∙ ap (λ (k : ℕ). begun ++ head k) counts)
     ∙ append_assoc begun (head (length ts)) (flat_map metadata_topic_bytes ts)
-    ∙ ap (λ (x : List ℕ). begun ++ x) (sym (parts (broker_of s.config) (leader_id (known_leader s.config)) ts))
+    ∙ ap (λ (x : List ℕ). begun ++ x) (sym (parts (broker_of s.config) (metadata_leader_id (known_leader s.config)) ts))
 
 pub topics_counted : (s : State) (ts : List TopicParts) → map topic_contents ts ≡ s.topics → length ts ≡ length (metadata_topics s None)
 topics_counted s ts same = sym (length-map ts topic_contents) ∙ ap length same ∙ sym (length-map s.topics (topic_metadata s.config))

@@ -6,14 +6,16 @@ use Rattle.std.specs.Option.{option_map}
 use Rattle.std.specs.Ordering.{int_eq}
 use Rattle.std.proofs.lemmas.Int.{ints, to_z-of_z}
 use Rattle.std.proofs.Math.Seq.{take-append_seam}
-use Rattle.request_frames.specs.declared.requests.ProducePartition.{ProducePartition}
-use Rattle.request_frames.specs.declared.response.produce.ProducedPartition.{ProducedPartition}
-use Rattle.request_frames.specs.Fields.{Value, size32, be, elements, encoded}
-use Rattle.request_frames.specs.Reading.{nothing}
-use Rattle.request_frames.specs.Types.{TopicOf}
-use Rattle.request_frames.specs.Requests.{ProduceValue, produce_partition, produce_partition_value}
-use Rattle.request_frames.specs.Responses.{framed, response, topic_bytes, produced_bytes, produce_response, produce_value}
-use Rattle.request_frames.proofs.ResponseParts.{produce_parts}
+use Rattle.request_frames.specs.declared.produce.partition.ProducePartition.{ProducePartition}
+use Rattle.responses.specs.declared.produce.partition.ProducedPartition.{ProducedPartition}
+use Rattle.frame_fields.specs.Fields.{Value, size32, be, elements, encoded}
+use Rattle.frame_fields.specs.Reading.{nothing}
+use Rattle.frame_fields.specs.Types.{TopicOf}
+use Rattle.request_frames.specs.Produce.{ProduceValue, produce_partition, produce_partition_value}
+use Rattle.frame_fields.specs.Frames.{framed}
+use Rattle.responses.specs.Responses.{response, topic_bytes}
+use Rattle.responses.specs.Produce.{produced_bytes, produce_response, produce_value}
+use Rattle.responses.proofs.ProduceParts.{produce_parts}
 use Rattle.answering.specs.Work.{MayAnswer}
 use Rattle.broker_state.specs.State.{State}
 use Rattle.log_requests.specs.Produce.{produce_work, produce_plan}

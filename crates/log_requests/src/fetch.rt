@@ -1,7 +1,7 @@
 //! Fetch: batches of partitions, from an offset on.
 
 ghost use Rattle.std.specs.Prelude.{◌≡◌, OnOk, OnErr};
-ghost use Rattle.request_frames.specs.Views.{fetch_view};
+ghost use Rattle.request_frames.specs.Fetch.{fetch_view};
 ghost use Rattle.answering.specs.Responding.{RespondsBy};
 ghost use Rattle.log_requests.specs.Fetch.{fetch_plan};
 
@@ -19,7 +19,7 @@ use std::alloc::{AllocError, Allocator};
 
 impl<'n, S: BatchStore> Answers<FetchPartition, FetchRoom> for Reading<'n, S> {
     ghost use Rattle.std.specs.Prelude.{◌≡◌, None};
-    ghost use Rattle.request_frames.specs.Responses.{Fetched, fetched_bytes};
+    ghost use Rattle.responses.specs.Fetch.{Fetched, fetched_bytes};
     ghost use Rattle.log_requests.specs.Fetch.Entries.{fetch_entry_value, fetch_answer};
 
     ghost Answered = { Fetched };

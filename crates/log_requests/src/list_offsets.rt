@@ -1,7 +1,7 @@
 //! ListOffsets: the offsets of partitions, by time.
 
 ghost use Rattle.std.specs.Prelude.{◌≡◌, OnOk, OnErr};
-ghost use Rattle.request_frames.specs.Views.{list_offsets_view};
+ghost use Rattle.request_frames.specs.ListOffsets.{list_offsets_view};
 ghost use Rattle.answering.specs.Responding.{RespondsBy};
 ghost use Rattle.log_requests.specs.ListOffsets.{list_offsets_plan};
 
@@ -11,21 +11,21 @@ use crate::list_offsets::entry::list_offsets_entry;
 use crate::reading::Reading;
 use answering::{Answers, respond};
 use broker_state::BrokerState;
-use request_frames::response::list_offsets::put_listed_partition;
 use request_frames::{ListOffsetsPartition, ListOffsetsRequest};
+use responses::list_offsets::put_listed_partition;
 use segment::BatchStore;
 use std::alloc::{AllocError, Allocator};
 
 impl<'n, S: BatchStore> Answers<ListOffsetsPartition, ()> for Reading<'n, S> {
     ghost use Rattle.std.specs.Prelude.{None};
-    ghost use Rattle.request_frames.specs.declared.response.list_offsets.ListedPartition.{ListedPartition};
-    ghost use Rattle.request_frames.specs.Responses.{listed_bytes};
+    ghost use Rattle.responses.specs.declared.list_offsets.partition.ListedPartition.{ListedPartition};
+    ghost use Rattle.responses.specs.ListOffsets.{list_offsets_answer_bytes};
     ghost use Rattle.answering.specs.Work.{IsAnswer};
     ghost use Rattle.log_requests.specs.ListOffsets.{list_offsets_work};
 
     ghost Answered = { ListedPartition };
 
-    ghost bytes = { listed_bytes };
+    ghost bytes = { list_offsets_answer_bytes };
 
     ghost answers = { λ asked unit name e r after. IsAnswer (list_offsets_work asked.state.now name
         (record { partition = e.partition; time = e.time })) asked.state.now r asked.state.now };

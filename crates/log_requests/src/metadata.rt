@@ -3,8 +3,8 @@
 ghost use Rattle.std.specs.Prelude.{◌≡◌, ◌++◌, None, Some, map, OnOk, OnErr};
 ghost use Rattle.std.specs.List.{flat_map};
 ghost use Rattle.answering.specs.Writing.{Begins};
-ghost use Rattle.request_frames.specs.Responses.{metadata_topic_bytes};
-ghost use Rattle.request_frames.specs.Views.{metadata_view};
+ghost use Rattle.responses.specs.Metadata.{metadata_topic_bytes};
+ghost use Rattle.request_frames.specs.Metadata.{metadata_view};
 ghost use Rattle.log_requests.specs.Metadata.{topic_metadata, metadata_at, metadata_reply};
 ghost use Rattle.log_requests.specs.Metadata.Names.{metadata_names, metadata_body};
 
@@ -15,8 +15,9 @@ use crate::metadata::names::each_once;
 use crate::metadata::topics::{put_broker, put_name, put_topic};
 use answering::{Body, respond_with};
 use broker_state::BrokerState;
-use request_frames::response_laws::metadata_parts;
-use request_frames::{Array, MetadataRequest, Name};
+use frame_fields::{Array, Name};
+use request_frames::MetadataRequest;
+use responses::laws::metadata_parts;
 use segment::BatchStore;
 use std::alloc::{AllocError, Allocator};
 
@@ -91,7 +92,7 @@ struct Listing<'q, 'r, S: BatchStore> {
 
 impl<'q, 'r, S: BatchStore> Body for Listing<'q, 'r, S> {
     ghost use Rattle.std.specs.Prelude.{None};
-    ghost use Rattle.request_frames.specs.Views.{metadata_view};
+    ghost use Rattle.request_frames.specs.Metadata.{metadata_view};
     ghost use Rattle.log_requests.specs.Metadata.Names.{metadata_body};
 
     ghost bytes = { λ asked. metadata_body asked.state.now (metadata_view asked.request.now) };

@@ -1,7 +1,7 @@
 //! Produce: batches that are stored in partitions.
 
 ghost use Rattle.std.specs.Prelude.{◌≡◌, OnOk, OnErr};
-ghost use Rattle.request_frames.specs.Views.{produce_view};
+ghost use Rattle.request_frames.specs.Produce.{produce_view};
 ghost use Rattle.answering.specs.Responding.{RespondsBy};
 ghost use Rattle.log_requests.specs.Produce.{produce_plan};
 
@@ -10,10 +10,8 @@ mod entry;
 use crate::produce::entry::produce_entry;
 use answering::{Answers, respond, response_room};
 use broker_state::BrokerState;
-use request_frames::response::produce::{
-    PRODUCE_TAIL_BYTES, PRODUCED_PARTITION_BYTES, put_produced_partition,
-};
 use request_frames::{ProducePartition, ProduceRequest};
+use responses::produce::{PRODUCE_TAIL_BYTES, PRODUCED_PARTITION_BYTES, put_produced_partition};
 use segment::BatchStore;
 use std::alloc::{AllocError, Allocator};
 
@@ -26,12 +24,11 @@ struct Storing<'q, 'r> {
 impl<'a, 'q, 'r, S: BatchStore> Answers<ProducePartition<'a>, BrokerState<S>> for Storing<'q, 'r> {
     ghost use Rattle.std.specs.Prelude.{Some};
     ghost use Rattle.std.specs.Option.{option_map};
-    ghost use Rattle.request_frames.specs.declared.response.produce.TheConstants.{PRODUCED_PARTITION_BYTES};
-    ghost use Rattle.request_frames.specs.declared.response.produce.ProducedPartition.{ProducedPartition};
-    ghost use Rattle.request_frames.specs.Reading.{nothing};
-    ghost use Rattle.request_frames.specs.Requests.{produce_partition_value};
-    ghost use Rattle.request_frames.specs.Responses.{produced_bytes};
-    ghost use Rattle.request_frames.specs.Views.{produce_view};
+    ghost use Rattle.responses.specs.declared.produce.partition.TheConstants.{PRODUCED_PARTITION_BYTES};
+    ghost use Rattle.responses.specs.declared.produce.partition.ProducedPartition.{ProducedPartition};
+    ghost use Rattle.frame_fields.specs.Reading.{nothing};
+    ghost use Rattle.request_frames.specs.Produce.{produce_partition_value, produce_view};
+    ghost use Rattle.responses.specs.Produce.{produced_bytes};
     ghost use Rattle.answering.specs.Work.{MayAnswer};
     ghost use Rattle.log_requests.specs.Produce.{produce_work};
 

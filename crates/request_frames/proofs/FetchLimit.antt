@@ -1,71 +1,22 @@
--- Numbers in a row are read at once, as the fixed fields of a Fetch request are.
-use Rattle.std.proofs.Common.{◌≡◌, ℕ, ◌+◌, ◌<◌, ◌≤◌, ℤ, List, [], ◌∷◌, length, take, drop, Ok, Err, refl, sym, ap, ◌∙◌, arith, inl, inr}
+-- The fixed fields of a Fetch request are read at once.
+use Rattle.std.proofs.Common.{◌≡◌, ℕ, ◌<◌, ◌≤◌, ℤ, List, [], ◌∷◌, length, take, drop, Ok, Err, refl, sym, ap, ◌∙◌, arith}
 use Rattle.std.specs.Prelude.{map, slice_index, FitsSigned}
 use Rattle.std.proofs.Common.{to_z, of_z}
 use Rattle.std.specs.Int.{w32, cast_signed, from_be_bytes}
 use Rattle.std.proofs.lemmas.Int.{to_z-of_z}
-use Rattle.std.proofs.lemmas.Bool.{cases_lt}
 use Rattle.std.proofs.Math.Seq.{drop-drop}
-use Rattle.std.proofs.lemmas.List.{length-drop, get_or-take, get_or-drop}
+use Rattle.std.proofs.lemmas.List.{get_or-take, get_or-drop}
 use Rattle.request_frames.specs.declared.api.Api.TheVariants.{Fetch}
-use Rattle.request_frames.specs.declared.error.FieldFault.{FieldFault}
-use Rattle.request_frames.specs.declared.error.FieldFault.TheVariants.{ShortBody}
-use Rattle.request_frames.specs.Fields.{Size, size8, size32, Fields, end, one, number, Value, number_at}
-use Rattle.request_frames.specs.Types.{topic, topics_of}
-use Rattle.request_frames.specs.Reading.{At, nothing, map_read, then_read, read_array, read_field, read_fields}
+use Rattle.frame_fields.specs.declared.error.FieldFault.{FieldFault}
+use Rattle.frame_fields.specs.declared.error.FieldFault.TheVariants.{ShortBody}
+use Rattle.frame_fields.specs.Fields.{Size, size8, size32, Fields, end, Value, number_at}
+use Rattle.frame_fields.specs.Types.{topic, topics_of, topic_request}
+use Rattle.frame_fields.specs.Reading.{At, nothing, map_read, then_read, read_array, read_fields}
 use Rattle.request_frames.specs.Requests.BodyValue.{fetch}
-use Rattle.request_frames.specs.Requests.{BodyValue, fetch_partition, fetch_partition_value, fetch_request, topic_request}
+use Rattle.request_frames.specs.Requests.{BodyValue}
+use Rattle.request_frames.specs.Fetch.{fetch_partition, fetch_partition_value, fetch_request}
 use Rattle.request_frames.specs.Bodies.{read_body}
-use Rattle.request_frames.proofs.Numbers.{size_of, number_cut, number_read}
-
--- ---- numbers in a row
-
-abbrev numbers : List Size → Fields → Fields
-numbers [] d = d
-numbers (s ∷ sizes) d = one (number s) (numbers sizes d)
-
-abbrev total : List Size → ℕ
-total [] = 0
-total (s ∷ sizes) = size_of s + total sizes
-
-abbrev behind : List Size → List ℕ → List ℕ
-behind [] bytes = bytes
-behind (s ∷ sizes) bytes = behind sizes (drop (size_of s) bytes)
-
--- the numbers, and the values of the fields that follow them
-abbrev in_front : (sizes : List Size) (d : Fields) → List ℕ → Value d → Value (numbers sizes d)
-in_front [] d bytes v = v
-in_front (s ∷ sizes) d bytes v = (number_at s bytes, in_front sizes d (drop (size_of s) bytes) v)
-
-same_read : {A : Type 0} (r : At A) → r ≡ map_read (λ v. v) r
-same_read (Ok x) = refl
-same_read (Err e) = refl
-
-map_twice : {A B C : Type 0} (f : A → B) (g : B → C) (r : At A) → map_read g (map_read f r) ≡ map_read (λ x. g (f x)) r
-map_twice f g (Ok x) = refl
-map_twice f g (Err e) = refl
-
-all_there : (sizes : List Size) (d : Fields) (bytes : List ℕ) → total sizes ≤ length bytes → read_fields (numbers sizes d) bytes ≡ map_read (in_front sizes d bytes) (read_fields d (behind sizes bytes))
-unfolding read_fields read_field
-all_there [] d bytes long = same_read (read_fields d bytes)
-all_there (s ∷ sizes) d bytes long =
-    let later = drop (size_of s) bytes in
-    ap (λ r. then_read r (read_fields (numbers sizes d))) (number_read s bytes (omega arith))
-    ∙ ap (map_read (λ v. (number_at s bytes, v))) (all_there sizes d later (omega (arith, length-drop (size_of s) bytes)))
-    ∙ map_twice (in_front sizes d later) (λ v. (number_at s bytes, v)) (read_fields d (behind sizes later))
-
-not_there : (sizes : List Size) (d : Fields) (bytes : List ℕ) → length bytes < total sizes → read_fields (numbers sizes d) bytes ≡ Err ShortBody
-unfolding read_fields read_field
-not_there [] d bytes short = absurd (omega arith)
-not_there (s ∷ sizes) d bytes short =
-    elim (cases_lt (length bytes) (size_of s)) [
-      | inl cut ↦ ap (λ r. then_read r (read_fields (numbers sizes d))) (number_cut s bytes cut)
-      | inr long ↦
-          ap (λ r. then_read r (read_fields (numbers sizes d))) (number_read s bytes long)
-          ∙ ap (map_read (λ v. (number_at s bytes, v))) (not_there sizes d (drop (size_of s) bytes) (omega (arith, length-drop (size_of s) bytes)))
-    ]
-
--- ---- a Fetch request
+use Rattle.frame_fields.proofs.NumbersInARow.{behind, in_front, all_there, not_there}
 
 abbrev fixed : List Size
 fixed = size32 ∷ size32 ∷ size32 ∷ size32 ∷ size8 ∷ []

@@ -5,15 +5,15 @@ use Rattle.std.proofs.lemmas.Int.{ints}
 use Rattle.std.proofs.lemmas.Bool.{le-ltb, lt-ltb}
 use Rattle.request_frames.specs.declared.api.Api.{Api}
 use Rattle.request_frames.specs.declared.api.Api.TheVariants.{Produce, Fetch, ListOffsets, Metadata}
-use Rattle.request_frames.specs.declared.error.FieldFault.{FieldFault}
-use Rattle.request_frames.specs.declared.error.FieldFault.TheVariants as field
-use Rattle.request_frames.specs.declared.error.FrameError.{FrameError}
-use Rattle.request_frames.specs.declared.error.FrameError.TheVariants as frame
-use Rattle.request_frames.specs.Fields.{Value}
-use Rattle.request_frames.specs.Reading.{At, read_fields}
+use Rattle.frame_fields.specs.declared.error.FieldFault.{FieldFault}
+use Rattle.frame_fields.specs.declared.error.FieldFault.TheVariants as field
+use Rattle.frame_fields.specs.declared.error.FrameError.{FrameError}
+use Rattle.frame_fields.specs.declared.error.FrameError.TheVariants as frame
+use Rattle.frame_fields.specs.Fields.{Value}
+use Rattle.frame_fields.specs.Reading.{At, read_fields}
 use Rattle.request_frames.specs.Apis.{api_version, IsApi, IsNoApi}
 use Rattle.request_frames.specs.Requests.{RequestValue, body_fields, body_value, body_of, key_of, version_of, correlation_of, IsOf, IsRequest, HasFault, IsRefused}
-use Rattle.request_frames.proofs.FieldLaws.{encodes_read, breaks_read}
+use Rattle.frame_fields.proofs.FieldLaws.{encodes_read, breaks_read}
 
 -- ---- the outcome as a function
 

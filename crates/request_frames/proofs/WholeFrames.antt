@@ -7,34 +7,30 @@ use Rattle.std.proofs.lemmas.Int.{to_z-of_z}
 use Rattle.std.proofs.lemmas.List.{nil_from_length}
 use Rattle.request_frames.specs.declared.api.Api.{Api}
 use Rattle.request_frames.specs.declared.api.Api.TheVariants.{Produce, Fetch, ListOffsets, Metadata}
-use Rattle.request_frames.specs.declared.error.FieldFault.{FieldFault}
-use Rattle.request_frames.specs.declared.error.FrameError.{FrameError}
-use Rattle.request_frames.specs.declared.error.FrameError.TheVariants as frame
+use Rattle.frame_fields.specs.declared.error.FieldFault.{FieldFault}
+use Rattle.frame_fields.specs.declared.error.FrameError.{FrameError}
+use Rattle.frame_fields.specs.declared.error.FrameError.TheVariants as frame
 use Rattle.request_frames.specs.Apis.{IsApi, IsNoApi}
-use Rattle.request_frames.specs.Fields.{Value, Encodes}
-use Rattle.request_frames.specs.Types.{nullable_string}
-use Rattle.request_frames.specs.Reading.{◌>>=◌, At, map_read, then_read, read_field, read_fields}
+use Rattle.frame_fields.specs.Fields.{Value, Encodes}
+use Rattle.frame_fields.specs.Types.{nullable_string}
+use Rattle.frame_fields.specs.Reading.{◌>>=◌, At, map_read, then_read, read_field, read_fields}
 use Rattle.request_frames.specs.Requests.{BodyValue, fields_of, body_fields, body_value, body_of, key_of, version_of, correlation_of, IsOf, IsRequest, HasFault, IsRefused}
 use Rattle.request_frames.specs.Bodies.{read_body, read_request}
-use Rattle.request_frames.proofs.Numbers.{IsBytes, IsBytes-drop}
-use Rattle.request_frames.proofs.ReaderLaws.{map_read_ok, map_read_err}
-use Rattle.request_frames.proofs.FieldLaws.{read_encodes, read_breaks}
+use Rattle.frame_fields.proofs.Numbers.{IsBytes, IsBytes-drop}
+use Rattle.frame_fields.proofs.ReaderLaws.{map_read_ok, map_read_err, map_read_twice}
+use Rattle.frame_fields.proofs.FieldLaws.{read_encodes, read_breaks}
 
 -- ---- reading as the code goes, and by descriptions
 
-map_twice : {A B C : Type 0} (f : A → B) (g : B → C) (r : At A) → map_read g (map_read f r) ≡ map_read (λ x. g (f x)) r
-map_twice f g (Ok x) = refl
-map_twice f g (Err e) = refl
-
 body_is : (api : Api) (bytes : List ℕ) → read_body api bytes ≡ map_read (body_value api) (read_fields (fields_of api) bytes)
-body_is Produce bytes = map_twice _ _ (read_fields (fields_of Produce) bytes)
-body_is Fetch bytes = map_twice _ _ (read_fields (fields_of Fetch) bytes)
-body_is ListOffsets bytes = map_twice _ _ (read_fields (fields_of ListOffsets) bytes)
-body_is Metadata bytes = map_twice _ _ (read_fields (fields_of Metadata) bytes)
+body_is Produce bytes = map_read_twice _ _ (read_fields (fields_of Produce) bytes)
+body_is Fetch bytes = map_read_twice _ _ (read_fields (fields_of Fetch) bytes)
+body_is ListOffsets bytes = map_read_twice _ _ (read_fields (fields_of ListOffsets) bytes)
+body_is Metadata bytes = map_read_twice _ _ (read_fields (fields_of Metadata) bytes)
 
 behind_client : (api : Api) (r : At (Option (List ℕ))) → (r >>= λ client. read_body api client.1) ≡ map_read (λ v. body_value api v.1) (then_read r (read_fields (fields_of api)))
 behind_client api (Err e) = refl
-behind_client api (Ok x) = body_is api x.1 ∙ sym (map_twice (λ y. (x.0, y)) (λ v. body_value api v.1) (read_fields (fields_of api) x.1))
+behind_client api (Ok x) = body_is api x.1 ∙ sym (map_read_twice (λ y. (x.0, y)) (λ v. body_value api v.1) (read_fields (fields_of api) x.1))
 
 request_is : (api : Api) (bytes : List ℕ) → read_request api bytes ≡ map_read (λ v. body_value api v.1) (read_fields (body_fields api) bytes)
 unfolding read_request read_fields

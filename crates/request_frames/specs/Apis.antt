@@ -2,8 +2,8 @@
 use Rattle.std.specs.Prelude.{◌≡◌, ◌≢◌, ℤ, pos}
 use Rattle.request_frames.specs.declared.api.Api.{Api}
 use Rattle.request_frames.specs.declared.api.Api.TheVariants.{Produce, Fetch, ListOffsets, Metadata}
-use Rattle.request_frames.specs.declared.error.FrameError.{FrameError}
-use Rattle.request_frames.specs.declared.error.FrameError.TheVariants.{UnknownApi, BadVersion}
+use Rattle.frame_fields.specs.declared.error.FrameError.{FrameError}
+use Rattle.frame_fields.specs.declared.error.FrameError.TheVariants.{UnknownApi, BadVersion}
 
 abbrev pub api_key : Api → ℤ
 api_key Produce = pos 0

@@ -2,10 +2,14 @@
 use Rattle.std.specs.Prelude.{List, ℕ}
 use Rattle.request_frames.specs.declared.api.Api.{Api}
 use Rattle.request_frames.specs.declared.api.Api.TheVariants.{Produce, Fetch, ListOffsets, Metadata}
-use Rattle.request_frames.specs.Types.{nullable_string}
-use Rattle.request_frames.specs.Reading.{◌>>=◌, At, map_read, read_field, read_fields}
+use Rattle.frame_fields.specs.Types.{nullable_string}
+use Rattle.frame_fields.specs.Reading.{◌>>=◌, At, map_read, read_field, read_fields}
 use Rattle.request_frames.specs.Requests.BodyValue.{produce, fetch, list_offsets, metadata}
-use Rattle.request_frames.specs.Requests.{BodyValue, produce_fields, produce_request, fetch_fields, fetch_request, list_offsets_fields, list_offsets_request, metadata_fields, metadata_request}
+use Rattle.request_frames.specs.Requests.{BodyValue}
+use Rattle.request_frames.specs.Produce.{produce_fields, produce_request}
+use Rattle.request_frames.specs.Fetch.{fetch_fields, fetch_request}
+use Rattle.request_frames.specs.ListOffsets.{list_offsets_fields, list_offsets_request}
+use Rattle.request_frames.specs.Metadata.{metadata_fields, metadata_request}
 
 -- what stands behind the client id
 abbrev pub read_body : Api → List ℕ → At BodyValue

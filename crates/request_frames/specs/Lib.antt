@@ -1,11 +1,8 @@
-pub mod Fields
-pub mod Reading
-pub mod Types
-pub mod Arrays
 pub mod Apis
+pub mod Produce
+pub mod Fetch
+pub mod ListOffsets
+pub mod Metadata
 pub mod Requests
 pub mod Bodies
 pub mod Views
-pub mod Frames
-pub mod Names
-pub mod Responses

@@ -1,46 +1,21 @@
 -- The requests that are read: their fields, what they say, and which frames are refused. Kafka's documentation,
 -- "Protocol Guide", sections "Request Header" and "The Messages".
-use Rattle.std.specs.Prelude.{◌≡◌, ℕ, ◌<◌, ◌≤◌, ℤ, List, [], length, drop, map, Option, Some, None}
-use Rattle.std.specs.Option.{option_map}
+use Rattle.std.specs.Prelude.{◌≡◌, ℕ, ◌<◌, ◌≤◌, ℤ, List, [], length, drop, Option}
 use Rattle.request_frames.specs.declared.api.Api.{Api}
 use Rattle.request_frames.specs.declared.api.Api.TheVariants.{Produce, Fetch, ListOffsets, Metadata}
-use Rattle.request_frames.specs.declared.error.FieldFault.{FieldFault}
-use Rattle.request_frames.specs.declared.error.FieldFault.TheVariants as field
-use Rattle.request_frames.specs.declared.error.FrameError.{FrameError}
-use Rattle.request_frames.specs.declared.error.FrameError.TheVariants as frame
-use Rattle.request_frames.specs.Fields.{size16, size32, Fields, end, array_or_null, Value, number_at, Encodes, Breaks}
+use Rattle.frame_fields.specs.declared.error.FieldFault.{FieldFault}
+use Rattle.frame_fields.specs.declared.error.FieldFault.TheVariants as field
+use Rattle.frame_fields.specs.declared.error.FrameError.{FrameError}
+use Rattle.frame_fields.specs.declared.error.FrameError.TheVariants as frame
+use Rattle.frame_fields.specs.Fields.{size16, size32, Fields, Value, number_at, Encodes, Breaks}
+use Rattle.frame_fields.specs.Types.{nullable_string, TopicOf, ◌⨾◌}
 use Rattle.request_frames.specs.Apis.{IsApi, IsNoApi}
-use Rattle.request_frames.specs.Types.{int8, int16, int32, int64, string, nullable_string, nullable_bytes, topic, topics_of, TopicOf, ◌⨾◌}
+use Rattle.request_frames.specs.Produce.{ProduceValue, produce_fields, produce_request}
+use Rattle.request_frames.specs.Fetch.{FetchValue, fetch_fields, fetch_request}
+use Rattle.request_frames.specs.ListOffsets.{ListOffsetsPartitionValue, list_offsets_fields, list_offsets_request}
+use Rattle.request_frames.specs.Metadata.{metadata_fields, metadata_request}
 
 -- ---- the fields
-
--- index, records
-abbrev pub produce_partition : Fields
-produce_partition = int32 ⨾ nullable_bytes ⨾ end
-
--- transactional_id, acks, timeout_ms, topics
-abbrev pub produce_fields : Fields
-produce_fields = nullable_string ⨾ int16 ⨾ int32 ⨾ topics_of produce_partition end
-
--- partition, fetch_offset, partition_max_bytes
-abbrev pub fetch_partition : Fields
-fetch_partition = int32 ⨾ int64 ⨾ int32 ⨾ end
-
--- replica_id, max_wait_ms, min_bytes, max_bytes, isolation_level, topics
-abbrev pub fetch_fields : Fields
-fetch_fields = int32 ⨾ int32 ⨾ int32 ⨾ int32 ⨾ int8 ⨾ topics_of fetch_partition end
-
--- partition, timestamp
-abbrev pub list_offsets_partition : Fields
-list_offsets_partition = int32 ⨾ int64 ⨾ end
-
--- replica_id, topics
-abbrev pub list_offsets_fields : Fields
-list_offsets_fields = int32 ⨾ topics_of list_offsets_partition end
-
--- the names of topics, or null
-abbrev pub metadata_fields : Fields
-metadata_fields = array_or_null (string ⨾ end) end
 
 -- what follows the client id
 abbrev pub fields_of : Api → Fields
@@ -51,28 +26,6 @@ fields_of Metadata = metadata_fields
 
 -- ---- what requests say
 
-pub record ProducePartitionValue : Type 0 where
-  pub index : ℤ
-  pub records : List ℕ
-
-pub record ProduceValue : Type 0 where
-  pub transactional_id : Option (List ℕ)
-  pub acks : ℤ
-  pub topics : List (TopicOf ProducePartitionValue)
-
-pub record FetchPartitionValue : Type 0 where
-  pub partition : ℤ
-  pub offset : ℤ
-  pub max_bytes : ℤ
-
-pub record FetchValue : Type 0 where
-  pub max_bytes : ℤ
-  pub topics : List (TopicOf FetchPartitionValue)
-
-pub record ListOffsetsPartitionValue : Type 0 where
-  pub partition : ℤ
-  pub time : ℤ
-
 pub data BodyValue : Type 0 where
   produce : ProduceValue → BodyValue
   fetch : FetchValue → BodyValue
@@ -82,43 +35,6 @@ pub data BodyValue : Type 0 where
 pub record RequestValue : Type 0 where
   pub correlation : ℤ
   pub body : BodyValue
-
--- ---- from the fields' values, which are nested pairs
-
-abbrev pub or_empty : Option (List ℕ) → List ℕ
-or_empty None = []
-or_empty (Some bytes) = bytes
-
-abbrev pub topic_request : {X : Type 0} → (partition : Fields) → (Value partition → X) → Value (topic partition) → TopicOf X
-topic_request partition f t = record { name = t.0; entries = map f t.1.0 }
-
-abbrev pub produce_partition_value : Value produce_partition → ProducePartitionValue
-produce_partition_value p = record { index = p.0; records = or_empty p.1.0 }
-
-abbrev pub produce_request : Value produce_fields → ProduceValue
-produce_request v = record {
-  transactional_id = v.0;
-  acks = v.1.0;
-  topics = map (topic_request produce_partition produce_partition_value) v.1.1.1.0;
-}
-
-abbrev pub fetch_partition_value : Value fetch_partition → FetchPartitionValue
-fetch_partition_value p = record { partition = p.0; offset = p.1.0; max_bytes = p.1.1.0 }
-
-abbrev pub fetch_request : Value fetch_fields → FetchValue
-fetch_request v = record {
-  max_bytes = v.1.1.1.0;
-  topics = map (topic_request fetch_partition fetch_partition_value) v.1.1.1.1.1.0;
-}
-
-abbrev pub list_offsets_partition_value : Value list_offsets_partition → ListOffsetsPartitionValue
-list_offsets_partition_value p = record { partition = p.0; time = p.1.0 }
-
-abbrev pub list_offsets_request : Value list_offsets_fields → List (TopicOf ListOffsetsPartitionValue)
-list_offsets_request v = map (topic_request list_offsets_partition list_offsets_partition_value) v.1.0
-
-abbrev pub metadata_request : Value metadata_fields → Option (List (List ℕ))
-metadata_request v = option_map (map (λ name. name.0)) v.0
 
 abbrev pub body_value : (api : Api) → Value (fields_of api) → BodyValue
 body_value Produce v = produce (produce_request v)

@@ -3,7 +3,7 @@
 ghost use Rattle.std.specs.Prelude.{◌≡◌, IfOk, IfErr};
 ghost use Rattle.request_frames.specs.Apis.{api_key, api_version, IsApi, IsNoApi};
 
-use crate::error::FrameError;
+use frame_fields::FrameError;
 
 /// A kind of request that is read, in its one version.
 #[derive(Clone, Copy, Debug)]

@@ -1,29 +1,25 @@
-//! Request frames as a broker's clients send them, read as requests, and the responses to them
-//! (Kafka's documentation, "Protocol Guide").
+//! Requests as a broker's clients send them, and a frame read as one of them (Kafka's documentation,
+//! "Protocol Guide"). What a request is made of, and the responses, are handed on.
 #![tactic(auto)]
 
 mod api;
-mod array;
-mod error;
-mod fields;
-mod frame;
+mod fetch;
 mod laws;
-mod names;
+mod list_offsets;
+mod metadata;
 mod parsing;
-mod requests;
-pub mod response;
-pub mod response_laws;
-mod topics;
+mod produce;
 
 pub use api::Api;
-pub use array::{Array, Element};
-pub use error::{FieldFault, FrameError};
-pub use frame::{MAX_FRAME, take_frame};
-pub use laws::{fields_once, frames_once, one_outcome};
-pub use names::{MAX_TOPIC_NAME, is_topic_name};
-pub use parsing::{Request, RequestBody, parse};
-pub use requests::{
-    FetchPartition, FetchRequest, ListOffsetsPartition, ListOffsetsRequest, MetadataRequest, Name,
-    ProducePartition, ProduceRequest, Topic,
+pub use fetch::{FetchPartition, FetchRequest};
+pub use frame_fields::{
+    Array, Element, FieldFault, FrameError, MAX_FRAME, MAX_TOPIC_NAME, Name, Topic, fields_once,
+    frames_once, is_topic_name, take_frame,
 };
-pub use topics::Topics;
+pub use laws::one_outcome;
+pub use list_offsets::{ListOffsetsPartition, ListOffsetsRequest};
+pub use metadata::MetadataRequest;
+pub use parsing::{Request, RequestBody, parse};
+pub use produce::{ProducePartition, ProduceRequest};
+pub use responses as response;
+pub use responses::laws as response_laws;

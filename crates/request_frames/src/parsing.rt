@@ -1,18 +1,18 @@
 //! A frame read as a request.
 
 ghost use Rattle.std.specs.Prelude.{◌≡◌, ◌<◌, ◌≤◌, drop, length, IfOk, IfErr, IfSome, IfNone};
-ghost use Rattle.request_frames.specs.Reading.{Gives};
+ghost use Rattle.frame_fields.specs.Reading.{Gives};
 ghost use Rattle.request_frames.specs.Bodies.{read_body, read_request};
 ghost use Rattle.request_frames.specs.Requests.{fields_of, body_fields, body_value, body_of, key_of, version_of, correlation_of, IsOf, IsRequest, IsRefused};
 ghost use Rattle.request_frames.specs.Views.{request_body, request_value, IsHeaderOf};
 
 use crate::api::Api;
-use crate::error::{FieldFault, FrameError};
-use crate::fields::nullable_string;
-use crate::requests::{
-    FetchRequest, ListOffsetsRequest, MetadataRequest, ProduceRequest, fetch_at, list_offsets_at,
-    metadata_at, produce_at,
-};
+use crate::fetch::{FetchRequest, fetch_at};
+use crate::list_offsets::{ListOffsetsRequest, list_offsets_at};
+use crate::metadata::{MetadataRequest, metadata_at};
+use crate::produce::{ProduceRequest, produce_at};
+use frame_fields::fields::nullable_string;
+use frame_fields::{FieldFault, FrameError};
 
 /// A request, borrowed from its frame.
 #[derive(Drop)]

@@ -1,8 +1,8 @@
 -- What a session does, from the bytes that come in to the bytes that go out.
 use Rattle.std.specs.Prelude.{◌≡◌, ◌⊎◌, ℕ, ◌<◌, true, false, List, [], length, Option}
 use Rattle.std.specs.Io.KnownBytes.{Consumes, Appends, IsAtEnd}
-use Rattle.request_frames.specs.declared.error.FrameError.{FrameError}
-use Rattle.request_frames.specs.Frames.{IsIncomplete}
+use Rattle.frame_fields.specs.declared.error.FrameError.{FrameError}
+use Rattle.frame_fields.specs.Frames.{IsIncomplete}
 use Rattle.streams.specs.State.{SourceState, SinkState}
 use Rattle.broker_state.specs.State.{State}
 use Rattle.broker_node.specs.Streams.{Answered, RefusesNext}

@@ -4,8 +4,8 @@ ghost use Rattle.std.specs.Prelude.{◌≡◌, map, IfOk};
 ghost use Rattle.log_requests.specs.Metadata.{each_once};
 ghost use Rattle.log_requests.specs.Metadata.Names.{metadata_names};
 
+use frame_fields::{Array, Name};
 use indexmap::IndexSet;
-use request_frames::{Array, Name};
 use std::alloc::{AllocError, Allocator};
 use std::hash::{BuildHasherDefault, FoldHasher};
 

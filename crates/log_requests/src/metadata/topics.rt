@@ -3,14 +3,14 @@
 ghost use Rattle.std.specs.Prelude.{◌≡◌, ◌≤◌, ◌++◌, map, length, OnOk, OnErr};
 ghost use Rattle.std.specs.List.{flat_map, range_with_len};
 ghost use Rattle.answering.specs.Writing.{Begins};
-ghost use Rattle.request_frames.specs.Responses.{leader_id, metadata_head, metadata_topic_bytes, metadata_partition_bytes};
+ghost use Rattle.responses.specs.Metadata.{metadata_leader_id, metadata_head, metadata_topic_bytes, metadata_partition_bytes};
 ghost use Rattle.log_requests.specs.Metadata.{known_leader, partition_metadata, topic_metadata, failed_topic, metadata_at};
 ghost use Rattle.broker_state.specs.Parts.{topic_contents};
 
 use answering::ErrorCode;
 use broker_state::{BrokerState, GROUP_TOPIC, MAX_PARTITIONS, Role, TopicLogs};
-use request_frames::is_topic_name;
-use request_frames::response::metadata::{
+use frame_fields::is_topic_name;
+use responses::metadata::{
     MetadataBroker, MetadataPartition, MetadataTopic, begin_metadata, begin_metadata_topic,
     put_metadata_partition,
 };
@@ -25,7 +25,7 @@ pub(crate) fn put_broker<S: BatchStore, A: Allocator + Copy>(
 ) -> Result<(), AllocError>
     ensures appends { OnOk result (out.new.items ≡ out.old.items ++ metadata_head
         state.now.config.node_id state.now.config.host state.now.config.port
-        (leader_id (known_leader state.now.config)) topic_count) }
+        (metadata_leader_id (known_leader state.now.config)) topic_count) }
     ensures begins { OnErr result (Begins out.old.items out.new.items) }
 {
     let broker = MetadataBroker {

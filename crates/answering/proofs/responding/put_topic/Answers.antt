@@ -1,7 +1,7 @@
 use Rattle.std.proofs.Common.{◌*◌, ◌++◌, length, refl}
 use Rattle.std.specs.Vec.{vec_len, vec_capacity}
-use Rattle.request_frames.specs.Arrays.{values}
-use Rattle.request_frames.specs.Responses.{topic_head}
+use Rattle.frame_fields.specs.Arrays.{values}
+use Rattle.responses.specs.Responses.{topic_head}
 use Rattle.answering.specs.Writing.{Said, topic_room}
 use Rattle.answering.specs.WritingParts.{InTopic}
 use Rattle.answering.proofs.SoFar.{writes_more, answers_all, counts_all, topic_written, fits_more, entries_parts, no_less}

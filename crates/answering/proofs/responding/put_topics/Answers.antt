@@ -1,7 +1,7 @@
 use Rattle.std.proofs.Common.{ap}
 use Rattle.std.specs.Prelude.{map}
 use Rattle.std.specs.Vec.{vec_len, vec_capacity}
-use Rattle.request_frames.specs.Responses.{topic_bytes}
+use Rattle.responses.specs.Responses.{topic_bytes}
 use Rattle.answering.specs.Plans.{AnswersTopic}
 use Rattle.answering.specs.Writing.{Said, topic_said, topics_said, topics_room}
 use Rattle.answering.proofs.SoFar.{writes_more, answers_all, counts_all, fits_more, topics_parts, no_less}

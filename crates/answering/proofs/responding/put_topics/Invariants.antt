@@ -1,5 +1,5 @@
 use Rattle.std.specs.Vec.{vec_len, vec_capacity}
-use Rattle.request_frames.specs.Responses.{topic_bytes}
+use Rattle.responses.specs.Responses.{topic_bytes}
 use Rattle.answering.specs.Plans.{AnswersTopic}
 use Rattle.answering.specs.Writing.{Said, topics_said, topics_room}
 use Rattle.answering.specs.WritingParts.{WritesSoFar, FitsSoFar}

@@ -1,8 +1,7 @@
 use Rattle.std.proofs.Common.{pos, negsuc, [], ◌∷◌, None, refl, arith}
 use Rattle.std.proofs.lemmas.Int.{ints}
 use Rattle.request_frames.specs.declared.api.Api.TheVariants.{ListOffsets}
-use Rattle.request_frames.specs.Fields.{encoded, Fits}
-use Rattle.request_frames.specs.Fields.{Value}
+use Rattle.frame_fields.specs.Fields.{encoded, Fits, Value}
 use Rattle.request_frames.specs.Requests.{body_fields, IsRequest}
 use Rattle.broker_node.specs.Replies.{reply}
 use Rattle.broker_laws.specs.Examples.{topic_t, leader, list_offsets_request, list_offsets_frame}

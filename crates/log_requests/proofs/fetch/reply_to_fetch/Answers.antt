@@ -1,9 +1,8 @@
 use Rattle.std.proofs.Common.{rules, refl}
 use Rattle.std.specs.Int.{w32}
 use Rattle.std.proofs.lemmas.Int.{to_z-of_z}
-use Rattle.request_frames.specs.Requests.{fetch_partition, fetch_partition_value}
-use Rattle.request_frames.specs.Responses.{fetched_bytes}
-use Rattle.request_frames.specs.Views.{fetch_view}
+use Rattle.request_frames.specs.Fetch.{fetch_partition, fetch_partition_value, fetch_view}
+use Rattle.responses.specs.Fetch.{fetched_bytes}
 use Rattle.answering.proofs.Planned.{plan_responded}
 use Rattle.log_requests.specs.Fetch.{FetchRoom, fetch_plan}
 use Rattle.answering.proofs.Begun.{on_ok}

@@ -1,5 +1,5 @@
 use Rattle.std.proofs.Common.{refl}
-use Rattle.request_frames.specs.Responses.{metadata_topic_bytes}
+use Rattle.responses.specs.Metadata.{metadata_topic_bytes}
 use Rattle.log_requests.specs.Metadata.{metadata_at}
 use Rattle.log_requests.proofs.MetadataTopics.{all_seen}
 use Rattle.answering.proofs.Begun.{begins_both, on_err_of}

@@ -1,4 +1,4 @@
-use Rattle.request_frames.specs.Responses.{metadata_topic_bytes}
+use Rattle.responses.specs.Metadata.{metadata_topic_bytes}
 use Rattle.log_requests.specs.Metadata.{topic_metadata}
 use Rattle.broker_state.specs.Parts.{topic_contents}
 use Rattle.log_requests.proofs.MetadataTopics.{all_seen}

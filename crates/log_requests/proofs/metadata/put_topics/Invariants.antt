@@ -2,7 +2,7 @@ use Rattle.std.proofs.Common.{◌≡◌, ◌++◌, take}
 use Rattle.std.specs.Prelude.{map}
 use Rattle.std.specs.List.{flat_map}
 use Rattle.answering.specs.Writing.{Begins}
-use Rattle.request_frames.specs.Responses.{metadata_topic_bytes}
+use Rattle.responses.specs.Metadata.{metadata_topic_bytes}
 use Rattle.log_requests.specs.Metadata.{topic_metadata}
 use Rattle.broker_state.specs.Parts.{topic_contents}
 use Rattle.log_requests.proofs.metadata.put_topics.Given as goal

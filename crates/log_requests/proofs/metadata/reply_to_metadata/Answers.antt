@@ -1,7 +1,7 @@
 use Rattle.std.proofs.Common.{ap, ◌∙◌, ◌++◌}
 use Rattle.std.specs.Int.{w32}
 use Rattle.std.proofs.lemmas.Int.{to_z-of_z}
-use Rattle.request_frames.specs.Views.{metadata_view}
+use Rattle.request_frames.specs.Metadata.{metadata_view}
 use Rattle.log_requests.specs.Metadata.{metadata_reply}
 use Rattle.answering.proofs.Begun.{on_ok}
 use Rattle.log_requests.proofs.metadata.reply_to_metadata.Goals as goal

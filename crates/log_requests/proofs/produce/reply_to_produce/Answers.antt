@@ -1,9 +1,8 @@
 use Rattle.std.proofs.Common.{None, rules, refl}
 use Rattle.std.specs.Int.{w32}
 use Rattle.std.proofs.lemmas.Int.{to_z-of_z}
-use Rattle.request_frames.specs.Requests.{produce_partition, produce_partition_value}
-use Rattle.request_frames.specs.Responses.{produced_bytes}
-use Rattle.request_frames.specs.Views.{produce_view}
+use Rattle.request_frames.specs.Produce.{produce_partition, produce_partition_value, produce_view}
+use Rattle.responses.specs.Produce.{produced_bytes}
 use Rattle.answering.proofs.Planned.{plan_answered, plan_responded}
 use Rattle.broker_state.specs.State.{State}
 use Rattle.log_requests.specs.Produce.{produce_plan}

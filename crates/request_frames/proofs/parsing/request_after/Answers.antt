@@ -1,5 +1,5 @@
 use Rattle.std.proofs.Common.{arith}
-use Rattle.request_frames.specs.declared.error.FieldFault.TheVariants as field
+use Rattle.frame_fields.specs.declared.error.FieldFault.TheVariants as field
 use Rattle.request_frames.proofs.WholeFrames.{all_read, bytes_left, fault_found, correlates, empty_length, some_length}
 use Rattle.request_frames.proofs.parsing.request_after.Goals as goal
 

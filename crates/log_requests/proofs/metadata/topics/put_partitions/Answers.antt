@@ -1,7 +1,7 @@
 use Rattle.std.proofs.Common.{◌≡◌, ◌++◌, ◌∙◌, ap, sym, append-nil, arith}
 use Rattle.std.specs.Prelude.{map}
 use Rattle.std.specs.List.{flat_map, range_with_len}
-use Rattle.request_frames.specs.Responses.{metadata_partition_bytes}
+use Rattle.responses.specs.Metadata.{metadata_partition_bytes}
 use Rattle.log_requests.specs.Metadata.{partition_metadata}
 use Rattle.log_requests.proofs.MetadataTopics.{one_more}
 use Rattle.answering.proofs.Begun.{begins_kept, on_err_of}

@@ -1,5 +1,5 @@
 use Rattle.std.proofs.Common.{◌≡◌, ◌++◌, rules}
-use Rattle.request_frames.specs.Responses.{metadata_topic_head}
+use Rattle.responses.specs.Metadata.{metadata_topic_head}
 use Rattle.answering.specs.Codes.{no_error}
 use Rattle.broker_state.specs.State.{is_group_topic}
 use Rattle.answering.proofs.Begun.{on_ok}

@@ -1,0 +1,9 @@
+pub mod Numbers
+pub mod ReaderLaws
+pub mod LengthLaws
+pub mod OneField
+pub mod ArrayLaws
+pub mod FieldLaws
+pub mod NumbersInARow
+pub mod Arrays
+pub mod FramesCut

@@ -1,0 +1,6 @@
+pub mod Fields
+pub mod Reading
+pub mod Types
+pub mod Arrays
+pub mod Frames
+pub mod Names

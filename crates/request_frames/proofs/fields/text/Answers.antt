@@ -1,5 +1,0 @@
-use Rattle.std.proofs.Common.{rules}
-use Rattle.request_frames.proofs.fields.text.Goals as goal
-
-pub returns-in_err-len : goal.returns-in_err-len
-returns-in_err-len c = search rules

@@ -1,0 +1,6 @@
+pub mod ResponseParts
+pub mod ProduceParts
+pub mod FetchParts
+pub mod ListOffsetsParts
+pub mod MetadataParts
+mod MetadataHead

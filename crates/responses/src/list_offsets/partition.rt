@@ -1,0 +1,55 @@
+//! A partition of a ListOffsets response.
+
+ghost use Rattle.std.specs.Prelude.{◌≡◌, ◌≤◌, ◌+◌, ◌++◌, IsOk, OnOk, OnErr};
+ghost use Rattle.std.specs.Vec.{vec_len, vec_capacity};
+ghost use Rattle.responses.specs.ListOffsets.{list_offsets_answer_bytes};
+
+use byteorder::{BigEndian, ByteOrder};
+use std::alloc::{AllocError, Allocator};
+
+/// The number of bytes of a partition.
+pub const LISTED_PARTITION_BYTES: usize = 22;
+
+/// The answer for a partition.
+#[derive(Clone, Copy)]
+pub struct ListedPartition {
+    /// The partition's index.
+    pub index: i32,
+    /// The error code, 0 for none.
+    pub code: i16,
+    /// The record's time in milliseconds, -1 where there is none.
+    pub time: i64,
+    /// The offset that was asked for, -1 where there is none.
+    pub offset: i64,
+}
+
+#[tactic(auto, unfolding(frame_fields::specs::Fields::encoded))]
+fn partition_bytes(partition: ListedPartition) -> [u8; LISTED_PARTITION_BYTES]
+    ensures { result ≡ list_offsets_answer_bytes partition }
+{
+    let mut bytes = [0; LISTED_PARTITION_BYTES];
+    BigEndian::write_i32(&mut bytes[0..4], partition.index);
+    BigEndian::write_i16(&mut bytes[4..6], partition.code);
+    BigEndian::write_i64(&mut bytes[6..14], partition.time);
+    BigEndian::write_i64(&mut bytes[14..22], partition.offset);
+    bytes
+}
+
+/// Appends the answer for a partition.
+///
+/// # Errors
+///
+/// `AllocError` where the allocation fails; then the output is as before.
+pub fn put_listed_partition<A: Allocator + Copy>(
+    out: &mut Vec<u8, A>,
+    partition: ListedPartition,
+) -> Result<(), AllocError>
+    ensures appends { OnOk result (out.new.items ≡ out.old.items ++ list_offsets_answer_bytes partition) }
+    ensures unchanged_on_error { OnErr result (out.new.items ≡ out.old.items) }
+    ensures len { OnOk result (vec_len out.new ≡ vec_len out.old + LISTED_PARTITION_BYTES) }
+    ensures succeeds { vec_len out.old + LISTED_PARTITION_BYTES ≤ vec_capacity out.old
+        → IsOk result }
+    ensures keeps_capacity { vec_capacity out.old ≤ vec_capacity out.new }
+{
+    out.extend_from_slice(&partition_bytes(partition))
+}
