@@ -33,8 +33,8 @@ pub trait Element<'a>: Sized {
 /// An iterator over an array's elements, in order. It borrows the frame's bytes.
 #[derive(Drop)]
 pub struct Array<'a, E> {
-    left: u32,
-    bytes: &'a [u8],
+    pub(crate) left: u32,
+    pub(crate) bytes: &'a [u8],
     element: PhantomData<E>,
 }
 

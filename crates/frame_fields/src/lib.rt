@@ -9,6 +9,7 @@ mod frame;
 mod laws;
 mod names;
 mod topic;
+mod topics;
 
 pub use array::{Array, Element, array_at, nullable_array_at};
 pub use error::{FieldFault, FrameError};
@@ -16,3 +17,4 @@ pub use frame::{MAX_FRAME, take_frame};
 pub use laws::{fields_once, frames_once, reading_is_exact};
 pub use names::{MAX_TOPIC_NAME, is_topic_name};
 pub use topic::{Name, Topic};
+pub use topics::Topics;
