@@ -2,6 +2,7 @@
 
 It shares nothing with the program that is tested on them.
 """
+import functools
 import re
 import struct
 
@@ -27,9 +28,11 @@ def image(ranges, kept, fields):
 
 
 def ranges_of(words):
-    """FIRST-LAST with commas between, or `none`."""
+    """FIRST-LAST with commas between, or `none`, or `even:N`, the first N even offsets."""
     if words == "none":
         return []
+    if words.startswith("even:"):
+        return [(2 * n, 2 * n) for n in range(int(words.removeprefix("even:")))]
     return [tuple(int(it) for it in re.fullmatch(r"(-?\d+)-(-?\d+)", each).groups()) for each in words.split(",")]
 
 
@@ -54,8 +57,11 @@ def flipped(data, at):
 CHANGES = {"cut": lambda data, size: data[:size], "flip": flipped}
 
 
+@functools.lru_cache(maxsize=8)
 def input_of(words, root):
     """The bytes that a line of input stands for."""
+    if " && " in words:
+        return b"".join(input_of(it, root) for it in words.split(" && "))
     kind, _, rest = words.partition(" ")
     if kind == "text":
         return batches.unescaped(rest)

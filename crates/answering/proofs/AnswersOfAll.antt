@@ -48,10 +48,10 @@ topics_weaker A B weaker = all_weaker (AnswersTopic A) (AnswersTopic B) (λ s t 
 
 -- ---- plans
 
-abbrev in_full : HowAnswered
+abbrev pub in_full : HowAnswered
 in_full = λ R S w. IsAnswer w
 
-abbrev in_any_case : HowAnswered
+abbrev pub in_any_case : HowAnswered
 in_any_case = λ R S w. MayAnswer w
 
 pub plan_replies : {E R S B : Type 0} (p : Plan E R S B) (out : Option (List ℕ)) (after : B) → RepliesBy in_full p out after → (out, after) ≡ reply_by p

@@ -1,1 +1,4 @@
 pub mod AnswersOfAll
+pub mod Begun
+pub mod SoFar
+pub mod Planned

@@ -3,3 +3,7 @@ pub mod Lists
 pub mod Codes
 pub mod Work
 pub mod Plans
+pub mod Responding
+pub mod Once
+pub mod Writing
+pub mod WritingParts

@@ -13,8 +13,9 @@ use Rattle.request_frames.specs.Requests.{RequestValue, IsRequest}
 use Rattle.broker_node.specs.declared.handling.Answer.{Answer}
 use Rattle.broker_core.specs.declared.session.SessionError.{SessionError}
 use Rattle.broker_core.specs.declared.session.SessionError.TheVariants.{Frame, Read, Write, OutOfMemory}
-use Rattle.broker_node.specs.State.{State}
-use Rattle.broker_node.specs.Streams.{sent, IsAnswered, AreAnswered}
+use Rattle.broker_state.specs.State.{State}
+use Rattle.answering.specs.Responding.{sent}
+use Rattle.broker_node.specs.Streams.{IsAnswered, AreAnswered}
 use Rattle.broker_node.specs.Handling.{Handles}
 use Rattle.broker_core.specs.SessionSteps.{StopsTaking, StopsReplying, AnswersFront, StopsNext, StopsWithin}
 

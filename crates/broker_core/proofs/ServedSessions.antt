@@ -7,7 +7,7 @@ use Rattle.streams.specs.State.{SourceState, SinkState, counted}
 use Rattle.frame_fields.specs.Frames.{stream, IsIncomplete}
 use Rattle.broker_core.specs.declared.session.SessionError.{SessionError}
 use Rattle.broker_core.specs.declared.session.SessionError.TheVariants.{Frame, Read, Write, OutOfMemory}
-use Rattle.broker_node.specs.State.{State}
+use Rattle.broker_state.specs.State.{State}
 use Rattle.broker_node.specs.Streams.{IsAnswered}
 use Rattle.broker_core.specs.Sessions.{Session, EndsAs, StopsAs}
 use Rattle.broker_core.specs.SessionSteps.{ReadsOnce, ReadsMore, ReadsEnd, StopsReading, AnswersFront, StopsNext, StopsWithin, Serves}

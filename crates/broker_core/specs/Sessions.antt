@@ -7,7 +7,7 @@ use Rattle.frame_fields.specs.Frames.{IsFrames, IsFirstFrame, IsIncomplete}
 use Rattle.broker_core.specs.declared.session.Ended.{Ended}
 use Rattle.broker_core.specs.declared.session.SessionError.{SessionError}
 use Rattle.broker_core.specs.declared.session.SessionError.TheVariants.{Frame, Read, Write, OutOfMemory}
-use Rattle.broker_node.specs.State.{State}
+use Rattle.broker_state.specs.State.{State}
 use Rattle.broker_node.specs.Streams.{IsAnswered, AreAnswered, Answered, RefusesNext}
 
 -- the bytes that left the source, and those that the sink took

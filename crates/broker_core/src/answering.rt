@@ -104,7 +104,7 @@ fn answer_next<S: BatchStore, W: Write, A: Allocator + Copy>(
 /// Answers each complete frame, the first of which has the number `first`. Gives the number of the
 /// incomplete one that is left.
 #[tactic(auto, using(crate::proofs::ServedFrames::front_none, crate::proofs::ServedFrames::front_then, crate::proofs::ServedFrames::less_is_held, crate::proofs::ServedFrames::stops_then))]
-pub(crate) fn answer_frames<S: BatchStore, W: Write, A: Allocator + Copy>(
+pub(crate) fn answer_held<S: BatchStore, W: Write, A: Allocator + Copy>(
     node: &mut Node<S>,
     buffer: &mut BytesMut<A>,
     first: u64,

@@ -3,7 +3,7 @@
 ghost use Rattle.std.specs.Prelude.{◌≡◌, ◌+◌, ◌^◌, ◌≤◌, false, IfOk, IfErr, IsErrOf};
 ghost use Rattle.broker_core.specs.Sessions.{EndsAs, StopsAs};
 
-use crate::answering::answer_frames;
+use crate::answering::answer_held;
 use crate::receiving::read_more;
 use broker_node::Node;
 use bytes::BytesMut;
@@ -101,7 +101,7 @@ pub fn serve<S: BatchStore, R: Read, W: Write, A: Allocator + Copy>(
             let rest = buffer.len();
             return Ok(Ended { frames, rest });
         }
-        frames = answer_frames(node, &mut buffer, frames, sink, &mut out)?;
+        frames = answer_held(node, &mut buffer, frames, sink, &mut out)?;
         if frames >= MOST_FRAMES {
             return Err(SessionError::OutOfMemory);
         }

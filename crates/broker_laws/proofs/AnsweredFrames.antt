@@ -1,7 +1,7 @@
 -- Frames that are answered one after the other.
 use Rattle.std.proofs.Common.{ℕ, List, [], ◌∷◌, ◌++◌, refl, sym, ap, subst, ◌∙◌, append_assoc}
 use Rattle.std.proofs.lemmas.List.{append-nil}
-use Rattle.broker_node.specs.State.{State}
+use Rattle.broker_state.specs.State.{State}
 use Rattle.broker_node.specs.Streams.{IsAnswered, AreAnswered}
 
 pub answered_snoc : (s m after : State) (frames : List (List ℕ)) (frame out one : List ℕ) → AreAnswered s frames out m → IsAnswered m frame one after → AreAnswered s (frames ++ frame ∷ []) (out ++ one) after

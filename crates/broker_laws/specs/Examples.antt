@@ -11,10 +11,12 @@ use Rattle.request_frames.specs.Requests.{RequestValue}
 use Rattle.request_frames.specs.Produce.{ProduceValue, ProducePartitionValue}
 use Rattle.request_frames.specs.Fetch.{FetchPartitionValue}
 use Rattle.responses.specs.Fetch.{Fetched}
-use Rattle.broker_node.specs.declared.config.Role.TheVariants.{Leader, Follower}
-use Rattle.broker_node.specs.State.{TopicConfig, ConfigValue, State, new_state, with_content}
+use Rattle.broker_state.specs.declared.config.Role.TheVariants.{Leader, Follower}
+use Rattle.broker_state.specs.State.{TopicConfig, ConfigValue, State, new_state, with_content}
 use Rattle.answering.specs.Work.{answer}
-use Rattle.broker_node.specs.Entries.{produce_work, first_room, fetch_work, list_offsets_work}
+use Rattle.log_requests.specs.Produce.{produce_work}
+use Rattle.log_requests.specs.Fetch.{fetch_room, fetch_work}
+use Rattle.log_requests.specs.ListOffsets.{list_offsets_work}
 use Rattle.answering.specs.Plans.{over_topics}
 use Rattle.broker_node.specs.Replies.{reply}
 
@@ -128,13 +130,13 @@ cleaned_leader = with_content leader topic_t (pos 0) (clean (pos 3) (pos 3) copy
 abbrev pub fetched_from : State → (offset max_bytes : ℤ) → Fetched
 fetched_from s offset max_bytes =
     let e : FetchPartitionValue = record { partition = pos 0; offset = offset; max_bytes = pos 1048576 } in
-    (answer (fetch_work s (first_room max_bytes) topic_t e) (first_room max_bytes)).0
+    (answer (fetch_work s (fetch_room max_bytes) topic_t e) (fetch_room max_bytes)).0
 
 -- what is answered to two such fetches in one request
 abbrev pub fetched_twice : State → (offset max_bytes : ℤ) → List (TopicOf Fetched)
 fetched_twice s offset max_bytes =
     let e : FetchPartitionValue = record { partition = pos 0; offset = offset; max_bytes = pos 1048576 } in
-    (over_topics (λ room name e. answer (fetch_work s room name e) room) (first_room max_bytes)
+    (over_topics (λ room name e. answer (fetch_work s room name e) room) (fetch_room max_bytes)
     (record { name = topic_t; entries = e ∷ e ∷ [] } ∷ [])).0
 
 -- what is answered to a time

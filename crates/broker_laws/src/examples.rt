@@ -7,14 +7,17 @@ ghost use Rattle.batch_codec.specs.Grammar.{batch_encoding};
 ghost use Rattle.content.specs.Content.{empty, add, end};
 ghost use Rattle.content.specs.Examples.{batch_0, batch_1, batch_3, copy_of_four};
 ghost use Rattle.frame_fields.specs.declared.error.FrameError.TheVariants as frame;
-ghost use Rattle.broker_node.specs.declared.error.ConfigError.TheVariants as config;
-ghost use Rattle.broker_node.specs.Configs.{config_fault};
-ghost use Rattle.broker_node.specs.State.{group_topic, content_at};
+ghost use Rattle.broker_state.specs.declared.error.ConfigError.TheVariants as config;
+ghost use Rattle.broker_state.specs.Configs.{config_fault};
+ghost use Rattle.broker_state.specs.State.{group_topic, content_at};
 ghost use Rattle.answering.specs.Work.{IsOutOfMemory};
-ghost use Rattle.broker_node.specs.Entries.{produce_work, produced, fetched, list_offsets_work, listed};
-ghost use Rattle.broker_node.specs.Listing.{listed_topics};
+ghost use Rattle.log_requests.specs.Produce.{produce_work, produce_result};
+ghost use Rattle.log_requests.specs.Fetch.{fetch_result};
+ghost use Rattle.log_requests.specs.ListOffsets.{list_offsets_work, list_offsets_result};
+ghost use Rattle.log_requests.specs.Metadata.{metadata_topics};
 ghost use Rattle.broker_node.specs.Replies.{reply};
-ghost use Rattle.broker_node.specs.Streams.{sent, IsAnswered, RefusesNext};
+ghost use Rattle.answering.specs.Responding.{sent};
+ghost use Rattle.broker_node.specs.Streams.{IsAnswered, RefusesNext};
 ghost use Rattle.broker_laws.specs.Examples.{topic_t, topic, config_with, leader, follower, with_acks, transactional, produced_at, produce_request, produce_twice, list_offsets_request, list_offsets_frame, metadata_request, good, without_key, bad_producer, numbered_batch, produced_four, cleaned_leader, fetched_from, fetched_twice, listed_for, records_to};
 
 /// Configurations and their first faults.
@@ -78,29 +81,29 @@ pub fn without_acknowledgement()
 /// Why an entry of a Produce request fails.
 pub fn refused_batches()
     ensures bad_acks { produced_at leader (with_acks (pos 2)) topic_t (pos 0) good
-        ≡ produced (pos 0) (pos 21) (negsuc 0) }
+        ≡ produce_result (pos 0) (pos 21) (negsuc 0) }
     ensures transaction { produced_at leader transactional topic_t (pos 0) good
-        ≡ produced (pos 0) (pos 48) (negsuc 0) }
+        ≡ produce_result (pos 0) (pos 48) (negsuc 0) }
     ensures no_partition { produced_at leader (with_acks (pos 1)) topic_t (pos 1) good
-        ≡ produced (pos 1) (pos 3) (negsuc 0) }
+        ≡ produce_result (pos 1) (pos 3) (negsuc 0) }
     ensures negative_partition { produced_at leader (with_acks (pos 1)) topic_t (negsuc 0) good
-        ≡ produced (negsuc 0) (pos 3) (negsuc 0) }
+        ≡ produce_result (negsuc 0) (pos 3) (negsuc 0) }
     ensures to_group_topic { produced_at leader (with_acks (pos 1)) group_topic (pos 0) good
-        ≡ produced (pos 0) (pos 17) (negsuc 0) }
+        ≡ produce_result (pos 0) (pos 17) (negsuc 0) }
     ensures unknown_before_group_topic { produced_at leader (with_acks (pos 1)) group_topic (pos 1) good
-        ≡ produced (pos 1) (pos 3) (negsuc 0) }
+        ≡ produce_result (pos 1) (pos 3) (negsuc 0) }
     ensures to_follower { produced_at follower (with_acks (pos 1)) topic_t (pos 0) good
-        ≡ produced (pos 0) (pos 6) (negsuc 0) }
+        ≡ produce_result (pos 0) (pos 6) (negsuc 0) }
     ensures group_topic_before_follower { produced_at follower (with_acks (pos 1)) group_topic (pos 0) good
-        ≡ produced (pos 0) (pos 17) (negsuc 0) }
+        ≡ produce_result (pos 0) (pos 17) (negsuc 0) }
     ensures null_key { produced_at leader (with_acks (pos 1)) topic_t (pos 0) without_key
-        ≡ produced (pos 0) (pos 87) (negsuc 0) }
+        ≡ produce_result (pos 0) (pos 87) (negsuc 0) }
     ensures bad_producer { produced_at leader (with_acks (pos 1)) topic_t (pos 0) bad_producer
-        ≡ produced (pos 0) (pos 87) (negsuc 0) }
+        ≡ produce_result (pos 0) (pos 87) (negsuc 0) }
     ensures two_batches { produced_at leader (with_acks (pos 1)) topic_t (pos 0) (good ++ good)
-        ≡ produced (pos 0) (pos 87) (negsuc 0) }
+        ≡ produce_result (pos 0) (pos 87) (negsuc 0) }
     ensures no_bytes { produced_at leader (with_acks (pos 1)) topic_t (pos 0) []
-        ≡ produced (pos 0) (pos 2) (negsuc 0) }
+        ≡ produce_result (pos 0) (pos 2) (negsuc 0) }
 {}
 
 /// A batch of a producer that comes twice in one request is appended once, and has one base.
@@ -123,19 +126,19 @@ pub fn a_log_of_four()
 /// Fetches from a log of which the batches at 1 and 3 are kept, of 70 bytes each.
 pub fn fetches()
     ensures from_2 { fetched_from cleaned_leader (pos 2) (pos 1048576)
-        ≡ fetched (pos 0) (pos 0) (pos 4) (batch_3 ∷ []) }
+        ≡ fetch_result (pos 0) (pos 0) (pos 4) (batch_3 ∷ []) }
     ensures from_end { fetched_from cleaned_leader (pos 4) (pos 1048576)
-        ≡ fetched (pos 0) (pos 0) (pos 4) [] }
+        ≡ fetch_result (pos 0) (pos 0) (pos 4) [] }
     ensures above_end { fetched_from cleaned_leader (pos 5) (pos 1048576)
-        ≡ fetched (pos 0) (pos 1) (negsuc 0) [] }
+        ≡ fetch_result (pos 0) (pos 1) (negsuc 0) [] }
     ensures below_start { fetched_from cleaned_leader (negsuc 0) (pos 1048576)
-        ≡ fetched (pos 0) (pos 1) (negsuc 0) [] }
+        ≡ fetch_result (pos 0) (pos 1) (negsuc 0) [] }
     ensures first_is_forced { fetched_from cleaned_leader (pos 0) (pos 1)
-        ≡ fetched (pos 0) (pos 0) (pos 4) (batch_1 ∷ []) }
+        ≡ fetch_result (pos 0) (pos 0) (pos 4) (batch_1 ∷ []) }
     ensures second_does_not_fit { fetched_from cleaned_leader (pos 0) (pos 139)
-        ≡ fetched (pos 0) (pos 0) (pos 4) (batch_1 ∷ []) }
+        ≡ fetch_result (pos 0) (pos 0) (pos 4) (batch_1 ∷ []) }
     ensures both_fit { fetched_from cleaned_leader (pos 0) (pos 140)
-        ≡ fetched (pos 0) (pos 0) (pos 4) (batch_1 ∷ batch_3 ∷ []) }
+        ≡ fetch_result (pos 0) (pos 0) (pos 4) (batch_1 ∷ batch_3 ∷ []) }
     ensures size { length (batch_encoding batch_1) ≡ 70 }
 {}
 
@@ -144,38 +147,38 @@ pub fn a_shared_room()
     ensures first_takes_70_of_100 { fetched_twice cleaned_leader (pos 0) (pos 100)
         ≡ record {
           name = topic_t;
-          entries = fetched (pos 0) (pos 0) (pos 4) (batch_1 ∷ [])
-              ∷ fetched (pos 0) (pos 0) (pos 4) [] ∷ [];
+          entries = fetch_result (pos 0) (pos 0) (pos 4) (batch_1 ∷ [])
+              ∷ fetch_result (pos 0) (pos 0) (pos 4) [] ∷ [];
         } ∷ [] }
 {}
 
 /// Memory may lack for a new batch, and not where an earlier check fails.
 pub fn out_of_memory()
     ensures for_a_new_batch { IsOutOfMemory (produce_work leader (with_acks (pos 1)) topic_t (records_to (pos 0) good))
-        leader (produced (pos 0) (pos 56) (negsuc 0)) leader }
+        leader (produce_result (pos 0) (pos 56) (negsuc 0)) leader }
     ensures not_for_an_unknown_partition { ¬ IsOutOfMemory (produce_work leader (with_acks (pos 1)) topic_t (records_to (pos 1) good))
-        leader (produced (pos 1) (pos 56) (negsuc 0)) leader }
+        leader (produce_result (pos 1) (pos 56) (negsuc 0)) leader }
     ensures never_for_a_look_up { ¬ IsOutOfMemory
         (list_offsets_work leader topic_t (record { partition = pos 0; time = negsuc 0 }))
-        leader (listed (pos 0) (pos 56) (negsuc 0, negsuc 0)) leader }
+        leader (list_offsets_result (pos 0) (pos 56) (negsuc 0, negsuc 0)) leader }
 {}
 
 /// The end, the start, and the first record of a time.
 pub fn offsets_by_time()
     ensures latest { listed_for cleaned_leader (pos 0) (negsuc 0)
-        ≡ listed (pos 0) (pos 0) (negsuc 0, pos 4) }
+        ≡ list_offsets_result (pos 0) (pos 0) (negsuc 0, pos 4) }
     ensures earliest { listed_for cleaned_leader (pos 0) (negsuc 1)
-        ≡ listed (pos 0) (pos 0) (negsuc 0, pos 0) }
+        ≡ list_offsets_result (pos 0) (pos 0) (negsuc 0, pos 0) }
     ensures first_held { listed_for cleaned_leader (pos 0) (pos 0)
-        ≡ listed (pos 0) (pos 0) (pos 0, pos 1) }
+        ≡ list_offsets_result (pos 0) (pos 0) (pos 0, pos 1) }
     ensures none_so_late { listed_for cleaned_leader (pos 0) (pos 1)
-        ≡ listed (pos 0) (pos 0) (negsuc 0, negsuc 0) }
+        ≡ list_offsets_result (pos 0) (pos 0) (negsuc 0, negsuc 0) }
     ensures no_such_time { listed_for cleaned_leader (pos 0) (negsuc 2)
-        ≡ listed (pos 0) (pos 42) (negsuc 0, negsuc 0) }
+        ≡ list_offsets_result (pos 0) (pos 42) (negsuc 0, negsuc 0) }
     ensures no_partition { listed_for cleaned_leader (pos 1) (negsuc 0)
-        ≡ listed (pos 1) (pos 3) (negsuc 0, negsuc 0) }
+        ≡ list_offsets_result (pos 1) (pos 3) (negsuc 0, negsuc 0) }
     ensures on_a_follower { listed_for follower (pos 0) (negsuc 0)
-        ≡ listed (pos 0) (pos 6) (negsuc 0, negsuc 0) }
+        ≡ list_offsets_result (pos 0) (pos 6) (negsuc 0, negsuc 0) }
 {}
 
 /// What a broker says of its topics.
@@ -194,7 +197,7 @@ pub fn topics_listed()
           ∷ 0 ∷ 0 ∷ 0 ∷ 1 ∷ 0 ∷ 0 ∷ 0 ∷ 1 ∷ 0 ∷ 0 ∷ 0 ∷ 1 ∷ 0 ∷ 0 ∷ 0 ∷ 1 ∷ []),
       leader,
     ) }
-    ensures by_name { listed_topics leader
+    ensures by_name { metadata_topics leader
         (Some (topic_t ∷ topic_t ∷ codes "a b" ∷ codes "u" ∷ []))
         ≡ record {
           code = pos 0;
@@ -204,8 +207,8 @@ pub fn topics_listed()
         }
         ∷ record { code = pos 17; name = codes "a b"; is_internal = false; partitions = [] }
         ∷ record { code = pos 3; name = codes "u"; is_internal = false; partitions = [] } ∷ [] }
-    ensures none { listed_topics leader (Some []) ≡ [] }
-    ensures on_a_follower { listed_topics follower (Some (topic_t ∷ []))
+    ensures none { metadata_topics leader (Some []) ≡ [] }
+    ensures on_a_follower { metadata_topics follower (Some (topic_t ∷ []))
         ≡ record {
           code = pos 0;
           name = topic_t;

@@ -7,8 +7,8 @@ ghost use Rattle.content.specs.declared.verdict.Verdict.TheVariants.{New, Repeat
 ghost use Rattle.partition_log.specs.declared.leader.AppendError.{AppendError};
 ghost use Rattle.partition_log.specs.Appends.{RefusesAppend, IsSendable, kept_verdict, HasOffsets};
 ghost use Rattle.request_frames.specs.Requests.{RequestValue};
-ghost use Rattle.broker_node.specs.Batches.{append_fault, FaultIs};
-ghost use Rattle.broker_node.specs.State.{State, partition_at, is_known, with_content};
+ghost use Rattle.broker_state.specs.Batches.{append_fault, FaultIs};
+ghost use Rattle.broker_state.specs.State.{State, partition_at, is_known, with_content};
 ghost use Rattle.broker_node.specs.Replies.{reply, IsReply, MayReply};
 ghost use Rattle.broker_node.specs.Streams.{IsAnswered, AreAnswered};
 

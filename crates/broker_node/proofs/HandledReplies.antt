@@ -1,53 +1,67 @@
--- A request that changes nothing is handled by appending its reply.
-use Rattle.std.proofs.Common.{◌≡◌, ℕ, List, ◌++◌, Some, refl, sym, ap, subst, ◌∙◌}
+-- From what answering a request does to the output, to what handling it does.
+use Rattle.std.proofs.Common.{◌≡◌, ℕ, ℤ, pos, Bool, true, false, cond, List, ◌++◌, Option, Some, None, Result, Ok, Err, refl, sym, ap, subst, ◌∙◌}
+use Rattle.std.specs.Ordering.{int_eq}
+use Rattle.std.specs.Prelude.{OnOk}
 use Rattle.request_frames.specs.declared.parsing.RequestBody.TheVariants as variants
+use Rattle.request_frames.specs.declared.metadata.request.MetadataRequest.{MetadataRequest}
 use Rattle.request_frames.specs.declared.parsing.Request.{Request}
 use Rattle.request_frames.specs.declared.parsing.RequestBody.{RequestBody}
-use Rattle.request_frames.specs.declared.fetch.request.FetchRequest.{FetchRequest}
-use Rattle.request_frames.specs.declared.list_offsets.request.ListOffsetsRequest.{ListOffsetsRequest}
-use Rattle.request_frames.specs.declared.metadata.request.MetadataRequest.{MetadataRequest}
-use Rattle.request_frames.specs.Requests.BodyValue.{fetch, list_offsets, metadata}
-use Rattle.request_frames.specs.Requests.{RequestValue}
-use Rattle.request_frames.specs.Fetch.{fetch_view}
-use Rattle.request_frames.specs.ListOffsets.{list_offsets_view}
+use Rattle.request_frames.specs.Requests.BodyValue.{produce, fetch, list_offsets, metadata}
+use Rattle.request_frames.specs.Requests.{BodyValue, RequestValue}
+use Rattle.request_frames.specs.Produce.{ProduceValue}
 use Rattle.request_frames.specs.Metadata.{metadata_view}
 use Rattle.request_frames.specs.Views.{request_body, request_value}
-use Rattle.broker_node.specs.declared.handling.Answer.TheVariants.{Reply}
-use Rattle.broker_node.specs.State.{State}
-use Rattle.broker_node.specs.Replies.{reply}
-use Rattle.broker_node.specs.Streams.{sent}
-use Rattle.broker_node.specs.Handling.{Handles}
-use Rattle.broker_node.proofs.PlannedReplies.{one_reply, may_be_replied}
-use Rattle.broker_node.proofs.UnchangedStates.{listing_is_reply}
+use Rattle.answering.specs.Work.{MayAnswer}
+use Rattle.answering.specs.Plans.{Plan, RepliesBy}
+use Rattle.broker_state.specs.State.{State}
+use Rattle.answering.specs.Responding.{RespondsBy}
+use Rattle.log_requests.specs.Metadata.{metadata_reply}
+use Rattle.broker_node.specs.declared.handling.Answer.{Answer}
+use Rattle.broker_node.specs.declared.handling.Answer.TheVariants.{Reply, Silent}
+use Rattle.broker_node.specs.Replies.{RepliesTo}
+use Rattle.broker_node.specs.Handling.{answer_of, Handles}
+use Rattle.broker_node.specs.Answers.{RespondsTo, answer_to}
 
--- one response and the same state are the reply
-handled : (s : State) (q : RequestValue) (held held' response : List ℕ) → reply s q ≡ (Some response, s) → held' ≡ held ++ sent (reply s q).0 → Handles s q held held' Reply s
-handled s q held held' response is e = record {
-  response = Some response;
-  replies = may_be_replied s s q (Some response) ((one_reply s s q (Some response)).1 (sym is));
-  appends = e ∙ ap (λ r. held ++ sent r.0) is;
-  tells = refl;
+-- ---- what is written of a request
+
+-- of a request of entries, whose plan this is
+pub responds_by : {E R S : Type 0} (p : Plan E R S State) (s after : State) (request : Request) (body : RequestBody) (held held' : List ℕ) → request.body ≡ body
+    → ((response : Option (List ℕ)) → RepliesBy (λ R S w. MayAnswer w) p response after → RepliesTo (λ R S w. MayAnswer w) s request.correlation (request_body body) response after)
+    → RespondsBy p held held' after → RespondsTo s (request_value request) held held' after
+responds_by p s after request body held held' is arm r = record {
+  response = r.response;
+  replies = subst (λ b. RepliesTo (λ R S w. MayAnswer w) s request.correlation (request_body b) r.response after) (sym is) (arm r.response r.replies);
+  appends = r.appends;
 }
 
--- the request of a body that is known
-of_body : (s : State) (request : Request) (body : RequestBody) (held held' : List ℕ) → request.body ≡ body
-    → Handles s (record { correlation = request.correlation; body = request_body body }) held held' Reply s
-    → Handles s (request_value request) held held' Reply s
-of_body s request body held held' is h =
-    subst (λ b. Handles s (record { correlation = request.correlation; body = request_body b }) held held' Reply s) (sym is) h
+-- of a Metadata request, which has no plan
+pub metadata_responds : {T E : Type 0} (r : Result T E) (s : State) (request : Request) (asked : MetadataRequest) (z : ℤ) (held held' : List ℕ) → z ≡ request.correlation → request.body ≡ variants.Metadata asked
+    → OnOk r (held' ≡ held ++ metadata_reply s z (metadata_view asked)) → OnOk r (RespondsTo s (request_value request) held held' s)
+metadata_responds (Err e) s request asked z held held' same is written = tt
+metadata_responds (Ok x) s request asked z held held' same is written = record {
+  response = Some (metadata_reply s z (metadata_view asked));
+  replies = subst (λ b. RepliesTo (λ R S w. MayAnswer w) s request.correlation (request_body b) (Some (metadata_reply s z (metadata_view asked))) s) (sym is)
+      (ap (λ n. Some (metadata_reply s n (metadata_view asked))) same, refl);
+  appends = written;
+}
 
-pub fetch_handled : (s : State) (request : Request) (asked : FetchRequest) (held held' : List ℕ) → request.body ≡ variants.Fetch asked
-    → held' ≡ held ++ sent (reply s (record { correlation = request.correlation; body = fetch (fetch_view asked) })).0
-    → Handles s (request_value request) held held' Reply s
-fetch_handled s request asked held held' is e = of_body s request (variants.Fetch asked) held held' is (handled s _ held held' _ refl e)
+-- ---- whether there is a reply
 
-pub list_offsets_handled : (s : State) (request : Request) (asked : ListOffsetsRequest) (held held' : List ℕ) → request.body ≡ variants.ListOffsets asked
-    → held' ≡ held ++ sent (reply s (record { correlation = request.correlation; body = list_offsets (list_offsets_view asked) })).0
-    → Handles s (request_value request) held held' Reply s
-list_offsets_handled s request asked held held' is e =
-    of_body s request (variants.ListOffsets asked) held held' is (handled s _ held held' _ (listing_is_reply s request.correlation asked) e)
+silent : (acks : ℤ) (response : Option (List ℕ)) (whole : List ℕ) (b : Bool) → int_eq acks (pos 0) ≡ b → response ≡ cond b None (Some whole) → cond b Silent Reply ≡ answer_of response
+silent acks response whole true is e = ap answer_of (sym e)
+silent acks response whole false is e = ap answer_of (sym e)
 
-pub metadata_handled : (s : State) (request : Request) (asked : MetadataRequest) (held held' : List ℕ) → request.body ≡ variants.Metadata asked
-    → held' ≡ held ++ sent (reply s (record { correlation = request.correlation; body = metadata (metadata_view asked) })).0
-    → Handles s (request_value request) held held' Reply s
-metadata_handled s request asked held held' is e = of_body s request (variants.Metadata asked) held held' is (handled s _ held held' _ refl e)
+tells : (s after : State) (n : ℤ) (body : BodyValue) (response : Option (List ℕ)) → RepliesTo (λ R S w. MayAnswer w) s n body response after → answer_to body ≡ answer_of response
+tells s after n (produce q) response r = silent q.acks response _ (int_eq q.acks (pos 0)) refl r.sends
+tells s after n (fetch q) response r = ap answer_of (sym r.sends)
+tells s after n (list_offsets ts) response r = ap answer_of (sym r.sends)
+tells s after n (metadata names) response r = ap answer_of (sym r.0)
+
+pub handled : (s after : State) (q : RequestValue) (held held' : List ℕ) (answer : Answer) → RespondsTo s q held held' after → answer ≡ answer_to q.body
+    → Handles s q held held' answer after
+handled s after q held held' answer r is = record {
+  response = r.response;
+  replies = r.replies;
+  appends = r.appends;
+  tells = is ∙ tells s after q.correlation q.body r.response r.replies;
+}

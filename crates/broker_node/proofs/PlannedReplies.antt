@@ -3,9 +3,12 @@ use Rattle.std.proofs.Common.{◌≡◌, ℕ, ℤ, List, Option, ap}
 use Rattle.std.specs.Prelude.{◌↔◌}
 use Rattle.request_frames.specs.Requests.BodyValue.{produce, fetch, list_offsets, metadata}
 use Rattle.request_frames.specs.Requests.{BodyValue, RequestValue}
-use Rattle.broker_node.specs.State.{State}
+use Rattle.broker_state.specs.State.{State}
 use Rattle.answering.specs.Work.{IsAnswer, MayAnswer}
-use Rattle.broker_node.specs.Replies.{produce_plan, fetch_plan, list_offsets_plan, reply_to, reply, RepliesTo, IsReply, MayReply}
+use Rattle.log_requests.specs.Produce.{produce_plan}
+use Rattle.log_requests.specs.Fetch.{fetch_plan}
+use Rattle.log_requests.specs.ListOffsets.{list_offsets_plan}
+use Rattle.broker_node.specs.Replies.{reply_to, reply, RepliesTo, IsReply, MayReply}
 use Rattle.answering.proofs.AnswersOfAll.{plan_replies, plan_given, plan_weaker}
 
 is_reply_to : (s after : State) (n : ℤ) (body : BodyValue) (out : Option (List ℕ)) → RepliesTo (λ R S w. IsAnswer w) s n body out after → (out, after) ≡ reply_to s n body

@@ -3,9 +3,9 @@ use Rattle.std.specs.Prelude.{◌≡◌, ℕ, List, ◌++◌, Option, Some, None
 use Rattle.request_frames.specs.Requests.{RequestValue}
 use Rattle.broker_node.specs.declared.handling.Answer.{Answer}
 use Rattle.broker_node.specs.declared.handling.Answer.TheVariants.{Reply, Silent}
-use Rattle.broker_node.specs.State.{State}
+use Rattle.broker_state.specs.State.{State}
 use Rattle.broker_node.specs.Replies.{MayReply}
-use Rattle.broker_node.specs.Streams.{sent}
+use Rattle.answering.specs.Responding.{sent}
 
 abbrev pub answer_of : Option (List ℕ) → Answer
 answer_of (Some response) = Reply

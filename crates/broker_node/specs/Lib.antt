@@ -1,21 +1,5 @@
 -- Read in this order; each module uses only those above it.
-pub mod Codes
-pub mod State
-pub mod Configs
-pub mod Batches
-pub mod Entries
-pub mod Listing
 pub mod Replies
 pub mod Streams
 pub mod Handling
-pub mod Appending
-pub mod Producing
-pub mod ProducedRoom
-pub mod Partitions
-pub mod ConfigValues
-pub mod Taken
-pub mod Parts
-pub mod ListedOffsets
-pub mod FetchedTopics
-pub mod AskedTopics
-pub mod NameSets
+pub mod Answers

@@ -2,16 +2,12 @@
 -- "Protocol Guide", sections "Network" (requests of a connection are answered in order) and "Common Request and Response
 -- Structure".
 use Rattle.std.specs.Prelude.{◌≡◌, ◌⊎◌, ℕ, List, [], ◌∷◌, ◌++◌, Option}
-use Rattle.std.specs.Option.{unwrap_or}
 use Rattle.frame_fields.specs.declared.error.FrameError.{FrameError}
 use Rattle.request_frames.specs.Requests.{RequestValue, IsRequest, IsRefused}
 use Rattle.frame_fields.specs.Frames.{IsFrames, IsFirstFrame, SizeFault}
-use Rattle.broker_node.specs.State.{State}
+use Rattle.broker_state.specs.State.{State}
+use Rattle.answering.specs.Responding.{sent}
 use Rattle.broker_node.specs.Replies.{MayReply}
-
--- the bytes that go out for a reply
-abbrev pub sent : Option (List ℕ) → List ℕ
-sent out = unwrap_or out []
 
 -- A frame is a request, and these bytes are what may be replied to it.
 pub record IsAnswered (s : State) (frame : List ℕ) (out : List ℕ) (after : State) : Type 0 where

@@ -1,10 +1,13 @@
 //! One request, answered.
 
-ghost use Rattle.std.specs.Prelude.{◌≡◌, IfOk, OnErr};
-ghost use Rattle.request_frames.specs.Views.{request_value};
+ghost use Rattle.std.specs.Prelude.{◌≡◌, IfOk, OnOk, OnErr};
+ghost use Rattle.request_frames.specs.Views.{request_body, request_value};
 ghost use Rattle.broker_node.specs.Handling.{Handles};
+ghost use Rattle.broker_node.specs.Answers.{RespondsTo, answer_to};
 
 use crate::node::Node;
+use broker_state::BrokerState;
+use log_requests::{reply_to_fetch, reply_to_list_offsets, reply_to_metadata, reply_to_produce};
 use request_frames::{Request, RequestBody};
 use segment::BatchStore;
 use std::alloc::{AllocError, Allocator};
@@ -18,6 +21,37 @@ pub enum Answer {
     Silent,
 }
 
+/// Whether a request is answered.
+fn answer_to(body: &RequestBody<'_>) -> Answer
+    ensures { result ≡ answer_to (request_body body.now) }
+{
+    match body {
+        RequestBody::Produce(asked) if asked.acks == 0 => Answer::Silent,
+        _ => Answer::Reply,
+    }
+}
+
+/// Does what a request asks for, and appends its response, if it is answered.
+#[tactic(auto, using(crate::proofs::HandledReplies::responds_by))]
+fn reply_to<S: BatchStore, A: Allocator + Copy>(
+    state: &mut BrokerState<S>,
+    request: &Request<'_>,
+    out: &mut Vec<u8, A>,
+) -> Result<(), AllocError>
+    ensures responds { OnOk result (RespondsTo state.old (request_value request.now)
+        out.old.items out.new.items state.new) }
+    ensures unchanged_on_error { OnErr result
+        ((state.new ≡ state.old) × (out.new.items ≡ out.old.items)) }
+{
+    let correlation = request.correlation;
+    match &request.body {
+        RequestBody::Produce(asked) => reply_to_produce(state, correlation, asked, out),
+        RequestBody::Fetch(asked) => reply_to_fetch(state, correlation, asked, out),
+        RequestBody::ListOffsets(asked) => reply_to_list_offsets(state, correlation, asked, out),
+        RequestBody::Metadata(asked) => reply_to_metadata(state, correlation, asked, out),
+    }
+}
+
 impl<S: BatchStore> Node<S> {
     /// Handles a request: does what it asks for, and appends the response frame to the output, if the
     /// request is answered.
@@ -29,7 +63,6 @@ impl<S: BatchStore> Node<S> {
     ///
     /// `AllocError` where there is no memory for the response. Then nothing was done, and the output
     /// is as before.
-    #[tactic(auto, using(crate::proofs::HandledReplies::metadata_handled))]
     pub fn handle<A: Allocator + Copy>(
         &mut self,
         request: &Request<'_>,
@@ -40,13 +73,7 @@ impl<S: BatchStore> Node<S> {
         ensures unchanged_on_error { OnErr result
             ((self.new ≡ self.old) × (out.new.items ≡ out.old.items)) }
     {
-        let correlation = request.correlation;
-        match &request.body {
-            RequestBody::Produce(asked) => return self.produce(correlation, asked, out),
-            RequestBody::Fetch(asked) => self.fetch(correlation, asked, out)?,
-            RequestBody::ListOffsets(asked) => self.list_offsets(correlation, asked, out)?,
-            RequestBody::Metadata(asked) => self.metadata(correlation, asked, out)?,
-        }
-        Ok(Answer::Reply)
+        reply_to(&mut self.state, request, out)?;
+        Ok(answer_to(&request.body))
     }
 }

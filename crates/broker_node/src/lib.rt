@@ -1,37 +1,19 @@
-//! What a broker holds and what it answers: the definitions that its state, its replies and its
-//! streams go by, and the broker itself. Read `specs/` in the order of `specs/Lib.antt`.
+//! The broker: what it replies to each request, what it writes for a stream of them, and `Node`, which
+//! handles one request. Read `specs/` in the order of `specs/Lib.antt`; what a broker holds is defined in
+//! `broker_state`, and each request in a crate of its kind, as `log_requests`.
 //!
-//! A broker's state is its configuration and the content of each partition of its topics. A reply is
-//! a function of the state and the request: the bytes of one response or none, and the state after.
-//! Where memory runs out within one partition, that partition is answered with a storage error and is
-//! as it was.
-//!
-//! Terms: *entry*, what a request says of one partition; *work*, the checks of an entry in their order,
-//! what is done where all pass, and what is answered where one fails.
+//! A reply is a function of the state and the request: the bytes of one response or none, and the state
+//! after. Where memory runs out within one partition, that partition is answered with a storage error
+//! and is as it was.
 #![tactic(auto)]
 
-mod asked;
-mod codes;
-mod config;
-mod entries;
-mod error;
-mod fetch;
-mod fetching;
 mod handling;
-mod judging;
-mod limits;
-mod list_offsets;
-mod listing;
-mod metadata;
 mod node;
-mod partition;
-mod produce;
-mod producing;
-mod room;
 
 pub use answering::ErrorCode;
-pub use config::{Config, Role, TopicConfig};
-pub use error::ConfigError;
+pub use broker_state::{
+    Config, ConfigError, GROUP_TOPIC, MAX_HOST_BYTES, MAX_PARTITIONS, MAX_TOPICS, Role, TopicConfig,
+};
 pub use handling::Answer;
-pub use limits::{GROUP_TOPIC, MAX_FETCH_BYTES, MAX_HOST_BYTES, MAX_PARTITIONS, MAX_TOPICS};
+pub use log_requests::MAX_FETCH_BYTES;
 pub use node::Node;

@@ -21,7 +21,10 @@ headline_of w is = record {
   idempotent = λ a held. join_self a (held_is w is a held).0;
   alike = λ a b left right. alike a b (held_is w is a left) (held_is w is b right);
   merged = λ a b left right. merged_copy w is a b (held_is w is a left) (held_is w is b right);
-  accepted = λ a b c one two three. copies_merge w is (join a b) c (merged_copy w is a b (held_is w is a one) (held_is w is b two)) (held_is w is c three);
+  accepted = λ a b c one two three. (
+    copies_merge w is (join a b) c (merged_copy w is a b (held_is w is a one) (held_is w is b two)) (held_is w is c three),
+    copies_merge w is a (join b c) (held_is w is a one) (merged_copy w is b c (held_is w is b two) (held_is w is c three)),
+  );
   associative = λ a b c one two three. join_assoc a b c (held_is w is a one).0 (held_is w is b two).0 (held_is w is c three).0;
 }
   where

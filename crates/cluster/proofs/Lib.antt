@@ -6,3 +6,4 @@ pub mod EventLists
 pub mod EventSteps
 pub mod AppendSteps
 pub mod CleanSteps
+pub mod OnTheWay

@@ -1,6 +1,6 @@
 -- What holds of the copies of one partition, whatever happened to them: each shows the log's own table over the offsets
 -- that it has seen, and any two can be merged in any order.
-use Rattle.std.specs.Prelude.{ℕ, ℤ, pos, ◌≡◌, ◌⊎◌, ◌≤ℤ◌, ◌∷◌, List, Some, slice_get}
+use Rattle.std.specs.Prelude.{ℕ, ℤ, pos, ◌≡◌, ◌⊎◌, ◌≤ℤ◌, ◌∷◌, List, take, drop, Some, Result, slice_get}
 use Rattle.std.specs.List.{AllByRecursion}
 use Rattle.batch_codec.specs.Values.{BatchValue}
 use Rattle.cover_ranges.specs.Runs.{covers}
@@ -13,7 +13,11 @@ use Rattle.content.specs.Logs.{IsPlainLog}
 use Rattle.content.specs.Copies.{IsCopy}
 use Rattle.content.specs.LegalLogs.{IsLeaderCopy}
 use Rattle.copy_images.specs.Images.{IsImage}
+use Rattle.cluster.specs.declared.event.Event.{Event}
+use Rattle.cluster.specs.declared.event.Outcome.{Outcome}
+use Rattle.cluster.specs.declared.event.EventError.{EventError}
 use Rattle.cluster.specs.Worlds.{World, copy_at}
+use Rattle.cluster.specs.Events.{Runs}
 
 abbrev pub IsCopyOf : List BatchValue → Content → Type 0
 IsCopyOf log c = IsContent c × IsCopy c log × (c.start ≡ pos 0)
@@ -58,6 +62,14 @@ pub record Headline (w : World) : Type 0 where
   pub alike : (a b : Content) → IsHeld w a → IsHeld w b → MergeAlike a b
   -- and what is merged is a copy of the log, so that a third can be merged with it
   pub merged : (a b : Content) → IsHeld w a → IsHeld w b → IsCopyOf w.log (join a b)
-  pub accepted : (a b c : Content) → IsHeld w a → IsHeld w b → IsHeld w c → Agree (join a b) c
+  pub accepted : (a b c : Content) → IsHeld w a → IsHeld w b → IsHeld w c
+      → Agree (join a b) c × Agree a (join b c)
   pub associative : (a b c : Content) → IsHeld w a → IsHeld w b → IsHeld w c
       → join (join a b) c ≡ join a (join b c)
+
+-- After each front of the events there is a world to which they lead with the same front of the answers, and from which the
+-- rest leads on; the headline holds of it.
+abbrev pub HoldsOnTheWay : {A : Type 0} → World → List (Event A) → List (Result Outcome EventError) → World → Type 0
+HoldsOnTheWay w events results after =
+    (count : ℕ) → (between : World) × Runs w (take count events) (take count results) between
+    × Headline between × Runs between (drop count events) (drop count results) after

@@ -2,7 +2,7 @@
 
 ghost use Rattle.std.specs.Prelude.{◌≡◌, IfOk, OnErr};
 ghost use Rattle.cluster.specs.Events.{Steps, Runs};
-ghost use Rattle.cluster.specs.Headline.{Headline};
+ghost use Rattle.cluster.specs.Headline.{Headline, HoldsOnTheWay};
 
 use crate::cluster::Cluster;
 use crate::event::{Event, EventError, Outcome};
@@ -55,6 +55,8 @@ impl<S: BatchStore> Cluster<S> {
     ) -> Result<Vec<Result<Outcome, EventError>, S::Alloc>, AllocError>
         ensures runs { IfOk result (λ results. Runs self.old events.now results.items self.new) }
         ensures headline { Headline self.new }
+        ensures headline_on_the_way { IfOk result
+            (λ results. HoldsOnTheWay self.old events.now results.items self.new) }
         ensures no_step_on_error { OnErr result (self.new ≡ self.old) }
     {
         self.know_consistent();

@@ -191,6 +191,9 @@ join_agrees a b c is_a is_b is_c agree_a agree_b o = (fits, back, alike)
         by (inl p) = side a is_a (omega (arith, ints, clamps, start, from)) p (agree_a o).2
         by (inr p) = side b is_b (omega (arith, ints, clamps, start, from)) p (agree_b o).2
 
+pub agrees_with_join : (a b c : Content) → IsContent a → IsContent b → IsContent c → Agree a b → Agree a c → Agree a (join b c)
+agrees_with_join a b c is_a is_b is_c with_b with_c = agree_sym (join b c) a (join_agrees b c a is_b is_c is_a (agree_sym a b with_b) (agree_sym a c with_c))
+
 -- ---- what a merge of two that agree holds, each side holds that has seen the offset: such a side
 -- has seen the batch's base too, so it keeps the batch, or the merge would have dropped it
 

@@ -24,10 +24,18 @@ pub fn merging_is_associative()
         → join (join a b) c ≡ join a (join b c) }
 {}
 
-/// A merge agrees with a third content that both agree with, so that the third can be merged too.
+/// Two contents agree in either order.
+pub fn agreement_is_symmetric()
+    ensures { (a b : Content) → Agree a b → Agree b a }
+{}
+
+/// A merge agrees with a third content that both agree with, so that the third can be merged too, in
+/// either grouping of the three.
 pub fn a_merge_agrees_with_a_third()
-    ensures { (a b c : Content) → IsContent a → IsContent b → IsContent c → Agree a c → Agree b c
+    ensures behind { (a b c : Content) → IsContent a → IsContent b → IsContent c → Agree a c → Agree b c
         → Agree (join a b) c }
+    ensures before { (a b c : Content) → IsContent a → IsContent b → IsContent c → Agree a b → Agree a c
+        → Agree a (join b c) }
 {}
 
 /// A merge cut at an offset from both starts on is the merge of both, cut there.

@@ -6,9 +6,9 @@ ghost use Rattle.batch_codec.specs.Grammar.{Writable, batch_encoding};
 ghost use Rattle.copy_images.specs.Judging.{ranges_of, IsEncoded, HoldsBatches, IsBuilt};
 
 use crate::front::Parts;
-use crate::numbers::be_i32_at;
 use crate::ranges::build_cover;
 use batch_codec::BatchView;
+use batch_codec::numbers::be_i32_at;
 use partition_log::PartitionLog;
 use segment::BatchStore;
 use std::alloc::AllocError;

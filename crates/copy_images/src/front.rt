@@ -9,8 +9,8 @@ use crate::layout::{
     COUNT_SIZE, CRC_SIZE, LEAST_SIZE, MARK, RANGE_COUNT_AT, RANGE_SIZE, RANGES_AT, VERSION,
     VERSION_AT,
 };
-use crate::numbers::{be_i16_at, be_i32_at, be_u32_at};
 use crate::ranges::RangeBytes;
+use batch_codec::numbers::{be_i16_at, be_i32_at, be_u32_at};
 use checksum::crc32c;
 
 /// The parts of an image, borrowed from its bytes.

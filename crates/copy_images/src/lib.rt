@@ -15,7 +15,6 @@ mod error;
 mod front;
 pub mod laws;
 pub mod layout;
-mod numbers;
 mod ranges;
 mod read;
 mod write;

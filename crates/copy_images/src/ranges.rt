@@ -5,7 +5,7 @@ ghost use Rattle.cover_ranges.specs.Runs.{IsCanonical};
 ghost use Rattle.copy_images.specs.Judging.{range_at, ranges_of, ending_from, first_holds};
 
 use crate::layout::RANGE_SIZE;
-use crate::numbers::be_i64_at;
+use batch_codec::numbers::be_i64_at;
 use cover_ranges::{Cover, OFFSETS_END};
 use std::alloc::{AllocError, Allocator};
 

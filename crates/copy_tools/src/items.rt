@@ -57,7 +57,8 @@ fn record_of<A: Allocator + Copy>(alloc: A, delta: i32, item: &[u8]) -> Result<R
     })
 }
 
-/// How many bytes the records of items take at least: three bytes of an item say one.
+/// How many bytes the records of items take at least. At most three bytes of an item say one byte of
+/// a key or a value.
 fn least_size(items: Items<'_>) -> usize {
     let mut size = 0usize;
     let mut rest = items.text;

@@ -11,7 +11,7 @@ use std::alloc::{AllocError, Allocator};
 
 /// What an insertion does: `range` replaces the ranges from `start` to before `end`.
 #[derive(Drop)]
-pub(crate) struct Plan {
+pub(crate) struct Splice {
     pub(crate) start: usize,
     pub(crate) end: usize,
     pub(crate) range: (i64, i64),
@@ -41,7 +41,7 @@ fn joined_range(
 
 /// Finds the ranges that those from `first` to `last` overlap or touch, and the range that joins
 /// them all.
-pub(crate) fn plan_insertion(ranges: &[(i64, i64)], first: i64, last: i64) -> Plan
+pub(crate) fn splice_of(ranges: &[(i64, i64)], first: i64, last: i64) -> Splice
     requires canonical { IsCanonical ranges.now }
     requires not_negative { pos 0 ≤ℤ first }
     requires not_empty { first ≤ℤ last }
@@ -51,7 +51,7 @@ pub(crate) fn plan_insertion(ranges: &[(i64, i64)], first: i64, last: i64) -> Pl
     let start = index_of(ranges, first - 1);
     let end = count_started(ranges, last + 1);
     let range = joined_range(ranges, start, end, first, last);
-    Plan { start, end, range }
+    Splice { start, end, range }
 }
 
 /// Removes the ranges from `start` to before `end`. A range that grows takes none away, and one that

@@ -5,7 +5,7 @@ ghost use Rattle.cover_ranges.specs.CoverValue.{HasRoom};
 ghost use Rattle.cover_ranges.specs.Refusal.{IsRefusal};
 
 use crate::OFFSETS_END;
-use crate::edit::{plan_insertion, replace};
+use crate::edit::{replace, splice_of};
 use crate::error::CoverError;
 use crate::judge::judge;
 use crate::search::{self, comes_next};
@@ -134,8 +134,8 @@ impl<A: Allocator + Copy> Cover<A> {
         ensures keeps_memory { self.old.room + length self.old.runs
             ≤ self.new.room + length self.new.runs }
     {
-        let plan = plan_insertion(&self.ranges, first, last);
-        replace(&mut self.ranges, plan.start, plan.end, plan.range)
+        let splice = splice_of(&self.ranges, first, last);
+        replace(&mut self.ranges, splice.start, splice.end, splice.range)
     }
 
     /// Adds the offsets of the range at `at` among maximal ranges.

@@ -61,6 +61,12 @@ fn next_byte(text: &[u8]) -> (u8, usize)
     (text[0], 1)
 }
 
+/// How many bytes a text says, if it has no bad escape.
+fn said_count(text: &[u8]) -> usize {
+    let escapes = text.iter().filter(|byte| **byte == b'%').count();
+    text.len().saturating_sub(escapes.saturating_mul(2))
+}
+
 /// The bytes that a text says: those of its escapes, and every other byte for itself.
 ///
 /// # Errors
@@ -69,7 +75,7 @@ fn next_byte(text: &[u8]) -> (u8, usize)
 pub fn unescape<A: Allocator + Copy>(alloc: A, text: &[u8]) -> Result<Vec<u8, A>, AllocError>
     ensures { IfOk result (λ bytes. Says text.now bytes.items) }
 {
-    let mut bytes = Vec::with_capacity(alloc, text.len())?;
+    let mut bytes = Vec::with_capacity(alloc, said_count(text))?;
     let mut rest = text;
     while !rest.is_empty() {
         let (byte, size) = next_byte(rest);

@@ -1,10 +1,10 @@
 -- The statuses of a session that is refused, and of one that is no success.
 use Rattle.std.proofs.Common.{◌≡◌, ℕ, ◌≤◌, Option, Some, None, refl, sym, subst, ◌∙◌, arith}
 use Rattle.std.specs.Prelude.{◌≢◌}
-use Rattle.broker_node.specs.declared.error.ConfigError.{ConfigError}
-use Rattle.broker_node.specs.declared.error.ConfigError.TheVariants as config
-use Rattle.broker_node.specs.State.{ConfigValue}
-use Rattle.broker_node.specs.Configs.{config_fault, IsValidConfig, ConfigFault}
+use Rattle.broker_state.specs.declared.error.ConfigError.{ConfigError}
+use Rattle.broker_state.specs.declared.error.ConfigError.TheVariants as config
+use Rattle.broker_state.specs.State.{ConfigValue}
+use Rattle.broker_state.specs.Configs.{config_fault, IsValidConfig, ConfigFault}
 use Rattle.broker_core.specs.declared.session.SessionError.TheVariants.{Frame, Read, Write, OutOfMemory}
 use Rattle.subcommands.specs.declared.error.SessionFault.{SessionFault}
 use Rattle.subcommands.specs.declared.error.SessionFault.TheVariants.{EndsInside, Stopped}

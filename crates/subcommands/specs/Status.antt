@@ -12,11 +12,11 @@ use Rattle.subcommands.specs.declared.error.SessionFault.{SessionFault}
 use Rattle.subcommands.specs.declared.error.SessionFault.TheVariants.{EndsInside, Stopped}
 
 -- 1 a batch is refused, 3 out of memory, 4 a read or a write failed
-abbrev pub status_of : TableError → ℕ
-status_of (Batch index why) = 1
-status_of OutOfMemory = 3
-status_of Read = 4
-status_of Write = 4
+abbrev pub table_status : TableError → ℕ
+table_status (Batch index why) = 1
+table_status OutOfMemory = 3
+table_status Read = 4
+table_status Write = 4
 
 -- 1 a frame is refused, 3 out of memory, 4 a read or a write failed
 abbrev pub stop_status : SessionError → ℕ

@@ -8,14 +8,14 @@ mod pending;
 mod replaying;
 mod session;
 mod status;
-mod subcommand;
 mod table;
+mod table_subcommand;
 
 pub use error::{ImagesError, Refusal, SessionFault, TableError};
 pub use merging::{merge_stream, run_merge};
 pub use replaying::run_replay;
-pub use session::{answer_frames, refuse, run_session};
-pub use status::{DONE, FAILED, FAULTY, NO_MEMORY, REFUSED, fail};
-pub use subcommand::run_subcommand;
+pub use session::{answer_frames, refuse_configuration, run_session};
+pub use status::{DONE, FAILED, FAULTY, NO_MEMORY, REFUSED, fail_session};
 pub use table::run_table;
 pub use table_lines::line_ends_once;
+pub use table_subcommand::run_table_subcommand;

@@ -1,14 +1,14 @@
 //! A session: request frames come in, and their replies go out.
 
 ghost use Rattle.std.specs.Prelude.{◌≡◌, ◌≢◌, ◌≤◌, ◌+◌, ◌^◌, true, false, IfErr, MatchBool, OnOk};
-ghost use Rattle.broker_node.specs.ConfigValues.{config_value};
-ghost use Rattle.broker_node.specs.Configs.{IsValidConfig};
+ghost use Rattle.broker_state.specs.ConfigValues.{config_value};
+ghost use Rattle.broker_state.specs.Configs.{IsValidConfig};
 ghost use Rattle.subcommands.specs.Answering.{AnswersFrom, FailsAs, RefusesFrom};
 ghost use Rattle.std.specs.Io.KnownBytes.{Keeps};
 ghost use Rattle.subcommands.specs.Status.{session_status};
 
 use crate::error::SessionFault;
-use crate::status::{DONE, FAULTY, NO_MEMORY, fail};
+use crate::status::{DONE, FAULTY, NO_MEMORY, fail_session};
 use broker_core::{Config, ConfigError, Node, SessionError, serve};
 use segment::{BatchStore, VecStore};
 use std::alloc::Allocator;
@@ -17,13 +17,16 @@ use streams::{Sink, Source};
 
 /// Says on one line of `err` why there is no broker of a configuration, and answers the status: 3 out of
 /// memory, 2 for all else.
-pub fn refuse<E: Write>(why: ConfigError, err: &mut E) -> u8
+pub fn refuse_configuration<E: Write>(why: ConfigError, err: &mut E) -> u8
     ensures is_status { (2 ≤ result) × (result ≤ 3) }
     ensures out_of_memory { why ≡ ConfigError.OutOfMemory → result ≡ 3 }
     ensures faulty { why ≢ ConfigError.OutOfMemory → result ≡ 2 }
 {
     match why {
-        ConfigError::OutOfMemory => fail(&SessionFault::Stopped(SessionError::OutOfMemory), err),
+        ConfigError::OutOfMemory => fail_session(
+            &SessionFault::Stopped(SessionError::OutOfMemory),
+            err,
+        ),
         _ => {
             let _ = writeln!(err, "configuration: {why}");
             FAULTY
@@ -103,12 +106,12 @@ pub fn run_session<A: Allocator + Copy, R: Read, W: Write, E: Write>(
 {
     let mut node: Node<VecStore<A>> = match Node::new(alloc, config) {
         Ok(node) => node,
-        Err(why) => return refuse(why, err),
+        Err(why) => return refuse_configuration(why, err),
     };
     let mut source = Source::new(reader);
     let mut sink = Sink::new(out);
     match answer_frames(alloc, &mut node, &mut source, &mut sink) {
         Ok(()) => DONE,
-        Err(why) => fail(&why, err),
+        Err(why) => fail_session(&why, err),
     }
 }

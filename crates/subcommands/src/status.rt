@@ -1,7 +1,7 @@
 //! The statuses of the program.
 
 ghost use Rattle.std.specs.Prelude.{◌≡◌};
-ghost use Rattle.subcommands.specs.Status.{status_of, session_status, images_status, replay_status};
+ghost use Rattle.subcommands.specs.Status.{table_status, session_status, images_status, replay_status};
 
 use crate::error::{ImagesError, SessionFault, TableError};
 use broker_core::SessionError;
@@ -20,8 +20,8 @@ pub const NO_MEMORY: u8 = 3;
 pub const FAILED: u8 = 4;
 
 /// The status where there is no table.
-pub(crate) fn status_of(why: TableError) -> u8
-    ensures { result ≡ status_of why }
+pub(crate) fn table_status(why: TableError) -> u8
+    ensures { result ≡ table_status why }
 {
     match why {
         TableError::Batch { index: _, why: _ } => REFUSED,
@@ -68,7 +68,7 @@ fn session_status(why: &SessionFault) -> u8
 
 /// Says on one line of `err` why a session is no success, and answers the status: 1 the input is refused,
 /// 3 out of memory, 4 a read or a write failed.
-pub fn fail<E: Write>(why: &SessionFault, err: &mut E) -> u8
+pub fn fail_session<E: Write>(why: &SessionFault, err: &mut E) -> u8
     ensures { result ≡ session_status why.now }
 {
     let _ = writeln!(err, "kbroker: {why}");

@@ -8,15 +8,15 @@ use Rattle.clap.specs.Words.{App, IsAmong, Kinds, Row, Text, first_value, first_
 use Rattle.clap.specs.declared.error.Error.{Error}
 use Rattle.clap.specs.declared.error.kind.ErrorKind.TheVariants.{OutOfMemory, DisplayHelp, DisplayVersion}
 use Rattle.clap.specs.declared.error.kind.ErrorKind.{ErrorKind}
-use Rattle.broker_node.specs.Configs.{IsValidConfig}
-use Rattle.broker_node.specs.ConfigValues.{config_value}
-use Rattle.broker_node.specs.State.{ConfigValue}
+use Rattle.broker_state.specs.Configs.{IsValidConfig}
+use Rattle.broker_state.specs.ConfigValues.{config_value}
+use Rattle.broker_state.specs.State.{ConfigValue}
 use Rattle.tcp_edge.specs.declared.asked.LineFault.{LineFault}
 use Rattle.tcp_edge.specs.declared.asked.LineFault.TheVariants.{Clap, Topic}
 use Rattle.tcp_edge.specs.declared.asked.Asked.{Asked}
 use Rattle.tcp_edge.specs.declared.asked.Asked.TheVariants.{Table, Session, Serve, Replay, Merge}
-use Rattle.tcp_edge.specs.Asked.{IsAsked, IsConfigFault, IsFaulty, IsHelp, IsMistake, IsOutOfMemory, IsListener, IsPlanOf, IsStop, IfMerge, IfNamed, IfReplay, IfServe, IfSession, IfTable, IsNoTopic, AsksForOther}
-use Rattle.tcp_edge.specs.declared.asked.Plan.{Plan}
+use Rattle.tcp_edge.specs.Asked.{IsAsked, IsConfigFault, IsFaulty, IsHelp, IsMistake, IsOutOfMemory, IsListener, IsOptionsOf, IsStop, IfMerge, IfNamed, IfReplay, IfServe, IfSession, IfTable, IsNoTopic, AsksForOther}
+use Rattle.tcp_edge.specs.declared.asked.ServeOptions.{ServeOptions}
 use Rattle.clap.specs.declared.parser.matches.Found.{Found}
 use Rattle.clap.specs.declared.parser.matches.ArgMatches.{ArgMatches}
 use Rattle.clap.proofs.OnLiterals.{clap_on_literals}
@@ -104,7 +104,7 @@ subcommand_named app roles arguments m are is matches fine name named =
 pub if_subcommand_named : (asked : Asked) (P Q : Text → Type 0) → IfNamed asked P → ((name : Text) → P name → Q name) → IfNamed asked Q
 if_subcommand_named Table P Q is leads = tt
 if_subcommand_named (Session g) P Q is leads = leads (codes "session") is
-if_subcommand_named (Serve plan) P Q is leads = tt
+if_subcommand_named (Serve options) P Q is leads = tt
 if_subcommand_named Replay P Q is leads = leads (codes "replay") is
 if_subcommand_named Merge P Q is leads = leads (codes "merge") is
 
@@ -223,7 +223,7 @@ pub if_table : (arguments : List Text) (asked : Asked) (P : Type 0) → AsksForT
 if_table arguments Table P asks is fact = fact
 if_table arguments (Session g) P asks is fact =
     let bad : true ≡ false = ap (bytes_eq (codes "table")) (is (codes "table") [] (finds_table arguments asks)).0 in cc
-if_table arguments (Serve plan) P asks is fact =
+if_table arguments (Serve options) P asks is fact =
     let bad : true ≡ false = ap (bytes_eq (codes "table")) (is (codes "table") [] (finds_table arguments asks)).0 in cc
 if_table arguments Replay P asks is fact =
     let bad : true ≡ false = ap (bytes_eq (codes "table")) (is (codes "table") [] (finds_table arguments asks)) in cc
@@ -243,7 +243,7 @@ if_merge arguments Merge P asks is fact = fact
 if_merge arguments Table P asks is fact = absurd ((is (codes "merge") [] (finds_merge arguments asks)).3 refl)
 if_merge arguments (Session g) P asks is fact =
     let bad : true ≡ false = ap (bytes_eq (codes "merge")) (is (codes "merge") [] (finds_merge arguments asks)).0 in cc
-if_merge arguments (Serve plan) P asks is fact =
+if_merge arguments (Serve options) P asks is fact =
     let bad : true ≡ false = ap (bytes_eq (codes "merge")) (is (codes "merge") [] (finds_merge arguments asks)).0 in cc
 if_merge arguments Replay P asks is fact =
     let bad : true ≡ false = ap (bytes_eq (codes "merge")) (is (codes "merge") [] (finds_merge arguments asks)) in cc
@@ -260,21 +260,21 @@ pub if_session : (rows : List Row) (asked : Asked) (status : ℕ) → IsAsked (c
     → (g : ConfigValue) × IsConfigOf rows 9092 g × ¬ IsValidConfig g
 if_session rows Table status is fact = absurd (is.0 refl)
 if_session rows (Session g) status is fact = λ two. (config_value g, is.1, fact two)
-if_session rows (Serve plan) status is fact = let bad : true ≡ false = ap (bytes_eq (codes "session")) is.0 in cc
+if_session rows (Serve options) status is fact = let bad : true ≡ false = ap (bytes_eq (codes "session")) is.0 in cc
 if_session rows Replay status is fact = let bad : true ≡ false = ap (bytes_eq (codes "session")) is in cc
 if_session rows Merge status is fact = let bad : true ≡ false = ap (bytes_eq (codes "session")) is in cc
 
 pub if_replay : (rows : List Row) (asked : Asked) (P : Type 0) → IsAsked (codes "replay") rows asked → IfReplay asked P → P
 if_replay rows Table P is fact = absurd (is.2 refl)
 if_replay rows (Session g) P is fact = let bad : true ≡ false = ap (bytes_eq (codes "replay")) is.0 in cc
-if_replay rows (Serve plan) P is fact = let bad : true ≡ false = ap (bytes_eq (codes "replay")) is.0 in cc
+if_replay rows (Serve options) P is fact = let bad : true ≡ false = ap (bytes_eq (codes "replay")) is.0 in cc
 if_replay rows Replay P is fact = fact
 if_replay rows Merge P is fact = let bad : true ≡ false = ap (bytes_eq (codes "replay")) is in cc
 
 pub if_serve : (rows : List Row) (asked : Asked) (P : Type 0) → IsAsked (codes "serve") rows asked → IfServe asked P → P
 if_serve rows Table P is fact = absurd (is.1 refl)
 if_serve rows (Session g) P is fact = let bad : true ≡ false = ap (bytes_eq (codes "serve")) is.0 in cc
-if_serve rows (Serve plan) P is fact = fact
+if_serve rows (Serve options) P is fact = fact
 if_serve rows Replay P is fact = let bad : true ≡ false = ap (bytes_eq (codes "serve")) is in cc
 if_serve rows Merge P is fact = let bad : true ≡ false = ap (bytes_eq (codes "serve")) is in cc
 
@@ -284,7 +284,7 @@ pub done_by : (arguments : List Text) (asked : Asked) (status : ℕ) (Help T M :
     → Help ⊎ T ⊎ M ⊎ NamesSession arguments ⊎ NamesReplay arguments
 done_by arguments Table status Help T M table merge serve named done = inr (inl (table done))
 done_by arguments (Session g) status Help T M table merge serve named done = inr (inr (inr (inl named)))
-done_by arguments (Serve plan) status Help T M table merge serve named done = absurd (omega (arith, serve, done))
+done_by arguments (Serve options) status Help T M table merge serve named done = absurd (omega (arith, serve, done))
 done_by arguments Replay status Help T M table merge serve named done = inr (inr (inr (inr named)))
 done_by arguments Merge status Help T M table merge serve named done = inr (inr (inl (merge done)))
 
@@ -313,29 +313,29 @@ replay_fault rows (Topic why) is = absurd (is.2 refl)
 
 -- ---- and where something else than a broker that listens is
 
-pub no_plan : (arguments : List Text) (asked : Asked) (plan : Option Plan) → AsksForOther arguments
+pub no_options : (arguments : List Text) (asked : Asked) (options : Option ServeOptions) → AsksForOther arguments
     → ((name : Text) (rows : List Row) → Finds arguments name rows → IsAsked name rows asked)
-    → ((kinds : Kinds) → Stops arguments kinds → ⊥) → IsPlanOf asked plan → plan ≡ None
-no_plan arguments Table plan asks is stops of = of
-no_plan arguments (Session g) plan asks is stops of = of
-no_plan arguments (Serve p) plan (inl asks) is stops of = absurd (asks.3 (is asks.0 asks.1 asks.2).0)
-no_plan arguments (Serve p) plan (inr stopped) is stops of = absurd (stops stopped.0 stopped.1)
-no_plan arguments Replay plan asks is stops of = of
-no_plan arguments Merge plan asks is stops of = of
+    → ((kinds : Kinds) → Stops arguments kinds → ⊥) → IsOptionsOf asked options → options ≡ None
+no_options arguments Table options asks is stops of = of
+no_options arguments (Session g) options asks is stops of = of
+no_options arguments (Serve p) options (inl asks) is stops of = absurd (asks.3 (is asks.0 asks.1 asks.2).0)
+no_options arguments (Serve p) options (inr stopped) is stops of = absurd (stops stopped.0 stopped.1)
+no_options arguments Replay options asks is stops of = of
+no_options arguments Merge options asks is stops of = of
 
 -- ---- and where one is
 
-pub plan_found : (arguments : List Text) (rows : List Row) (asked : Asked) (plan : Option Plan) → Finds arguments (codes "serve") rows
-    → ((name : Text) (rows : List Row) → Finds arguments name rows → IsAsked name rows asked) → IsPlanOf asked plan
-    → MatchOption plan (¬ HasTopics (topic_words rows)) (IsListener rows)
-plan_found arguments rows Table plan finds is of = absurd ((is (codes "serve") rows finds).1 refl)
-plan_found arguments rows (Session g) plan finds is of =
+pub options_found : (arguments : List Text) (rows : List Row) (asked : Asked) (options : Option ServeOptions) → Finds arguments (codes "serve") rows
+    → ((name : Text) (rows : List Row) → Finds arguments name rows → IsAsked name rows asked) → IsOptionsOf asked options
+    → MatchOption options (¬ HasTopics (topic_words rows)) (IsListener rows)
+options_found arguments rows Table options finds is of = absurd ((is (codes "serve") rows finds).1 refl)
+options_found arguments rows (Session g) options finds is of =
     let bad : true ≡ false = ap (bytes_eq (codes "serve")) (is (codes "serve") rows finds).0 in cc
-plan_found arguments rows (Serve asked) plan finds is of =
-    subst (λ (p : Option Plan). MatchOption p (¬ HasTopics (topic_words rows)) (IsListener rows)) (sym of) (is (codes "serve") rows finds).1
-plan_found arguments rows Replay plan finds is of =
+options_found arguments rows (Serve asked) options finds is of =
+    subst (λ (p : Option ServeOptions). MatchOption p (¬ HasTopics (topic_words rows)) (IsListener rows)) (sym of) (is (codes "serve") rows finds).1
+options_found arguments rows Replay options finds is of =
     let bad : true ≡ false = ap (bytes_eq (codes "serve")) (is (codes "serve") rows finds) in cc
-plan_found arguments rows Merge plan finds is of =
+options_found arguments rows Merge options finds is of =
     let bad : true ≡ false = ap (bytes_eq (codes "serve")) (is (codes "serve") rows finds) in cc
 
 -- where memory isn't short, only a topic is at fault
@@ -345,5 +345,5 @@ pub topic_fault : (arguments : List Text) (rows : List Row) (fault : LineFault) 
 topic_fault arguments rows (Clap error) finds is enough = absurd (enough (is (codes "serve") rows finds))
 topic_fault arguments rows (Topic why) finds is enough = (is (codes "serve") rows finds).3
 
-pub port_found : (rows : List Row) (plan : Plan) → IsListener rows plan → IsPort rows plan.config.port × HasTopics (topic_words rows)
-port_found rows plan is = (subst (IsPort rows) (sym is.config.port_is) is.is_port, (_, is.config.topics))
+pub port_found : (rows : List Row) (options : ServeOptions) → IsListener rows options → IsPort rows options.config.port × HasTopics (topic_words rows)
+port_found rows options is = (subst (IsPort rows) (sym is.config.port_is) is.is_port, (_, is.config.topics))

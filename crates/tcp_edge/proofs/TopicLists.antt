@@ -8,7 +8,7 @@ use Rattle.std.specs.Borrow.{Bor}
 use Rattle.std.specs.Str.Pattern.{RFindsText, SplitsAroundMatch, LacksTextAt}
 use Rattle.std.specs.Str.Parse.{AllDigits, IsNumeral, digits_value, without_leading_plus}
 use Rattle.clap.specs.Words.{Text}
-use Rattle.broker_node.specs.State.{TopicConfig}
+use Rattle.broker_state.specs.State.{TopicConfig}
 use Rattle.tcp_edge.specs.declared.asked.LineFault.{LineFault}
 use Rattle.tcp_edge.specs.declared.asked.LineFault.TheVariants.{Clap, Topic}
 use Rattle.tcp_edge.specs.Asked.{IsConfigFault}

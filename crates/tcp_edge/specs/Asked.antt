@@ -2,26 +2,26 @@
 use Rattle.std.specs.Prelude.{◌≡◌, ◌≢◌, ◌⊎◌, ℕ, List, codes, ⊤, Option, Some, None}
 use Rattle.clap.specs.Words.{HasKind, Kinds, Row, Text, kind_of}
 use Rattle.clap.specs.declared.error.kind.ErrorKind.TheVariants as kind
-use Rattle.broker_node.specs.ConfigValues.{config_value}
-use Rattle.broker_node.specs.State.{ConfigValue}
+use Rattle.broker_state.specs.ConfigValues.{config_value}
+use Rattle.broker_state.specs.State.{ConfigValue}
 use Rattle.tcp_edge.specs.declared.asked.Asked.{Asked}
 use Rattle.tcp_edge.specs.declared.asked.Asked.TheVariants.{Table, Session, Serve, Replay, Merge}
-use Rattle.tcp_edge.specs.declared.asked.Plan.{Plan}
+use Rattle.tcp_edge.specs.declared.asked.ServeOptions.{ServeOptions}
 use Rattle.tcp_edge.specs.declared.asked.LineFault.{LineFault}
 use Rattle.tcp_edge.specs.declared.asked.LineFault.TheVariants.{Clap, Topic}
 use Rattle.tcp_edge.specs.CommandLine.{HasTopics, IsConfigOf, IsPort, IsConnections, Finds, Stops, topic_words}
 
 -- a broker that listens: at first its configuration has the port that was asked for
-pub record IsListener (rows : List Row) (plan : Plan) : Type 0 where
+pub record IsListener (rows : List Row) (options : ServeOptions) : Type 0 where
   pub port : ℕ
   pub is_port : IsPort rows port
-  pub config : IsConfigOf rows port (config_value plan.config)
-  pub connections : IsConnections rows plan.connections
+  pub config : IsConfigOf rows port (config_value options.config)
+  pub connections : IsConnections rows options.connections
 
 abbrev pub IsAsked : Text → List Row → Asked → Type 0
 IsAsked name rows Table = (name ≢ codes "session") × (name ≢ codes "serve") × (name ≢ codes "replay") × (name ≢ codes "merge")
 IsAsked name rows (Session g) = (name ≡ codes "session") × IsConfigOf rows 9092 (config_value g)
-IsAsked name rows (Serve plan) = (name ≡ codes "serve") × IsListener rows plan
+IsAsked name rows (Serve options) = (name ≡ codes "serve") × IsListener rows options
 IsAsked name rows Replay = name ≡ codes "replay"
 IsAsked name rows Merge = name ≡ codes "merge"
 
@@ -29,7 +29,7 @@ IsAsked name rows Merge = name ≡ codes "merge"
 abbrev pub IfNamed : Asked → (Text → Type 0) → Type 0
 IfNamed Table P = ⊤
 IfNamed (Session g) P = P (codes "session")
-IfNamed (Serve plan) P = ⊤
+IfNamed (Serve options) P = ⊤
 IfNamed Replay P = P (codes "replay")
 IfNamed Merge P = P (codes "merge")
 
@@ -55,7 +55,7 @@ IfMerge asked P = ⊤
 
 -- a fact, where a broker that listens is
 abbrev pub IfServe : Asked → Type 0 → Type 0
-IfServe (Serve plan) P = P
+IfServe (Serve options) P = P
 IfServe asked P = ⊤
 
 -- there was no memory to look at the arguments
@@ -95,12 +95,12 @@ IsFaulty name rows (Topic why) =
     (name ≢ codes "table") × (name ≢ codes "merge") × (name ≢ codes "replay") × ¬ HasTopics (topic_words rows)
 
 -- the broker that listens, where one is asked for
-abbrev pub IsPlanOf : Asked → Option Plan → Type 0
-IsPlanOf Table plan = plan ≡ None
-IsPlanOf (Session g) plan = plan ≡ None
-IsPlanOf (Serve asked) plan = plan ≡ Some asked
-IsPlanOf Replay plan = plan ≡ None
-IsPlanOf Merge plan = plan ≡ None
+abbrev pub IsOptionsOf : Asked → Option ServeOptions → Type 0
+IsOptionsOf Table options = options ≡ None
+IsOptionsOf (Session g) options = options ≡ None
+IsOptionsOf (Serve asked) options = options ≡ Some asked
+IsOptionsOf Replay options = options ≡ None
+IsOptionsOf Merge options = options ≡ None
 
 -- the arguments ask for something else than a broker that listens, or clap stops at them
 abbrev pub AsksForOther : List Text → Type 0

@@ -3,9 +3,9 @@ use Rattle.std.specs.Prelude.{◌≡◌, ◌≢◌, ◌⊎◌, ℕ, ◌<◌, ◌
 use Rattle.std.specs.Borrow.{Bor}
 use Rattle.std.specs.Option.{option_map_or}
 use Rattle.std.specs.Str.Parse.{IsNumeral, digits_value, without_leading_plus}
-use Rattle.broker_node.specs.State.{ConfigValue, TopicConfig}
-use Rattle.broker_node.specs.declared.config.Role.{Role}
-use Rattle.broker_node.specs.declared.config.Role.TheVariants.{Leader, Follower}
+use Rattle.broker_state.specs.State.{ConfigValue, TopicConfig}
+use Rattle.broker_state.specs.declared.config.Role.{Role}
+use Rattle.broker_state.specs.declared.config.Role.TheVariants.{Leader, Follower}
 use Rattle.clap.specs.Lexer.{usize_max}
 use Rattle.clap.specs.Words.{App, IsAmong, Kinds, Row, Rule, Shape, Text, AddsSubcommand, app_of, new_app, new_rule, with_rule, with_subcommand, first_of, one_of, all_of, fault_of, subcommand_of}
 use Rattle.clap.specs.declared.builder.command.Command.{Command}

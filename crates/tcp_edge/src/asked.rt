@@ -2,9 +2,9 @@
 
 ghost use Rattle.std.specs.Prelude.{◌≡◌, ◌≢◌, ℕ, pos, List, Some, IfOk, IfErr, IsErrAnd, MatchResult, codes, map};
 ghost use Rattle.std.specs.Bool.{MatchBool};
-ghost use Rattle.broker_node.specs.ConfigValues.{config_value};
+ghost use Rattle.broker_state.specs.ConfigValues.{config_value};
 ghost use Rattle.clap.specs.Words.{Kinds, Row, Text, found_of, rows_of, subcommand_name_of, subcommand_rows_of};
-ghost use Rattle.tcp_edge.specs.Asked.{IfNamed, IsAsked, IsConfigFault, IsFaulty, IsListener, IsOutOfMemory, IsPlanOf, IsStop};
+ghost use Rattle.tcp_edge.specs.Asked.{IfNamed, IsAsked, IsConfigFault, IsFaulty, IsListener, IsOutOfMemory, IsOptionsOf, IsStop};
 ghost use Rattle.tcp_edge.specs.CommandLine.{Finds, IsConfigOf, IsConnections, IsPort, Names, Stops, role_of, topic_words};
 
 use crate::commands::command;
@@ -33,7 +33,7 @@ pub(crate) enum Asked {
     /// The replies to a stream of requests, by a broker of this configuration.
     Session(Config<Global>),
     /// A broker that listens.
-    Serve(Plan),
+    Serve(ServeOptions),
     /// What comes of a script's lines.
     Replay,
     /// Two images merged.
@@ -42,7 +42,7 @@ pub(crate) enum Asked {
 
 /// A broker that listens, at the port of its configuration.
 #[derive(Drop)]
-pub(crate) struct Plan {
+pub(crate) struct ServeOptions {
     pub(crate) config: Config<Global>,
     /// How many connections it serves.
     pub(crate) connections: u32,
@@ -59,11 +59,11 @@ pub(crate) enum LineFault {
 
 impl Asked {
     /// The broker that listens, if one was asked for.
-    pub(crate) fn plan(self) -> Option<Plan>
-        ensures { IsPlanOf self result }
+    pub(crate) fn serve_options(self) -> Option<ServeOptions>
+        ensures { IsOptionsOf self result }
     {
         match self {
-            Asked::Serve(plan) => Some(plan),
+            Asked::Serve(options) => Some(options),
             Asked::Table => None,
             Asked::Session(_config) => None,
             Asked::Replay | Asked::Merge => None,
@@ -137,14 +137,14 @@ fn connections_of(matches: &ArgMatches<'_>) -> u32
 }
 
 /// A broker that listens.
-fn plan_of(alloc: Global, matches: &ArgMatches<'_>) -> Result<Plan, LineFault>
-    ensures plan { IfOk result (IsListener (rows_of (found_of matches.now))) }
+fn serve_options_of(alloc: Global, matches: &ArgMatches<'_>) -> Result<ServeOptions, LineFault>
+    ensures options { IfOk result (IsListener (rows_of (found_of matches.now))) }
     ensures fault { IfErr result (IsConfigFault (topic_words (rows_of (found_of matches.now)))) }
 {
     let port = port_of(matches);
     let connections = connections_of(matches);
     let config = config_of(alloc, matches, port)?;
-    Ok(Plan {
+    Ok(ServeOptions {
         config,
         connections,
     })
@@ -182,7 +182,7 @@ fn asked_by(alloc: Global, matches: &ArgMatches<'_>) -> Result<Asked, LineFault>
         None => {}
     }
     match matches.subcommand_matches("serve") {
-        Some(inner) => Ok(Asked::Serve(plan_of(alloc, inner)?)),
+        Some(inner) => Ok(Asked::Serve(serve_options_of(alloc, inner)?)),
         None => Ok(asked_plainly(matches)),
     }
 }

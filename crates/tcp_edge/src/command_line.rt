@@ -2,8 +2,8 @@
 
 ghost use Rattle.std.specs.Prelude.{◌≡◌, ◌≢◌, ◌≤◌, ◌⊎◌, ℕ, List, None, IfOk, MatchOption, codes, map};
 ghost use Rattle.batch_codec.specs.Values.{BatchValue};
-ghost use Rattle.broker_node.specs.Configs.{IsValidConfig};
-ghost use Rattle.broker_node.specs.State.{ConfigValue};
+ghost use Rattle.broker_state.specs.Configs.{IsValidConfig};
+ghost use Rattle.broker_state.specs.State.{ConfigValue};
 ghost use Rattle.clap.specs.Words.{Row, kind_of};
 ghost use Rattle.image_merge.specs.declared.error.MergeFault.{MergeFault};
 ghost use Rattle.tcp_edge.specs.Asked.{AsksForOther, IfMerge, IfReplay, IfServe, IfSession, IfTable, IsHelp, IsListener, IsMistake, IsNoTopic, IsOutOfMemory};
@@ -13,7 +13,7 @@ ghost use Rattle.subcommands.specs.Merges.{PrintsMerge, ReadsImages, RefusesImag
 ghost use Rattle.subcommands.specs.Refused.{RefusesStream};
 ghost use Rattle.subcommands.specs.Tables.{ReadsLog, PrintsTable};
 
-use crate::asked::{Asked, LineFault, Plan, parse};
+use crate::asked::{Asked, LineFault, ServeOptions, parse};
 use crate::serving::listen;
 use broker_core::SessionError;
 use clap::Error;
@@ -23,8 +23,8 @@ use std::convert::AsStr;
 use std::io::{Read, Write};
 use std::net::TcpListener;
 use subcommands::{
-    DONE, FAILED, FAULTY, NO_MEMORY, SessionFault, fail, refuse, run_merge, run_replay,
-    run_session, run_subcommand,
+    DONE, FAILED, FAULTY, NO_MEMORY, SessionFault, fail_session, refuse_configuration, run_merge,
+    run_replay, run_session, run_table_subcommand,
 };
 
 /// Prints what `clap` says of the arguments, and answers the status.
@@ -68,7 +68,7 @@ fn refuse_line<W: Write, E: Write>(why: &LineFault, out: &mut W, err: &mut E) ->
 {
     match why {
         LineFault::Clap(error) => explain(error, out, err),
-        LineFault::Topic(fault) => refuse(*fault, err),
+        LineFault::Topic(fault) => refuse_configuration(*fault, err),
     }
 }
 
@@ -115,7 +115,7 @@ fn run_asked<R: Read, W: Write, E: Write>(
         × (err.new ≡ err.old)) }
 {
     match asked {
-        Asked::Table => run_subcommand(alloc, reader, out, err),
+        Asked::Table => run_table_subcommand(alloc, reader, out, err),
         Asked::Session(config) => run_session(alloc, config, reader, out, err),
         Asked::Replay => run_replay(alloc, reader, out, err),
         Asked::Merge => run_merge(alloc, reader, out, err),
@@ -207,14 +207,17 @@ pub fn run_line<S: AsStr, R: Read, W: Write, E: Write>(
 }
 
 /// What the arguments ask of a broker that listens, if they ask for one.
-#[tactic(auto, using(crate::proofs::Arguments::plan_found, crate::proofs::Arguments::topic_fault))]
-fn plan_asked<S: AsStr>(alloc: Global, arguments: &[S]) -> Result<Option<Plan>, AllocError>
-    ensures other { AsksForOther (map S.text arguments.now) → IfOk result (λ plan. plan ≡ None) }
+#[tactic(auto, using(crate::proofs::Arguments::options_found, crate::proofs::Arguments::topic_fault))]
+fn options_asked<S: AsStr>(
+    alloc: Global,
+    arguments: &[S],
+) -> Result<Option<ServeOptions>, AllocError>
+    ensures other { AsksForOther (map S.text arguments.now) → IfOk result (λ options. options ≡ None) }
     ensures serve { (rows : List Row) → Finds (map S.text arguments.now) (codes "serve") rows
-        → IfOk result (λ plan. MatchOption plan (¬ HasTopics (topic_words rows)) (IsListener rows)) }
+        → IfOk result (λ options. MatchOption options (¬ HasTopics (topic_words rows)) (IsListener rows)) }
 {
     match parse(alloc, arguments) {
-        Ok(asked) => Ok(asked.plan()),
+        Ok(asked) => Ok(asked.serve_options()),
         Err(why) => {
             if why.is_out_of_memory() {
                 return Err(AllocError);
@@ -238,8 +241,8 @@ pub fn serve_port<S: AsStr>(alloc: Global, arguments: &[S]) -> Result<Option<u16
         → IfOk result (λ port. MatchOption port (¬ HasTopics (topic_words rows))
         (λ port. IsPort rows port × HasTopics (topic_words rows))) }
 {
-    match plan_asked(alloc, arguments)? {
-        Some(plan) => Ok(Some(plan.config.port)),
+    match options_asked(alloc, arguments)? {
+        Some(options) => Ok(Some(options.config.port)),
         None => Ok(None),
     }
 }
@@ -266,9 +269,9 @@ pub fn run_serve<S: AsStr, W: Write, E: Write>(
         → Finds (map S.text arguments.now) (codes "serve") rows → ¬ HasTopics (topic_words rows)
         → result ≡ 2 → err.new ≡ err.old }
 {
-    match plan_asked(alloc, arguments) {
-        Ok(Some(plan)) => listen(alloc, listener, plan, out, err),
+    match options_asked(alloc, arguments) {
+        Ok(Some(options)) => listen(alloc, listener, options, out, err),
         Ok(None) => FAULTY,
-        Err(_) => fail(&SessionFault::Stopped(SessionError::OutOfMemory), err),
+        Err(_) => fail_session(&SessionFault::Stopped(SessionError::OutOfMemory), err),
     }
 }

@@ -1,12 +1,12 @@
 //! A broker that listens: connections are served one after the other.
 
 ghost use Rattle.std.specs.Prelude.{◌≡◌, ◌≤◌, IfOk, IfErr};
-ghost use Rattle.broker_node.specs.Configs.{ConfigFault};
-ghost use Rattle.broker_node.specs.ConfigValues.{config_value};
-ghost use Rattle.broker_node.specs.State.{new_state};
+ghost use Rattle.broker_state.specs.Configs.{ConfigFault};
+ghost use Rattle.broker_state.specs.ConfigValues.{config_value};
+ghost use Rattle.broker_state.specs.State.{new_state};
 ghost use Rattle.tcp_edge.specs.CommandLine.{at_port};
 
-use crate::asked::Plan;
+use crate::asked::ServeOptions;
 use crate::connection::{Connection, Replies, Requests};
 use broker_core::{Config, ConfigError, Ended, Node, SessionError, serve};
 use segment::VecStore;
@@ -14,7 +14,7 @@ use std::alloc::Global;
 use std::io::{Result as IoResult, Write};
 use std::net::{TcpListener, TcpStream};
 use streams::{Sink, Source};
-use subcommands::{DONE, SessionFault, fail, refuse};
+use subcommands::{DONE, SessionFault, fail_session, refuse_configuration};
 
 /// What a connection's line calls the end of it that is none of its input's.
 fn name_of(why: &SessionError) -> &'static str {
@@ -96,11 +96,11 @@ fn announce<W: Write>(port: u16, out: &mut W) -> IoResult<()> {
     out.flush()
 }
 
-/// Carries a plan out at the port that the listener has, and answers the status.
+/// Serves connections at the port that the listener has, as the options say, and answers the status.
 pub(crate) fn listen<W: Write, E: Write>(
     alloc: Global,
     listener: &TcpListener,
-    plan: Plan,
+    options: ServeOptions,
     out: &mut W,
     err: &mut E,
 ) -> u8
@@ -108,17 +108,17 @@ pub(crate) fn listen<W: Write, E: Write>(
 {
     let port = match listener.local_addr() {
         Ok(address) => address.port(),
-        Err(_) => return fail(&SessionFault::Stopped(SessionError::Read), err),
+        Err(_) => return fail_session(&SessionFault::Stopped(SessionError::Read), err),
     };
-    let mut node = match node_at(alloc, plan.config, port) {
+    let mut node = match node_at(alloc, options.config, port) {
         Ok(node) => node,
-        Err(why) => return refuse(why, err),
+        Err(why) => return refuse_configuration(why, err),
     };
     if announce(port, out).is_err() {
-        return fail(&SessionFault::Stopped(SessionError::Write), err);
+        return fail_session(&SessionFault::Stopped(SessionError::Write), err);
     }
-    match serve_connections(alloc, &mut node, listener, plan.connections, out) {
+    match serve_connections(alloc, &mut node, listener, options.connections, out) {
         Ok(()) => DONE,
-        Err(why) => fail(&SessionFault::Stopped(why), err),
+        Err(why) => fail_session(&SessionFault::Stopped(why), err),
     }
 }

@@ -1,7 +1,7 @@
 //! Topics as they stand on the command line: `TOPIC:N`.
 
 ghost use Rattle.std.specs.Prelude.{IfOk, IfErr, OnOk, OnErr, [], ◌∷◌, map};
-ghost use Rattle.broker_node.specs.ConfigValues.{topic_config};
+ghost use Rattle.broker_state.specs.ConfigValues.{topic_config};
 ghost use Rattle.tcp_edge.specs.Asked.{IsConfigFault};
 ghost use Rattle.tcp_edge.specs.CommandLine.{IsTopic, AddsTopic, AreTopics, HasTopics};
 

@@ -1,4 +1,4 @@
-use Rattle.broker_node.proofs.AppendFaults.{refusal_is_fault, new_has_no_fault, repeat_has_no_fault}
+use Rattle.broker_state.proofs.AppendFaults.{refusal_is_fault, new_has_no_fault, repeat_has_no_fault}
 use Rattle.broker_laws.proofs.laws.append_faults.Goals as goal
 
 pub returns-clause-refusal_is_fault : goal.returns-clause-refusal_is_fault

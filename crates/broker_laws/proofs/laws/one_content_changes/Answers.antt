@@ -1,5 +1,5 @@
 use Rattle.std.proofs.Common.{refl}
-use Rattle.broker_node.proofs.OneContent.{with_same, with_unknown, other_index, other_name}
+use Rattle.broker_state.proofs.OneContent.{with_same, with_unknown, other_index, other_name}
 use Rattle.broker_laws.proofs.laws.one_content_changes.Goals as goal
 
 pub returns-clause-same : goal.returns-clause-same

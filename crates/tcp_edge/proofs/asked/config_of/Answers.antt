@@ -1,6 +1,6 @@
 use Rattle.std.proofs.Common.{rules, refl, subst, codes, List, map, ◌∙◌, ◌≡◌}
 use Rattle.clap.specs.Words.{Text, found_of, rows_of}
-use Rattle.broker_node.specs.ConfigValues.{topic_config}
+use Rattle.broker_state.specs.ConfigValues.{topic_config}
 use Rattle.tcp_edge.specs.CommandLine.{AreTopics, topic_words}
 use Rattle.tcp_edge.specs.Asked.{IsConfigFault}
 use Rattle.tcp_edge.proofs.Arguments.{words_found, all_rows}

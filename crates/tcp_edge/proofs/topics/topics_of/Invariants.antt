@@ -1,5 +1,5 @@
 use Rattle.std.proofs.Common.{map, take}
-use Rattle.broker_node.specs.ConfigValues.{topic_config}
+use Rattle.broker_state.specs.ConfigValues.{topic_config}
 use Rattle.tcp_edge.specs.CommandLine.{AreTopics}
 use Rattle.tcp_edge.proofs.topics.topics_of.Given as goal
 

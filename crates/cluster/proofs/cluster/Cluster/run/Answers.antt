@@ -1,6 +1,7 @@
 use Rattle.std.proofs.Common.{ℕ, ◌+◌, ◌≤◌, length, sym, ap, subst, ◌∙◌}
 use Rattle.cluster.proofs.EventLists.{none_run, one_more, all_run}
 use Rattle.cluster.proofs.Headlines.{headline_of}
+use Rattle.cluster.proofs.OnTheWay.{on_the_way}
 use Rattle.cluster.proofs.cluster.Cluster.run.Goals as goal
 
 pub loop-event-init : goal.loop-event-init
@@ -19,3 +20,8 @@ returns-clause-runs g c = all_run c.args.self.now c.loop-event.self c.args.event
 
 pub returns-clause-headline : goal.returns-clause-headline
 returns-clause-headline g c = headline_of c.loop-event.self c.know_consistent-2.ensures
+
+pub returns-clause-headline_on_the_way : goal.returns-clause-headline_on_the_way
+returns-clause-headline_on_the_way g c =
+    on_the_way c.args.self.now c.args.events.now c.loop-event.results.items c.loop-event.self c.know_consistent.ensures
+    (all_run c.args.self.now c.loop-event.self c.args.events.now c.loop-event.event-index c.loop-event.results.items c.loop-event-test.false c.loop-event.invariant.0)

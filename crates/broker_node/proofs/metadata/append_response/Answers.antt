@@ -1,6 +1,0 @@
-use Rattle.std.proofs.Common.{rules}
-use Rattle.broker_node.proofs.Written.{size_is_there}
-use Rattle.broker_node.proofs.metadata.append_response.Goals as goal
-
-pub finish_response-requires : goal.finish_response-requires
-finish_response-requires g c = size_is_there c.args.out.now.items c.put_response.new.out.items _ _ _ _ c.in-Ok.ensures.appends (search rules) (search rules)

@@ -1,0 +1,10 @@
+pub mod AppendFaults
+pub mod LogAppends
+pub mod OneContent
+pub mod Names
+pub mod NewTopics
+pub mod NewStates
+pub mod OwnContent
+pub mod PlacedTopics
+pub mod NumberedPartitions
+pub mod Shapes

@@ -1,0 +1,19 @@
+-- The checks of an entry that names a partition: that the broker has it, and that the broker leads it. Kafka's
+-- documentation, "Protocol Guide", section "Error Codes".
+use Rattle.std.specs.Prelude.{ℕ, ℤ, not, List, Option, Some, None}
+use Rattle.answering.specs.declared.codes.ErrorCode.{ErrorCode}
+use Rattle.answering.specs.declared.codes.ErrorCode.TheVariants.{UnknownTopicOrPartition, NotLeader}
+use Rattle.answering.specs.Lists.{fault_if}
+use Rattle.broker_state.specs.declared.config.Role.{Role}
+use Rattle.broker_state.specs.declared.config.Role.TheVariants.{Leader, Follower}
+use Rattle.broker_state.specs.State.{State, is_known}
+
+abbrev pub unknown : State → List ℕ → ℤ → Option ErrorCode
+unknown s name p = fault_if (not (is_known s name p)) UnknownTopicOrPartition
+
+abbrev pub role_code : Role → Option ErrorCode
+role_code Leader = None
+role_code Follower = Some NotLeader
+
+abbrev pub not_leader : State → Option ErrorCode
+not_leader s = role_code s.config.role

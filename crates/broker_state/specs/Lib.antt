@@ -1,0 +1,12 @@
+-- Read in this order; each module uses only those above it.
+pub mod Codes
+pub mod State
+pub mod Checks
+pub mod Configs
+pub mod Batches
+pub mod Places
+pub mod Appending
+pub mod Partitions
+pub mod ConfigValues
+pub mod Taken
+pub mod Parts

@@ -1,0 +1,198 @@
+//! What a broker holds: its configuration, and the partitions of its topics.
+
+ghost use Rattle.std.specs.Prelude.{◌≡◌, ◌≤◌, ◌+◌, ℕ, ℤ, List, [], ◌∷◌, Some, None, IfOk, IfErr, IfSome, IfNone, map, length};
+ghost use Rattle.std.specs.List.{All};
+ghost use Rattle.std.specs.Option.{option_map};
+ghost use Rattle.answering.specs.Lists.{first_some};
+ghost use Rattle.broker_state.specs.State.{new_state, topic_of, partition_at};
+ghost use Rattle.broker_state.specs.Places.{IsPlaceOf, IsPlace};
+ghost use Rattle.broker_state.specs.Checks.{unknown, not_leader};
+ghost use Rattle.broker_state.specs.Appending.{AppendsAt};
+ghost use Rattle.broker_state.specs.declared.config.Role.TheVariants.{Leader};
+ghost use Rattle.broker_state.specs.Configs.{IsValidConfig, ConfigFault};
+ghost use Rattle.broker_state.specs.ConfigValues.{config_value};
+ghost use Rattle.broker_state.specs.Parts.{topic_contents};
+
+use crate::config::{Config, Role};
+use crate::error::ConfigError;
+use crate::judging::config_fault;
+use crate::limits::{MAX_PARTITIONS, MAX_TOPICS};
+use crate::new_topics::new_topics;
+use crate::place::Place;
+use crate::topic::{TopicLogs, topic_index};
+use answering::ErrorCode;
+use batch_codec::BatchView;
+use partition_log::{AppendError, Appended, PartitionLog};
+use segment::BatchStore;
+use std::marker::Model;
+
+/// What a broker holds: its configuration, and the partitions of its topics.
+#[derive(Drop)]
+pub struct BrokerState<S: BatchStore> {
+    config: Config<S::Alloc>,
+    topics: Vec<TopicLogs<S>, S::Alloc>,
+}
+
+impl<S: BatchStore> Model for BrokerState<S> {
+    ghost use Rattle.std.specs.Prelude.{map};
+    ghost use Rattle.answering.specs.Lists.{first_some};
+    ghost use Rattle.broker_state.specs.State.{State};
+    ghost use Rattle.broker_state.specs.Configs.{IsValidConfig};
+    ghost use Rattle.broker_state.specs.ConfigValues.{config_value};
+    ghost use Rattle.broker_state.specs.Parts.{AreTopicsOf, topic_contents};
+
+    ghost Value = { State };
+
+    ghost view = { λ n. record { config = config_value n.config; topics = map topic_contents n.topics.items } };
+
+    ghost invariant = { λ n. IsValidConfig (config_value n.config)
+        × AreTopicsOf (config_value n.config) n.topics.items };
+}
+
+impl<S: BatchStore> BrokerState<S> {
+    /// What a new broker of this configuration holds. Every partition is empty; the group topic comes beside the
+    /// topics of the configuration.
+    ///
+    /// # Errors
+    ///
+    /// The first fault of the configuration, in the order of `ConfigError`; `OutOfMemory` where it has
+    /// none, and there is no memory for its topics.
+    pub fn new(alloc: S::Alloc, config: Config<S::Alloc>) -> Result<BrokerState<S>, ConfigError>
+        ensures valid { IfOk result (λ _. IsValidConfig (config_value config)) }
+        ensures is_new { IfOk result (λ state. state ≡ new_state (config_value config)) }
+        ensures refuses { IfErr result (ConfigFault (config_value config)) }
+    {
+        match config_fault(&config) {
+            Some(fault) => return Err(fault),
+            None => {}
+        }
+        match new_topics(alloc, &config) {
+            Ok(topics) => Ok(BrokerState { config, topics }),
+            Err(_) => Err(ConfigError::OutOfMemory),
+        }
+    }
+
+    /// The place of a topic's partition; none of a topic that isn't configured, or that has no such
+    /// partition. It takes no memory.
+    pub fn place_of(&self, topic: &[u8], partition: i32) -> Option<Place>
+        ensures found { IfSome result (IsPlaceOf self.now topic.now partition) }
+        ensures unknown { IfNone result (partition_at self.now topic.now partition ≡ None) }
+    {
+        let Some(index) = topic_index(&self.topics, topic) else {
+            return None;
+        };
+        match self.topics[index].partition_index(partition) {
+            Some(number) => Some(Place {
+                topic: index,
+                partition: number,
+            }),
+            None => None,
+        }
+    }
+
+    /// The copy at a place.
+    pub fn copy_at(&self, place: Place) -> &PartitionLog<S>
+        requires { IsPlace self.now place }
+        ensures { (name : List ℕ) (p : ℤ) → IsPlaceOf self.now name p place
+            → partition_at self.now name p ≡ Some result.now }
+    {
+        self.topics[place.topic].partition_copy(place.partition)
+    }
+
+    /// The copy of a topic's partition; none of a topic that isn't configured, or that has no such
+    /// partition. It takes no memory.
+    pub fn log(&self, topic: &[u8], partition: i32) -> Option<&PartitionLog<S>>
+        ensures { option_map (λ log. log.now) result
+            ≡ partition_at self.now topic.now partition }
+    {
+        match self.place_of(topic, partition) {
+            Some(place) => Some(self.copy_at(place)),
+            None => None,
+        }
+    }
+
+    /// The copy of a partition that the broker leads. It takes no memory.
+    ///
+    /// # Errors
+    ///
+    /// `UnknownTopicOrPartition`, or else `NotLeader`.
+    pub fn led_copy(&self, topic: &[u8], partition: i32) -> Result<&PartitionLog<S>, ErrorCode>
+        ensures is_there { IfOk result (λ log. partition_at self.now topic.now partition ≡ Some log.now) }
+        ensures leads { IfOk result (λ _. not_leader self.now ≡ None) }
+        ensures refuses { IfErr result (λ code.
+            first_some (unknown self.now topic.now partition ∷ not_leader self.now ∷ []) ≡ Some code) }
+    {
+        match (self.log(topic, partition), self.role()) {
+            (None, _) => Err(ErrorCode::UnknownTopicOrPartition),
+            (Some(_), Role::Follower) => Err(ErrorCode::NotLeader),
+            (Some(log), Role::Leader) => Ok(log),
+        }
+    }
+
+    /// What the broker is to its partitions.
+    pub fn role(&self) -> Role
+        ensures { result ≡ self.now.config.role }
+    {
+        self.config.role
+    }
+
+    /// Appends a batch to the partition at a place, which the broker leads.
+    ///
+    /// # Errors
+    ///
+    /// The first fault of the batch; nothing changes.
+    pub fn append_at(
+        &mut self,
+        place: Place,
+        batch: &BatchView<'_>,
+    ) -> Result<Appended, AppendError>
+        requires is_place { IsPlace self.old place }
+        requires leads { self.old.config.role ≡ Leader }
+        ensures { (name : List ℕ) (p : ℤ) → IsPlaceOf self.old name p place
+            → AppendsAt self.old name p batch.now result self.new }
+    {
+        self.topics[place.topic].extend_partition(place.partition, batch)
+    }
+
+    /// The broker's number.
+    pub fn node_id(&self) -> i32
+        ensures { result ≡ self.now.config.node_id }
+    {
+        self.config.node_id
+    }
+
+    /// The host at which clients reach the broker.
+    pub fn host(&self) -> &[u8]
+        ensures { result.now ≡ self.now.config.host }
+    {
+        self.config.host.as_bytes()
+    }
+
+    /// The port at which clients reach the broker.
+    pub fn port(&self) -> u16
+        ensures { result ≡ self.now.config.port }
+    {
+        self.config.port
+    }
+
+    /// The topics, that of the groups last.
+    #[tactic(auto, using(crate::proofs::Shapes::few_topics, crate::proofs::Shapes::few_partitions))]
+    pub fn topics(&self) -> &[TopicLogs<S>]
+        ensures topics { map topic_contents result.now ≡ self.now.topics }
+        ensures few { length result.now ≤ MAX_TOPICS + 1 }
+        ensures few_partitions { All (λ t. length t.partitions ≤ MAX_PARTITIONS) result.now }
+    {
+        &self.topics
+    }
+
+    /// The topic of a name.
+    pub fn topic(&self, name: &[u8]) -> Option<&TopicLogs<S>>
+        ensures is_there { option_map (λ t. topic_contents t.now) result ≡ topic_of self.now name.now }
+        ensures few_partitions { IfSome result (λ t. length t.now.partitions ≤ MAX_PARTITIONS) }
+    {
+        match topic_index(&self.topics, name) {
+            Some(index) => Some(&self.topics[index]),
+            None => None,
+        }
+    }
+}

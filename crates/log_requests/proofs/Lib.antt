@@ -1,0 +1,10 @@
+pub mod Written
+pub mod ProduceBatches
+pub mod ProduceEntries
+pub mod ProduceReplies
+pub mod FetchRuns
+pub mod FetchEntries
+pub mod FetchReplies
+pub mod ListOffsetsReplies
+pub mod MetadataNames
+pub mod MetadataTopics

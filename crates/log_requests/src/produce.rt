@@ -1,0 +1,91 @@
+//! Produce: batches that are stored in partitions.
+
+ghost use Rattle.std.specs.Prelude.{◌≡◌, OnOk, OnErr};
+ghost use Rattle.request_frames.specs.Produce.{produce_view};
+ghost use Rattle.answering.specs.Responding.{RespondsBy};
+ghost use Rattle.log_requests.specs.Produce.{produce_plan};
+
+mod entry;
+
+use crate::produce::entry::produce_entry;
+use answering::{Answers, respond, response_room};
+use broker_state::BrokerState;
+use request_frames::{ProducePartition, ProduceRequest};
+use responses::produce::{PRODUCE_TAIL_BYTES, PRODUCED_PARTITION_BYTES, put_produced_partition};
+use segment::BatchStore;
+use std::alloc::{AllocError, Allocator};
+
+/// A Produce request, whose entries store batches in what a broker holds.
+#[derive(Drop)]
+struct Storing<'q, 'r> {
+    request: &'q ProduceRequest<'r>,
+}
+
+impl<'a, 'q, 'r, S: BatchStore> Answers<ProducePartition<'a>, BrokerState<S>> for Storing<'q, 'r> {
+    ghost use Rattle.std.specs.Prelude.{Some};
+    ghost use Rattle.std.specs.Option.{option_map};
+    ghost use Rattle.responses.specs.declared.produce.partition.TheConstants.{PRODUCED_PARTITION_BYTES};
+    ghost use Rattle.responses.specs.declared.produce.partition.ProducedPartition.{ProducedPartition};
+    ghost use Rattle.frame_fields.specs.Reading.{nothing};
+    ghost use Rattle.request_frames.specs.Produce.{produce_partition_value, produce_view};
+    ghost use Rattle.responses.specs.Produce.{produced_bytes};
+    ghost use Rattle.answering.specs.Work.{MayAnswer};
+    ghost use Rattle.log_requests.specs.Produce.{produce_work};
+
+    ghost Answered = { ProducedPartition };
+
+    ghost bytes = { produced_bytes };
+
+    ghost answers = { λ asked s name e r after. MayAnswer (produce_work s (produce_view asked.request.now) name
+        (produce_partition_value (e.index, (option_map (λ bytes. bytes.now) e.records, nothing)))) s r after };
+
+    ghost size = { Some PRODUCED_PARTITION_BYTES };
+
+    fn put<A: Allocator + Copy>(
+        &self,
+        state: &mut BrokerState<S>,
+        topic: &[u8],
+        entry: ProducePartition<'a>,
+        out: &mut Vec<u8, A>,
+    ) -> Result<(), AllocError> {
+        put_produced_partition(out, produce_entry(state, self.request, topic, &entry))
+    }
+}
+
+/// Stores the batches of a Produce request in their partitions, and appends the response to the output,
+/// unless the request asks for none. Its room is taken before anything changes.
+///
+/// A partition's log that has no memory for a batch is as it was, the batch's own answer is the error
+/// code of a storage error, and the request's other batches are stored.
+///
+/// # Errors
+///
+/// `AllocError` where there is no memory for the response; then no batch was stored, and the output is
+/// as before.
+pub fn reply_to_produce<S: BatchStore, A: Allocator + Copy>(
+    state: &mut BrokerState<S>,
+    correlation: i32,
+    request: &ProduceRequest<'_>,
+    out: &mut Vec<u8, A>,
+) -> Result<(), AllocError>
+    ensures responds { OnOk result (RespondsBy (produce_plan state.old correlation (produce_view request.now))
+        out.old.items out.new.items state.new) }
+    ensures unchanged_on_error { OnErr result
+        ((state.new ≡ state.old) × (out.new.items ≡ out.old.items)) }
+{
+    let topics = &request.topics;
+    let Some(room) = response_room(PRODUCED_PARTITION_BYTES, PRODUCE_TAIL_BYTES, topics) else {
+        return Err(AllocError);
+    };
+    let start = out.len();
+    out.reserve(room)?;
+    let asked = Storing { request };
+    let tail = [0; PRODUCE_TAIL_BYTES];
+    let Ok(()) = respond(&asked, state, correlation, &[], topics, &tail, out) else {
+        unreachable!()
+    };
+    if request.acks == 0 {
+        out.truncate(start);
+    }
+    Ok(())
+}
