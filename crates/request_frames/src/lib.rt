@@ -13,8 +13,8 @@ mod produce;
 pub use api::Api;
 pub use fetch::{FetchPartition, FetchRequest};
 pub use frame_fields::{
-    Array, Element, FieldFault, FrameError, MAX_FRAME, MAX_TOPIC_NAME, Name, Topic, fields_once,
-    frames_once, is_topic_name, take_frame,
+    Array, Element, FieldFault, FrameError, MAX_FRAME, MAX_TOPIC_NAME, Name, Topic, Topics,
+    fields_once, frames_once, is_topic_name, take_frame,
 };
 pub use laws::one_outcome;
 pub use list_offsets::{ListOffsetsPartition, ListOffsetsRequest};
