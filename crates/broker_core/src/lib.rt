@@ -7,8 +7,8 @@
 //! `Streams` of `broker_node`; read it before `specs/Sessions.antt`.
 #![tactic(auto)]
 
-mod answering;
 mod receiving;
+mod replying;
 mod session;
 
 pub use broker_laws::{

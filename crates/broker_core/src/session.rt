@@ -3,8 +3,8 @@
 ghost use Rattle.std.specs.Prelude.{◌≡◌, ◌+◌, ◌^◌, ◌≤◌, false, IfOk, IfErr, IsErrOf};
 ghost use Rattle.broker_core.specs.Sessions.{EndsAs, StopsAs};
 
-use crate::answering::answer_held;
 use crate::receiving::read_more;
+use crate::replying::answer_held;
 use broker_node::Node;
 use bytes::BytesMut;
 use frame_fields::FrameError;

@@ -1,6 +1,6 @@
 use Rattle.std.proofs.Common.{length}
 use Rattle.broker_core.specs.SessionSteps.{AnswersFront}
-use Rattle.broker_core.proofs.answering.answer_held.Given as goal
+use Rattle.broker_core.proofs.replying.answer_held.Given as goal
 
 -- the frames so far are answered, and the others are held
 abbrev pub invariant-loop-index : goal.invariant-loop-index

@@ -1,6 +1,6 @@
 use Rattle.std.proofs.lemmas.Bool.{MatchBool-at_true}
 use Rattle.broker_core.proofs.ServedFrames.{next_fits}
-use Rattle.broker_core.proofs.answering.answer_held.Goals as goal
+use Rattle.broker_core.proofs.replying.answer_held.Goals as goal
 
 pub overflow_add-index : goal.overflow_add-index
 overflow_add-index g c =
