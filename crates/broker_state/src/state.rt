@@ -43,15 +43,18 @@ impl<S: BatchStore> Model for BrokerState<S> {
 
     ghost Value = { State };
 
-    ghost view = { λ n. record { config = config_value n.config; topics = map topic_contents n.topics.items } };
+    ghost view = { λ n. record {
+      config = config_value n.config;
+      topics = map topic_contents n.topics.items;
+    } };
 
     ghost invariant = { λ n. IsValidConfig (config_value n.config)
         × AreTopicsOf (config_value n.config) n.topics.items };
 }
 
 impl<S: BatchStore> BrokerState<S> {
-    /// What a new broker of this configuration holds. Every partition is empty; the group topic comes beside the
-    /// topics of the configuration.
+    /// What a new broker of this configuration holds. Every partition is empty; the group topic comes
+    /// beside the topics of the configuration.
     ///
     /// # Errors
     ///
@@ -117,7 +120,8 @@ impl<S: BatchStore> BrokerState<S> {
     ///
     /// `UnknownTopicOrPartition`, or else `NotLeader`.
     pub fn led_copy(&self, topic: &[u8], partition: i32) -> Result<&PartitionLog<S>, ErrorCode>
-        ensures is_there { IfOk result (λ log. partition_at self.now topic.now partition ≡ Some log.now) }
+        ensures is_there { IfOk result
+            (λ log. partition_at self.now topic.now partition ≡ Some log.now) }
         ensures leads { IfOk result (λ _. not_leader self.now ≡ None) }
         ensures refuses { IfErr result (λ code.
             first_some (unknown self.now topic.now partition ∷ not_leader self.now ∷ []) ≡ Some code) }
@@ -187,7 +191,8 @@ impl<S: BatchStore> BrokerState<S> {
 
     /// The topic of a name.
     pub fn topic(&self, name: &[u8]) -> Option<&TopicLogs<S>>
-        ensures is_there { option_map (λ t. topic_contents t.now) result ≡ topic_of self.now name.now }
+        ensures is_there { option_map (λ t. topic_contents t.now) result
+            ≡ topic_of self.now name.now }
         ensures few_partitions { IfSome result (λ t. length t.now.partitions ≤ MAX_PARTITIONS) }
     {
         match topic_index(&self.topics, name) {

@@ -64,7 +64,8 @@ impl<S: BatchStore> TopicLogs<S> {
 
     /// The index of the partition of a number.
     pub(crate) fn partition_index(&self, number: i32) -> Option<usize>
-        ensures found { IfSome result (λ index. (number ≡ pos index) × (index < length self.now.partitions)) }
+        ensures found { IfSome result (λ index. (number ≡ pos index)
+            × (index < length self.now.partitions)) }
         ensures unknown { IfNone result (partition_of number (topic_contents self.now) ≡ None) }
     {
         if number < 0 {

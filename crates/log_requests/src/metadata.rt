@@ -5,7 +5,7 @@ ghost use Rattle.std.specs.List.{flat_map};
 ghost use Rattle.answering.specs.Writing.{Begins};
 ghost use Rattle.responses.specs.Metadata.{metadata_topic_bytes};
 ghost use Rattle.request_frames.specs.Metadata.{metadata_view};
-ghost use Rattle.log_requests.specs.Metadata.{topic_metadata, metadata_at, metadata_reply};
+ghost use Rattle.log_requests.specs.Metadata.{metadata_of_topic, metadata_at, metadata_reply};
 ghost use Rattle.log_requests.specs.Metadata.Names.{metadata_names, metadata_body};
 
 mod names;
@@ -27,7 +27,7 @@ fn put_topics<S: BatchStore, A: Allocator + Copy>(
     out: &mut Vec<u8, A>,
 ) -> Result<(), AllocError>
     ensures appends { OnOk result (out.new.items ≡ out.old.items ++ flat_map metadata_topic_bytes
-        (map (topic_metadata state.now.config) state.now.topics)) }
+        (map (metadata_of_topic state.now.config) state.now.topics)) }
     ensures begins { OnErr result (Begins out.old.items out.new.items) }
 {
     for topic in state.topics() {

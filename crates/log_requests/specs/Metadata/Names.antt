@@ -5,7 +5,7 @@ use Rattle.frame_fields.specs.Fields.{end, encoded}
 use Rattle.frame_fields.specs.Types.{string, ◌⨾◌}
 use Rattle.responses.specs.Metadata.{metadata_response, metadata_value, metadata_leader_id}
 use Rattle.broker_state.specs.State.{State}
-use Rattle.log_requests.specs.Metadata.{broker_of, known_leader, metadata_topics}
+use Rattle.log_requests.specs.Metadata.{metadata_of_broker, metadata_leader, metadata_topics}
 
 abbrev pub metadata_names : ArrayBytes → List (List ℕ)
 metadata_names names = map (λ name. name.0) (values (string ⨾ end) names)
@@ -13,4 +13,4 @@ metadata_names names = map (λ name. name.0) (values (string ⨾ end) names)
 -- what is answered to names, or to none, behind a response's head
 abbrev pub metadata_body : State → Option (List (List ℕ)) → List ℕ
 metadata_body s names =
-    encoded metadata_response (metadata_value (broker_of s.config) (metadata_leader_id (known_leader s.config)) (metadata_topics s names))
+    encoded metadata_response (metadata_value (metadata_of_broker s.config) (metadata_leader_id (metadata_leader s.config)) (metadata_topics s names))

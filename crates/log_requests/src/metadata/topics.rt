@@ -4,7 +4,7 @@ ghost use Rattle.std.specs.Prelude.{◌≡◌, ◌≤◌, ◌++◌, map, length,
 ghost use Rattle.std.specs.List.{flat_map, range_with_len};
 ghost use Rattle.answering.specs.Writing.{Begins};
 ghost use Rattle.responses.specs.Metadata.{metadata_leader_id, metadata_head, metadata_topic_bytes, metadata_partition_bytes};
-ghost use Rattle.log_requests.specs.Metadata.{known_leader, partition_metadata, topic_metadata, failed_topic, metadata_at};
+ghost use Rattle.log_requests.specs.Metadata.{metadata_leader, metadata_of_partition, metadata_of_topic, metadata_of_failed, metadata_at};
 ghost use Rattle.broker_state.specs.Parts.{topic_contents};
 
 use answering::ErrorCode;
@@ -25,7 +25,7 @@ pub(crate) fn put_broker<S: BatchStore, A: Allocator + Copy>(
 ) -> Result<(), AllocError>
     ensures appends { OnOk result (out.new.items ≡ out.old.items ++ metadata_head
         state.now.config.node_id state.now.config.host state.now.config.port
-        (metadata_leader_id (known_leader state.now.config)) topic_count) }
+        (metadata_leader_id (metadata_leader state.now.config)) topic_count) }
     ensures begins { OnErr result (Begins out.old.items out.new.items) }
 {
     let broker = MetadataBroker {
@@ -41,9 +41,9 @@ pub(crate) fn put_broker<S: BatchStore, A: Allocator + Copy>(
 }
 
 /// What is said of a topic's partition.
-fn partition_metadata<S: BatchStore>(state: &BrokerState<S>, index: usize) -> MetadataPartition
+fn metadata_of_partition<S: BatchStore>(state: &BrokerState<S>, index: usize) -> MetadataPartition
     requires { index ≤ MAX_PARTITIONS }
-    ensures { result ≡ partition_metadata state.now.config index }
+    ensures { result ≡ metadata_of_partition state.now.config index }
 {
     match state.role() {
         Role::Leader => MetadataPartition {
@@ -67,11 +67,11 @@ fn put_partitions<S: BatchStore, A: Allocator + Copy>(
 ) -> Result<(), AllocError>
     requires { count ≤ MAX_PARTITIONS }
     ensures appends { OnOk result (out.new.items ≡ out.old.items ++ flat_map metadata_partition_bytes
-        (map (partition_metadata state.now.config) (range_with_len 0 count))) }
+        (map (metadata_of_partition state.now.config) (range_with_len 0 count))) }
     ensures begins { OnErr result (Begins out.old.items out.new.items) }
 {
     for index in 0..count {
-        put_metadata_partition(out, partition_metadata(state, index))?;
+        put_metadata_partition(out, metadata_of_partition(state, index))?;
     }
     Ok(())
 }
@@ -84,7 +84,7 @@ pub(crate) fn put_topic<S: BatchStore, A: Allocator + Copy>(
 ) -> Result<(), AllocError>
     requires { length topic.now.partitions ≤ MAX_PARTITIONS }
     ensures appends { OnOk result (out.new.items ≡ out.old.items
-        ++ metadata_topic_bytes (topic_metadata state.now.config (topic_contents topic.now))) }
+        ++ metadata_topic_bytes (metadata_of_topic state.now.config (topic_contents topic.now))) }
     ensures begins { OnErr result (Begins out.old.items out.new.items) }
 {
     let name = topic.name();
@@ -105,7 +105,7 @@ fn put_failed<A: Allocator + Copy>(
     out: &mut Vec<u8, A>,
 ) -> Result<(), AllocError>
     ensures appends { OnOk result
-        (out.new.items ≡ out.old.items ++ metadata_topic_bytes (failed_topic code name.now)) }
+        (out.new.items ≡ out.old.items ++ metadata_topic_bytes (metadata_of_failed code name.now)) }
     ensures begins { OnErr result (Begins out.old.items out.new.items) }
 {
     let head = MetadataTopic {

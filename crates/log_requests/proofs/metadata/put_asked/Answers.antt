@@ -6,7 +6,7 @@ use Rattle.frame_fields.specs.Arrays.{values}
 use Rattle.frame_fields.specs.Fields.{end}
 use Rattle.frame_fields.specs.Types.{string, ◌⨾◌}
 use Rattle.responses.specs.Metadata.{metadata_head, metadata_topic_bytes, metadata_leader_id}
-use Rattle.log_requests.specs.Metadata.{known_leader, metadata_at, each_once}
+use Rattle.log_requests.specs.Metadata.{metadata_leader, metadata_at, each_once}
 use Rattle.log_requests.specs.Metadata.Names.{metadata_names}
 use Rattle.answering.proofs.Begun.{on_ok, begins_both, on_err}
 use Rattle.log_requests.proofs.MetadataNames.{set_fits}
@@ -28,7 +28,7 @@ returns-clause-appends g c =
     let asked = metadata_names c.args.names.now in
     let begun = c.args.out.now.items in
     let keys = c.in_ok-set.set.keys in
-    let heads : c.put_broker.new.out.items ≡ begun ++ metadata_head s.config.node_id s.config.host s.config.port (metadata_leader_id (known_leader s.config)) (length keys) = search rules in
+    let heads : c.put_broker.new.out.items ≡ begun ++ metadata_head s.config.node_id s.config.host s.config.port (metadata_leader_id (metadata_leader s.config)) (length keys) = search rules in
     let once : map (λ name. name.now) keys ≡ each_once asked = c.in_ok-set.ensures ∙ ap (λ names. each_once (metadata_names names)) c.duplicate.ensures in
     let counts = sym (length-map keys (λ name. name.now)) ∙ ap length once ∙ sym (length-map (each_once asked) (metadata_at s)) in
     let names : map (λ name. name.now) c.as_slice.result.now ≡ each_once asked = ap (map (λ name. name.now)) c.as_slice.ensures.keys ∙ once in
@@ -41,6 +41,6 @@ pub returns-clause-begins : goal.returns-clause-begins
 returns-clause-begins g c =
     let s = c.args.state.now in
     let old = c.args.out.now.items in
-    let head = metadata_head s.config.node_id s.config.host s.config.port (metadata_leader_id (known_leader s.config)) (length c.in_ok-set.set.keys) in
+    let head = metadata_head s.config.node_id s.config.host s.config.port (metadata_leader_id (metadata_leader s.config)) (length c.in_ok-set.set.keys) in
     let heads : c.put_broker.new.out.items ≡ old ++ head = search rules in
     on_err c.put_names.result (begins_both old c.put_broker.new.out.items c.put_names.new.out.items (head, heads)) c.put_names.ensures.begins
