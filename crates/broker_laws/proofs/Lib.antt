@@ -1,1 +1,3 @@
 pub mod AnsweredFrames
+pub mod Followed
+pub mod TopicsFit
