@@ -4,7 +4,7 @@ pub mod OneContent
 pub mod Names
 pub mod NewTopics
 pub mod NewStates
+pub mod OwnContent
 pub mod PlacedTopics
 pub mod NumberedPartitions
 pub mod Shapes
-pub mod FoundTopics

@@ -1,17 +1,17 @@
 -- A broker's topics by name, and a new broker's.
-use Rattle.std.proofs.Common.{◌≡◌, ℕ, zero, suc, Bool, true, false, cond, ℤ, List, [], ◌∷◌, length, Option, Some, None, refl, sym, ap, ◌∙◌}
+use Rattle.std.proofs.Common.{◌≡◌, ℕ, zero, suc, Bool, true, false, cond, List, [], ◌∷◌, length, Option, Some, None, refl, sym, ap, ◌∙◌}
 use Rattle.std.specs.Prelude.{map, replicate, bytes_eq, not, nat_lt}
 use Rattle.std.specs.List.{find, list_any, AllByRecursion}
-use Rattle.std.specs.Option.{option_map, option_and_then, option_or}
+use Rattle.std.specs.Option.{option_map, option_or}
 use Rattle.std.specs.Int.{is_in_range}
-use Rattle.content.specs.Content.{Content, empty}
+use Rattle.content.specs.Content.{empty}
 use Rattle.frame_fields.specs.Names.{is_topic_name}
 use Rattle.broker_state.specs.declared.config.Role.{Role}
 use Rattle.broker_state.specs.declared.limits.TheConstants.{MAX_TOPICS, MAX_PARTITIONS, MAX_HOST_BYTES}
 use Rattle.broker_state.specs.declared.error.ConfigError.{ConfigError}
 use Rattle.broker_state.specs.declared.error.ConfigError.TheVariants.{BadHost, TooManyTopics, BadTopic, BadPartitions, TopicTwice, OutOfMemory}
 use Rattle.answering.specs.Lists.{fault_if, first_some}
-use Rattle.broker_state.specs.State.{TopicConfig, ConfigValue, new_topic, group_topic, all_topics, partition_of}
+use Rattle.broker_state.specs.State.{TopicConfig, ConfigValue, new_topic, group_topic, all_topics}
 use Rattle.broker_state.specs.Configs.{topic_fault, topics_fault, config_fault, ConfigFault}
 use Rattle.broker_state.specs.Partitions.{PartitionValue}
 use Rattle.broker_state.specs.Parts.{TopicParts, topic_contents, topic_shape, HasRole, AreTopicsOf, new_parts}
@@ -25,18 +25,6 @@ find_test false f x r = refl
 pub find_map : {X Y : Type 0} (f : X → Y) (test : Y → Bool) (xs : List X) → find test (map f xs) ≡ option_map f (find (λ x. test (f x)) xs)
 find_map f test [] = refl
 find_map f test (x ∷ xs) = ap (λ r. cond (test (f x)) (Some (f x)) r) (find_map f test xs) ∙ find_test (test (f x)) f x (find (λ y. test (f y)) xs)
-
-pub in_topic : (name : List ℕ) (p : ℤ) (ts : List TopicParts) (t : TopicParts) (r : Option Content) → Some t ≡ find (λ x. bytes_eq x.name name) ts
-    → r ≡ partition_of p (topic_contents t) → r ≡ option_and_then (partition_of p) (find (λ x. bytes_eq x.name name) (map topic_contents ts))
-in_topic name p ts t r found e =
-    e ∙ ap (λ x. option_and_then (partition_of p) (option_map topic_contents x)) found
-    ∙ ap (option_and_then (partition_of p)) (sym (find_map topic_contents (λ x. bytes_eq x.name name) ts))
-
-pub in_no_topic : (name : List ℕ) (p : ℤ) (ts : List TopicParts) → None ≡ find (λ x. bytes_eq x.name name) ts
-    → None ≡ option_and_then (partition_of p) (find (λ x. bytes_eq x.name name) (map topic_contents ts))
-in_no_topic name p ts found =
-    ap (λ x. option_and_then (partition_of p) (option_map topic_contents x)) found
-    ∙ ap (option_and_then (partition_of p)) (sym (find_map topic_contents (λ x. bytes_eq x.name name) ts))
 
 -- ---- new topics
 

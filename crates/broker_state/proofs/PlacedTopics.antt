@@ -1,19 +1,23 @@
--- The topic of a name, by its place, and what changes where one partition of it does.
-use Rattle.std.proofs.Common.{◌≡◌, ℕ, zero, suc, ◌+◌, ◌<◌, Bool, true, false, cond, ℤ, pos, negsuc, List, [], ◌∷◌, length, Option, Some, None, Result, set, refl, sym, ap, subst, ◌∙◌, arith}
-use Rattle.std.specs.Prelude.{map, is_some, slice_get, get_or, nat_abs, bytes_eq, not, nat_lt, position}
+-- A topic by its index, and a partition of it, and what changes where that partition does.
+use Rattle.std.proofs.Common.{◌≡◌, ℕ, zero, suc, ◌+◌, ◌<◌, Bool, true, false, cond, ℤ, pos, List, [], ◌∷◌, length, Option, Some, None, Result, set, refl, sym, ap, subst, ◌∙◌, arith}
+use Rattle.std.specs.Prelude.{map, is_some, slice_get, get_or, bytes_eq, not, nat_lt, position}
 use Rattle.std.specs.List.{find, AllByRecursion, position_or_len}
 use Rattle.std.specs.Option.{option_map, option_and_then, unwrap_or}
+use Rattle.std.proofs.lemmas.List.{length-map}
 use Rattle.std.proofs.lemmas.List.Folds.{find_at}
 use Rattle.content.specs.Content.{Content, empty}
 use Rattle.broker_state.specs.declared.config.Role.{Role}
 use Rattle.batch_codec.specs.Values.{BatchValue}
 use Rattle.partition_log.specs.declared.leader.AppendError.{AppendError}
 use Rattle.partition_log.specs.declared.leader.Appended.{Appended}
-use Rattle.broker_state.specs.State.{ConfigValue, State, partition_of, is_known, content_at, with_partition, with_partition_of, with_content}
-use Rattle.broker_state.specs.Appending.{Appends, AppendsIn}
+use Rattle.broker_state.specs.declared.place.Place.{Place}
+use Rattle.broker_state.specs.State.{ConfigValue, State, topic_of, partition_of, partition_at, content_at, with_partition, with_partition_of, with_content}
+use Rattle.broker_state.specs.Places.{IsPlaceOf}
+use Rattle.broker_state.specs.Appending.{Appends, AppendsIn, AppendsAt}
 use Rattle.broker_state.specs.Partitions.{PartitionValue}
 use Rattle.broker_state.specs.Parts.{TopicParts, topic_contents, topic_shape, HasRole, AreTopicsOf}
 use Rattle.broker_state.proofs.NewStates.{find_map}
+use Rattle.broker_state.proofs.OwnContent.{appends_at}
 
 some_same : {X : Type 0} (x y : X) → Some x ≡ Some y → x ≡ y
 some_same x y e = cc
@@ -45,7 +49,7 @@ contents_set [] n x = refl
 contents_set (p ∷ ps) zero x = refl
 contents_set (p ∷ ps) (suc n) x = ap (λ cs. p.content ∷ cs) (contents_set ps n x)
 
--- ---- the place of a name
+-- ---- the index of a name
 
 by_test : {X : Type 0} (xs : List X) (n i : ℕ) (b : Bool) → nat_lt n (length xs) ≡ b → Some i ≡ cond b (Some n) None → (i ≡ n) × (i < length xs)
 by_test xs n i true lt e = let same : i ≡ n = some_same i n e in (same, grind (arith, lt, same))
@@ -92,31 +96,53 @@ module _ (name : List ℕ) (p : ℤ) (c : Content) (u : TopicParts) where
 
 -- ---- a topic found by its name
 
-pub place_in : (seen ts : List TopicParts) (name : List ℕ) (r : Option ℕ) → seen ≡ ts → r ≡ position (has_name name) seen → r ≡ position (has_name name) ts
-place_in seen ts name r same at = at ∙ ap (position (has_name name)) same
+-- the index in the list that the code sees
+pub index_in : (seen ts : List TopicParts) (name : List ℕ) (r : Option ℕ) → seen ≡ ts → r ≡ position (has_name name) seen → r ≡ position (has_name name) ts
+index_in seen ts name r same at = at ∙ ap (position (has_name name)) same
 
--- where there is none, no partition is known
-pub not_known : (ts : List TopicParts) (name : List ℕ) (p : ℤ) → None ≡ position (has_name name) ts
-    → is_some (option_and_then (partition_of p) (find (λ t. bytes_eq t.name name) (map topic_contents ts))) ≡ true → ⊥
-not_known ts name p none known =
-    let found : find (λ t. bytes_eq t.name name) (map topic_contents ts) ≡ None =
-    find_map topic_contents (λ t. bytes_eq t.name name) ts ∙ ap (option_map topic_contents) (finds_none (has_name name) ts none) in
-    let e = sym known ∙ ap (λ x. is_some (option_and_then (partition_of p) x)) found in
-    absurd (grind (arith, e))
+index_map : {X Y : Type 0} (f : X → Y) (test : Y → Bool) (xs : List X) → position_or_len test (map f xs) ≡ position_or_len (λ x. test (f x)) xs
+index_map f test [] = refl
+index_map f test (x ∷ xs) = ap (λ n. cond (not (test (f x))) (1 + n) 0) (index_map f test xs)
+
+-- among topics as they are held, and among their contents
+pub index_shown : (ts : List TopicParts) (name : List ℕ) → position (λ t. bytes_eq t.name name) (map topic_contents ts) ≡ position (has_name name) ts
+index_shown ts name =
+    let same = index_map topic_contents (λ t. bytes_eq t.name name) ts in
+    let many = length-map ts topic_contents in
+    λ i. cond (nat_lt (same i) (many i)) (Some (same i)) None
+
+-- where there is none, the broker has no such topic, and no partition of it
+pub no_topic : (ts : List TopicParts) (s : State) (g : ConfigValue) (name : List ℕ) → record { config = g; topics = map topic_contents ts } ≡ s → None ≡ position (has_name name) ts → None ≡ topic_of s name
+no_topic ts s g name view none =
+    sym (find_map topic_contents (λ t. bytes_eq t.name name) ts ∙ ap (option_map topic_contents) (finds_none (has_name name) ts none))
+    ∙ ap (λ (s : State). topic_of s name) view
+
+pub no_partition : (ts : List TopicParts) (s : State) (g : ConfigValue) (name : List ℕ) (p : ℤ) → record { config = g; topics = map topic_contents ts } ≡ s → None ≡ position (has_name name) ts → partition_at s name p ≡ None
+no_partition ts s g name p view none = ap (option_and_then (partition_of p)) (sym (no_topic ts s g name view none))
+
+-- an index that is there has an element
+below : {X : Type 0} (xs : List X) (n : ℕ) → is_some (slice_get xs n) ≡ true → n < length xs
+below [] n e = absurd (grind (arith, e))
+below (x ∷ xs) zero e = grind arith
+below (x ∷ xs) (suc n) e = grind (arith, below xs n e)
 
 module _ (ts : List TopicParts) (name : List ℕ) (i : ℕ) (t : TopicParts) (at : Some i ≡ position (has_name name) ts) (is : t ≡ get_or ts i t) where
   there : slice_get ts i ≡ Some t
   there = got ts i t (first_at (has_name name) ts i at).1 is
 
-  pub partition_here : (p : ℤ) → option_and_then (partition_of p) (find (λ t. bytes_eq t.name name) (map topic_contents ts)) ≡ partition_of p (topic_contents t)
-  partition_here p =
-      ap (option_and_then (partition_of p)) (find_map topic_contents (λ t. bytes_eq t.name name) ts)
-      ∙ ap (λ x. option_and_then (partition_of p) (option_map topic_contents x)) (finds_it (has_name name) ts i t at is)
+  -- what the broker has of this topic, and of a partition of it
+  pub topic_here : (g : ConfigValue) (s : State) → record { config = g; topics = map topic_contents ts } ≡ s → Some (topic_contents t) ≡ topic_of s name
+  topic_here g s view =
+      sym (find_map topic_contents (λ t. bytes_eq t.name name) ts ∙ ap (option_map topic_contents) (finds_it (has_name name) ts i t at is))
+      ∙ ap (λ (s : State). topic_of s name) view
 
-  pub has_role_here : (role : Role) → AllByRecursion (HasRole role) ts → HasRole role t
-  has_role_here role all = all_get (HasRole role) ts i t all there
+  pub partition_here : (g : ConfigValue) (s : State) (p : ℤ) → record { config = g; topics = map topic_contents ts } ≡ s → partition_at s name p ≡ partition_of p (topic_contents t)
+  partition_here g s p view = ap (option_and_then (partition_of p)) (sym (topic_here g s view))
 
-  pub contents_change : (u : TopicParts) (p : ℤ) (c : Content) → topic_contents u ≡ with_partition p c (topic_contents t)
+  pub holds_here : (P : TopicParts → Type 0) → AllByRecursion P ts → P t
+  holds_here P all = all_get P ts i t all there
+
+  contents_change : (u : TopicParts) (p : ℤ) (c : Content) → topic_contents u ≡ with_partition p c (topic_contents t)
       → map topic_contents (set ts i u) ≡ with_partition_of name p c (map topic_contents ts)
   contents_change u p c changed = change name p c u ts i t (first_at (has_name name) ts i at).0 there changed
 
@@ -127,54 +153,84 @@ module _ (ts : List TopicParts) (name : List ℕ) (i : ℕ) (t : TopicParts) (at
   }
 
   -- an append in this topic is one of the broker's
-  pub append_here : (g : ConfigValue) (s : State) (u : TopicParts) (p z : ℤ) (b : BatchValue) (result : Result Appended AppendError) → record { config = g; topics = map topic_contents ts } ≡ s → z ≡ p
-      → AppendsIn (topic_contents t) z b result (topic_contents u)
-      → (c : Content) × Appends (content_at s name p) b result c × (record { config = g; topics = map topic_contents (set ts i u) } ≡ with_content s name p c)
-  append_here g s u p z b result view same made =
+  pub append_here : (g : ConfigValue) (s : State) (u : TopicParts) (p : ℤ) (b : BatchValue) (result : Result Appended AppendError) → record { config = g; topics = map topic_contents ts } ≡ s
+      → AppendsIn (topic_contents t) p b result (topic_contents u)
+      → AppendsAt s name p b result (record { config = g; topics = map topic_contents (set ts i u) })
+  append_here g s u p b result view made =
       let c = made.0 in
-      let before : unwrap_or (partition_of z (topic_contents t)) empty ≡ content_at s name p =
-      ap (λ q. unwrap_or (partition_of q (topic_contents t)) empty) same
-      ∙ ap (λ x. unwrap_or x empty) (sym (partition_here p))
-      ∙ ap (λ s. content_at s name p) view in
-      let after : topic_contents u ≡ with_partition p c (topic_contents t) = made.2 ∙ ap (λ q. with_partition q c (topic_contents t)) same in (
-        c,
-        subst (λ x. Appends x b result c) before made.1,
-        ap (λ us. record { config = g; topics = us }) (contents_change u p c after) ∙ ap (λ s. with_content s name p c) view,
-      )
+      let before : unwrap_or (partition_of p (topic_contents t)) empty ≡ content_at s name p =
+      ap (λ x. unwrap_or x empty) (sym (partition_here g s p view)) in
+      appends_at s (record { config = g; topics = map topic_contents (set ts i u) }) name p b c result (subst (λ x. Appends x b result c) before made.1)
+      (ap (λ us. record { config = g; topics = us }) (contents_change u p c made.2) ∙ ap (λ s. with_content s name p c) view)
 
-  pub known_here : (g : ConfigValue) (s : State) (p z : ℤ) → record { config = g; topics = map topic_contents ts } ≡ s → z ≡ p → is_known s name p ≡ true → is_some (partition_of z (topic_contents t)) ≡ true
-  known_here g s p z view same known =
-      ap (λ q. is_some (partition_of q (topic_contents t))) same ∙ ap is_some (sym (partition_here p)) ∙ ap (λ s. is_known s name p) view ∙ known
+-- ---- a place
 
--- ---- a partition by its number
+module _ (ts : List TopicParts) (g : ConfigValue) (s : State) (name : List ℕ) (p : ℤ) (place : Place) (view : record { config = g; topics = map topic_contents ts } ≡ s) (of : IsPlaceOf s name p place) where
+  -- the index of the topic, and of the partition in it
+  pub topic_of_place : Some place.topic ≡ position (has_name name) ts
+  topic_of_place = of.topic ∙ sym (ap (λ (s : State). position (λ t. bytes_eq t.name name) s.topics) view) ∙ index_shown ts name
+
+  pub topic_below : place.topic < length ts
+  topic_below = (first_at (has_name name) ts place.topic topic_of_place).1
+
+  pub partition_below : (t : TopicParts) → t ≡ get_or ts place.topic t → place.partition < length t.partitions
+  partition_below t is =
+      let shown : is_some (slice_get (map (λ p. p.content) t.partitions) place.partition) ≡ true =
+      sym (ap is_some (partition_here ts name place.topic t topic_of_place is g s p view ∙ ap (λ q. partition_of q (topic_contents t)) of.partition)) ∙ of.known in
+      subst (λ (n : ℕ). place.partition < n) (length-map t.partitions (λ p. p.content)) (below (map (λ p. p.content) t.partitions) place.partition shown)
+
+  pub copy_shown : (t : TopicParts) (c : Content) → t ≡ get_or ts place.topic t → partition_of (pos place.partition) (topic_contents t) ≡ Some c → partition_at s name p ≡ Some c
+  copy_shown t c is here =
+      partition_here ts name place.topic t topic_of_place is g s p view ∙ ap (λ q. partition_of q (topic_contents t)) of.partition ∙ here
+
+  pub role_of_place : (role : Role) (t : TopicParts) → t ≡ get_or ts place.topic t → AllByRecursion (HasRole role) ts → HasRole role t
+  role_of_place role t is all = holds_here ts name place.topic t topic_of_place is (HasRole role) all
+
+  pub topics_stay : (t u : TopicParts) → t ≡ get_or ts place.topic t → AreTopicsOf g ts → topic_shape u ≡ topic_shape t → HasRole g.role u → AreTopicsOf g (set ts place.topic u)
+  topics_stay t u is all shape role = stay_topics ts name place.topic t topic_of_place is g u all shape role
+
+  pub appended_here : (t u : TopicParts) (b : BatchValue) (result : Result Appended AppendError) → t ≡ get_or ts place.topic t → AppendsIn (topic_contents t) (pos place.partition) b result (topic_contents u)
+      → AppendsAt s name p b result (record { config = g; topics = map topic_contents (set ts place.topic u) })
+  appended_here t u b result is made =
+      append_here ts name place.topic t topic_of_place is g s u p b result view
+      (subst (λ q. AppendsIn (topic_contents t) q b result (topic_contents u)) (sym of.partition) made)
+
+-- the place that is found
+pub place_found : (ts : List TopicParts) (g : ConfigValue) (s : State) (name : List ℕ) (p : ℤ) (i n : ℕ) (t : TopicParts) → record { config = g; topics = map topic_contents ts } ≡ s → Some i ≡ position (has_name name) ts → t ≡ get_or ts i t
+    → p ≡ pos n → n < length t.partitions → IsPlaceOf s name p (record { topic = i; partition = n })
+place_found ts g s name p i n t view at is number low = record {
+  known = ap is_some (partition_here ts name i t at is g s p view ∙ ap (λ q. partition_of q (topic_contents t)) number) ∙ above t.partitions n low;
+  topic = at ∙ sym (index_shown ts name) ∙ ap (λ (s : State). position (λ t. bytes_eq t.name name) s.topics) view;
+  partition = number;
+}
+  where
+    above : (ps : List PartitionValue) (n : ℕ) → n < length ps → is_some (slice_get (map (λ p. p.content) ps) n) ≡ true
+    above [] n low = absurd (omega (arith, low))
+    above (p ∷ ps) zero low = refl
+    above (p ∷ ps) (suc n) low = above ps n (omega (arith, low))
+
+-- ---- a partition by its index
 
 abbrev content_of : PartitionValue → Content
 content_of p = p.content
 
-content_here : (ps : List PartitionValue) (k : ℕ) (x : PartitionValue) → is_some (slice_get (map content_of ps) k) ≡ true → x ≡ get_or ps k x → slice_get (map content_of ps) k ≡ Some x.content
-content_here [] k x known is = absurd (grind (arith, known))
-content_here (p ∷ ps) zero x known is = ap (λ q. Some q.content) (sym is)
-content_here (p ∷ ps) (suc k) x known is = content_here ps k x known is
+content_here : (ps : List PartitionValue) (k : ℕ) (x : PartitionValue) → k < length ps → x ≡ get_or ps k x → slice_get (map content_of ps) k ≡ Some x.content
+content_here [] k x low is = absurd (omega (arith, low))
+content_here (p ∷ ps) zero x low is = ap (λ q. Some q.content) (sym is)
+content_here (p ∷ ps) (suc k) x low is = content_here ps k x (omega (arith, low)) is
 
-append_at : (name : List ℕ) (ps : List PartitionValue) (z : ℤ) (x y : PartitionValue) (b : BatchValue) (result : Result Appended AppendError)
-    → is_some (partition_of z (topic_contents (record { name = name; partitions = ps }))) ≡ true → x ≡ get_or ps (nat_abs z) x
+pub copy_in_topic : (name : List ℕ) (ps : List PartitionValue) (t : TopicParts) (k : ℕ) (x : PartitionValue) → record { name = name; partitions = ps } ≡ t → k < length t.partitions → x ≡ get_or ps k x
+    → partition_of (pos k) (topic_contents t) ≡ Some x.content
+copy_in_topic name ps t k x view low is =
+    sym (ap (λ (u : TopicParts). slice_get (map content_of u.partitions) k) view)
+    ∙ content_here ps k x (subst (λ (u : TopicParts). k < length u.partitions) (sym view) low) is
+
+pub append_in_topic : (name : List ℕ) (ps : List PartitionValue) (t : TopicParts) (k : ℕ) (x y : PartitionValue) (b : BatchValue) (result : Result Appended AppendError)
+    → record { name = name; partitions = ps } ≡ t → k < length t.partitions → x ≡ get_or ps k x
     → Appends x.content b result y.content
-    → AppendsIn (topic_contents (record { name = name; partitions = ps })) z b result (topic_contents (record { name = name; partitions = set ps (nat_abs z) y }))
-append_at name ps (pos k) x y b result known is made = (
+    → AppendsIn (topic_contents t) (pos k) b result (topic_contents (record { name = name; partitions = set ps k y }))
+append_in_topic name ps t k x y b result view low is made = (
   y.content,
-  subst (λ c. Appends c b result y.content) (sym (ap (λ r. unwrap_or r empty) (content_here ps k x known is))) made,
-  λ i. record { name = name; partitions = contents_set ps k y i },
+  subst (λ c. Appends c b result y.content) (sym (ap (λ r. unwrap_or r empty) (copy_in_topic name ps t k x view low is))) made,
+  (λ i. record { name = name; partitions = contents_set ps k y i }) ∙ ap (λ (u : TopicParts). with_partition (pos k) y.content (topic_contents u)) view,
 )
-append_at name ps (negsuc k) x y b result known is made = absurd (grind (arith, known))
-
-pub append_in_topic : (name : List ℕ) (ps : List PartitionValue) (t : TopicParts) (number z : ℤ) (x y : PartitionValue) (b : BatchValue) (result : Result Appended AppendError)
-    → record { name = name; partitions = ps } ≡ t → z ≡ number
-    → is_some (partition_of number (topic_contents t)) ≡ true → x ≡ get_or ps (nat_abs z) x
-    → Appends x.content b result y.content
-    → AppendsIn (topic_contents t) number b result (topic_contents (record { name = name; partitions = set ps (nat_abs z) y }))
-append_in_topic name ps t number z x y b result view same known is made =
-    let shown : is_some (partition_of z (topic_contents (record { name = name; partitions = ps }))) ≡ true =
-    ap (λ q. is_some (partition_of q (topic_contents (record { name = name; partitions = ps })))) same ∙ ap (λ (u : TopicParts). is_some (partition_of number (topic_contents u))) view ∙ known in
-    let in_z = append_at name ps z x y b result shown is made in
-    let in_t = subst (λ (u : TopicParts). AppendsIn (topic_contents u) z b result (topic_contents (record { name = name; partitions = set ps (nat_abs z) y }))) view in_z in
-    subst (λ q. AppendsIn (topic_contents t) q b result (topic_contents (record { name = name; partitions = set ps (nat_abs z) y }))) same in_t

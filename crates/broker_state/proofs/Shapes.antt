@@ -50,10 +50,13 @@ few_shapes : (ts : List TopicParts) → AllByRecursion HasFew (map topic_shape t
 few_shapes [] h = h
 few_shapes (t ∷ ts) h = (h.0, few_shapes ts h.1)
 
-pub few_partitions : (g : ConfigValue) (ts : List TopicParts) → IsValidConfig g → AreTopicsOf g ts → All (λ (t : TopicParts). length t.partitions ≤ MAX_PARTITIONS) ts
-few_partitions g ts valid are =
+pub few_in_each : (g : ConfigValue) (ts : List TopicParts) → IsValidConfig g → AreTopicsOf g ts → AllByRecursion (λ (t : TopicParts). length t.partitions ≤ MAX_PARTITIONS) ts
+few_in_each g ts valid are =
     let topics : topics_fault (group_topic ∷ []) g.topics ≡ None = first_is_none _ _ (other_is_none _ _ (other_is_none _ _ valid)) in
-    All-from_recursion _ ts (few_shapes ts (subst (AllByRecursion HasFew) (sym are.shapes) (all_few (group_topic ∷ []) g.topics topics)))
+    few_shapes ts (subst (AllByRecursion HasFew) (sym are.shapes) (all_few (group_topic ∷ []) g.topics topics))
+
+pub few_partitions : (g : ConfigValue) (ts : List TopicParts) → IsValidConfig g → AreTopicsOf g ts → All (λ (t : TopicParts). length t.partitions ≤ MAX_PARTITIONS) ts
+few_partitions g ts valid are = All-from_recursion _ ts (few_in_each g ts valid are)
 
 few_configured : (g : ConfigValue) → IsValidConfig g → nat_lt MAX_TOPICS (length g.topics) ≡ false
 few_configured g valid = no_fault (nat_lt MAX_TOPICS (length g.topics)) TooManyTopics (first_is_none _ _ (other_is_none _ _ valid))

@@ -4,6 +4,7 @@ pub mod State
 pub mod Checks
 pub mod Configs
 pub mod Batches
+pub mod Places
 pub mod Appending
 pub mod Partitions
 pub mod ConfigValues

@@ -11,6 +11,7 @@ mod judging;
 mod limits;
 mod new_topics;
 mod partition;
+mod place;
 mod state;
 mod topic;
 
@@ -19,5 +20,6 @@ pub use codes::append_code;
 pub use config::{Config, Role, TopicConfig};
 pub use error::ConfigError;
 pub use limits::{GROUP_TOPIC, MAX_HOST_BYTES, MAX_PARTITIONS, MAX_TOPICS};
+pub use place::Place;
 pub use state::BrokerState;
 pub use topic::TopicLogs;

@@ -1,10 +1,11 @@
 //! What a broker holds: its configuration, and the partitions of its topics.
 
-ghost use Rattle.std.specs.Prelude.{◌≡◌, ◌≤◌, ◌+◌, true, [], ◌∷◌, Some, None, IfOk, IfErr, IfSome, map, length};
+ghost use Rattle.std.specs.Prelude.{◌≡◌, ◌≤◌, ◌+◌, ℕ, ℤ, List, [], ◌∷◌, Some, None, IfOk, IfErr, IfSome, IfNone, map, length};
 ghost use Rattle.std.specs.List.{All};
 ghost use Rattle.std.specs.Option.{option_map};
 ghost use Rattle.answering.specs.Lists.{first_some};
-ghost use Rattle.broker_state.specs.State.{new_state, topic_of, partition_at, is_known};
+ghost use Rattle.broker_state.specs.State.{new_state, topic_of, partition_at};
+ghost use Rattle.broker_state.specs.Places.{IsPlaceOf, IsPlace};
 ghost use Rattle.broker_state.specs.Checks.{unknown, not_leader};
 ghost use Rattle.broker_state.specs.Appending.{AppendsAt};
 ghost use Rattle.broker_state.specs.declared.config.Role.TheVariants.{Leader};
@@ -17,7 +18,8 @@ use crate::error::ConfigError;
 use crate::judging::config_fault;
 use crate::limits::{MAX_PARTITIONS, MAX_TOPICS};
 use crate::new_topics::new_topics;
-use crate::topic::{TopicLogs, partition_of, place_of, topic_of};
+use crate::place::Place;
+use crate::topic::{TopicLogs, topic_index};
 use answering::ErrorCode;
 use batch_codec::BatchView;
 use partition_log::{AppendError, Appended, PartitionLog};
@@ -70,14 +72,41 @@ impl<S: BatchStore> BrokerState<S> {
         }
     }
 
+    /// The place of a topic's partition; none of a topic that isn't configured, or that has no such
+    /// partition. It takes no memory.
+    pub fn place_of(&self, topic: &[u8], partition: i32) -> Option<Place>
+        ensures found { IfSome result (IsPlaceOf self.now topic.now partition) }
+        ensures unknown { IfNone result (partition_at self.now topic.now partition ≡ None) }
+    {
+        let Some(index) = topic_index(&self.topics, topic) else {
+            return None;
+        };
+        match self.topics[index].partition_index(partition) {
+            Some(number) => Some(Place {
+                topic: index,
+                partition: number,
+            }),
+            None => None,
+        }
+    }
+
+    /// The copy at a place.
+    pub fn copy_at(&self, place: Place) -> &PartitionLog<S>
+        requires { IsPlace self.now place }
+        ensures { (name : List ℕ) (p : ℤ) → IsPlaceOf self.now name p place
+            → partition_at self.now name p ≡ Some result.now }
+    {
+        self.topics[place.topic].partition_copy(place.partition)
+    }
+
     /// The copy of a topic's partition; none of a topic that isn't configured, or that has no such
     /// partition. It takes no memory.
     pub fn log(&self, topic: &[u8], partition: i32) -> Option<&PartitionLog<S>>
         ensures { option_map (λ log. log.now) result
             ≡ partition_at self.now topic.now partition }
     {
-        match partition_of(&self.topics, topic, partition) {
-            Some(found) => Some(found.copy()),
+        match self.place_of(topic, partition) {
+            Some(place) => Some(self.copy_at(place)),
             None => None,
         }
     }
@@ -107,25 +136,22 @@ impl<S: BatchStore> BrokerState<S> {
         self.config.role
     }
 
-    /// Appends a batch to a partition that the broker leads.
+    /// Appends a batch to the partition at a place, which the broker leads.
     ///
     /// # Errors
     ///
     /// The first fault of the batch; nothing changes.
-    pub fn append(
+    pub fn append_at(
         &mut self,
-        topic: &[u8],
-        partition: i32,
+        place: Place,
         batch: &BatchView<'_>,
     ) -> Result<Appended, AppendError>
-        requires is_known { is_known self.old topic.now partition ≡ true }
+        requires is_place { IsPlace self.old place }
         requires leads { self.old.config.role ≡ Leader }
-        ensures { AppendsAt self.old topic.now partition batch.now result self.new }
+        ensures { (name : List ℕ) (p : ℤ) → IsPlaceOf self.old name p place
+            → AppendsAt self.old name p batch.now result self.new }
     {
-        let Some(place) = place_of(&self.topics, topic) else {
-            unreachable!()
-        };
-        self.topics[place].append(partition, batch)
+        self.topics[place.topic].extend_partition(place.partition, batch)
     }
 
     /// The broker's number.
@@ -164,6 +190,9 @@ impl<S: BatchStore> BrokerState<S> {
         ensures is_there { option_map (λ t. topic_contents t.now) result ≡ topic_of self.now name.now }
         ensures few_partitions { IfSome result (λ t. length t.now.partitions ≤ MAX_PARTITIONS) }
     {
-        topic_of(self.topics(), name)
+        match topic_index(&self.topics, name) {
+            Some(index) => Some(&self.topics[index]),
+            None => None,
+        }
     }
 }

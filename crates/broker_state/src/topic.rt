@@ -1,8 +1,6 @@
 //! A topic of a broker: its name, and its partitions by their numbers.
 
-ghost use Rattle.std.specs.Prelude.{◌≡◌, true, is_some, IfOk, map, replicate, length, position, bytes_eq};
-ghost use Rattle.std.specs.List.{find};
-ghost use Rattle.std.specs.Option.{option_map, option_and_then};
+ghost use Rattle.std.specs.Prelude.{◌≡◌, ◌<◌, pos, IfOk, IfSome, IfNone, Some, None, replicate, length, position, bytes_eq};
 ghost use Rattle.content.specs.Content.{empty};
 ghost use Rattle.broker_state.specs.State.{partition_of};
 ghost use Rattle.broker_state.specs.Appending.{AppendsIn};
@@ -12,7 +10,7 @@ ghost use Rattle.broker_state.specs.Parts.{new_parts, topic_contents, topic_shap
 use crate::config::Role;
 use crate::partition::Partition;
 use batch_codec::BatchView;
-use partition_log::{AppendError, Appended};
+use partition_log::{AppendError, Appended, PartitionLog};
 use segment::BatchStore;
 use std::alloc::AllocError;
 use std::marker::Model;
@@ -64,31 +62,48 @@ impl<S: BatchStore> TopicLogs<S> {
         })
     }
 
-    /// The partition of a number.
-    fn partition(&self, number: i32) -> Option<&Partition<S>>
-        ensures { option_map (λ p. p.now.content) result
-            ≡ partition_of number (topic_contents self.now) }
+    /// The index of the partition of a number.
+    pub(crate) fn partition_index(&self, number: i32) -> Option<usize>
+        ensures found { IfSome result (λ index. (number ≡ pos index) × (index < length self.now.partitions)) }
+        ensures unknown { IfNone result (partition_of number (topic_contents self.now) ≡ None) }
     {
         if number < 0 {
             return None;
         }
-        self.partitions.get(number as usize)
+        let index = number as usize;
+        if index < self.partitions.len() {
+            Some(index)
+        } else {
+            None
+        }
     }
 
-    /// Appends a batch to a partition that is there.
-    pub(crate) fn append(
+    /// The copy of the partition of an index.
+    pub(crate) fn partition_copy(&self, index: usize) -> &PartitionLog<S>
+        requires { index < length self.now.partitions }
+        ensures { partition_of (pos index) (topic_contents self.now) ≡ Some result.now }
+    {
+        self.partitions[index].copy()
+    }
+
+    /// Extends the log of the partition of an index by a batch.
+    ///
+    /// # Errors
+    ///
+    /// The first fault of the batch; nothing changes.
+    pub(crate) fn extend_partition(
         &mut self,
-        number: i32,
+        index: usize,
         batch: &BatchView<'_>,
     ) -> Result<Appended, AppendError>
-        requires is_there { is_some (partition_of number (topic_contents self.old)) ≡ true }
+        requires is_there { index < length self.old.partitions }
         requires leads { HasRole Leader self.old }
-        ensures appends { AppendsIn (topic_contents self.old) number batch.now result
+        ensures appends { AppendsIn (topic_contents self.old) (pos index) batch.now result
             (topic_contents self.new) }
         ensures shape { topic_shape self.new ≡ topic_shape self.old }
         ensures roles { HasRole Leader self.new }
     {
-        self.partitions[number as usize].append(batch)
+        self.partitions[index].extend(batch)
     }
 
     /// The topic's name.
@@ -107,36 +122,10 @@ impl<S: BatchStore> TopicLogs<S> {
 }
 
 /// The index of the topic of a name.
-pub(crate) fn place_of<S: BatchStore>(topics: &[TopicLogs<S>], name: &[u8]) -> Option<usize>
+pub(crate) fn topic_index<S: BatchStore>(topics: &[TopicLogs<S>], name: &[u8]) -> Option<usize>
     ensures { result ≡ position (λ t. bytes_eq t.name name.now) topics.now }
 {
     topics
         .iter()
         .position(|topic| topic.name.as_slice() == name)
-}
-
-/// The topic of a name.
-pub(crate) fn topic_of<'a, S: BatchStore>(
-    topics: &'a [TopicLogs<S>],
-    name: &[u8],
-) -> Option<&'a TopicLogs<S>>
-    ensures { option_map (λ t. t.now) result ≡ find (λ t. bytes_eq t.name name.now) topics.now }
-{
-    topics.iter().find(|topic| topic.name.as_slice() == name)
-}
-
-/// The partition of a topic's name and a number.
-#[tactic(auto, using(crate::proofs::NewStates::in_topic, crate::proofs::NewStates::in_no_topic))]
-pub(crate) fn partition_of<'a, S: BatchStore>(
-    topics: &'a [TopicLogs<S>],
-    name: &[u8],
-    number: i32,
-) -> Option<&'a Partition<S>>
-    ensures { option_map (λ p. p.now.content) result ≡ option_and_then (partition_of number)
-        (find (λ t. bytes_eq t.name name.now) (map topic_contents topics.now)) }
-{
-    match topic_of(topics, name) {
-        Some(topic) => topic.partition(number),
-        None => None,
-    }
 }

@@ -10,7 +10,7 @@ use Rattle.request_frames.specs.Fetch.{fetch_partition, fetch_partition_value}
 use Rattle.frame_fields.specs.Frames.{framed}
 use Rattle.responses.specs.Responses.{response, topic_bytes}
 use Rattle.responses.specs.Fetch.{Fetched, fetched_bytes, fetch_response, fetch_value}
-use Rattle.responses.proofs.ResponseParts.{fetch_parts}
+use Rattle.responses.proofs.FetchParts.{fetch_parts}
 use Rattle.answering.specs.Work.{MayAnswer}
 use Rattle.broker_state.specs.State.{State}
 use Rattle.log_requests.specs.Fetch.{FetchRoom, fetch_work}

@@ -11,7 +11,7 @@ use Rattle.request_frames.specs.ListOffsets.{list_offsets_partition, list_offset
 use Rattle.frame_fields.specs.Frames.{framed}
 use Rattle.responses.specs.Responses.{response, topic_bytes}
 use Rattle.responses.specs.ListOffsets.{list_offsets_answer_bytes, list_offsets_response, list_offsets_value}
-use Rattle.responses.proofs.ResponseParts.{list_offsets_parts}
+use Rattle.responses.proofs.ListOffsetsParts.{list_offsets_parts}
 use Rattle.answering.specs.Work.{answer, IsAnswer, MayAnswer}
 use Rattle.broker_state.specs.State.{State}
 use Rattle.log_requests.specs.ListOffsets.{list_offsets_work}

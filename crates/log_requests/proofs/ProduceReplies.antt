@@ -15,7 +15,7 @@ use Rattle.request_frames.specs.Produce.{ProduceValue, produce_partition, produc
 use Rattle.frame_fields.specs.Frames.{framed}
 use Rattle.responses.specs.Responses.{response, topic_bytes}
 use Rattle.responses.specs.Produce.{produced_bytes, produce_response, produce_value}
-use Rattle.responses.proofs.ResponseParts.{produce_parts}
+use Rattle.responses.proofs.ProduceParts.{produce_parts}
 use Rattle.answering.specs.Work.{MayAnswer}
 use Rattle.broker_state.specs.State.{State}
 use Rattle.log_requests.specs.Produce.{produce_work, produce_plan}

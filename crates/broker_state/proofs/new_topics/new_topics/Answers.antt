@@ -1,4 +1,4 @@
-use Rattle.std.proofs.Common.{ap, ◌∙◌, rules}
+use Rattle.std.proofs.Common.{ap, ◌∙◌}
 use Rattle.broker_state.specs.State.{group_topic}
 use Rattle.broker_state.specs.ConfigValues.{topic_config}
 use Rattle.broker_state.specs.Parts.{new_parts}
