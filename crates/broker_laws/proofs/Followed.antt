@@ -1,6 +1,6 @@
 -- Lists that are answered element by element. What each answer has in a state with an invariant, all have; and what each
 -- answer takes from a budget that the state holds, all take together.
-use Rattle.std.proofs.Common.{◌≡◌, ℕ, ◌+◌, ◌*◌, ◌≤◌, List, [], ◌∷◌, ◌++◌, length, ap, subst, ◌∙◌, arith}
+use Rattle.std.proofs.Common.{◌≡◌, ℕ, suc, ◌+◌, ◌*◌, ◌≤◌, List, [], ◌∷◌, ◌++◌, length, refl, ap, subst, ◌∙◌, arith}
 use Rattle.std.specs.Prelude.{map}
 use Rattle.std.specs.List.{flat_map, AllByRecursion}
 use Rattle.std.proofs.lemmas.List.{length-append}
@@ -19,7 +19,7 @@ pub paired_length : {X Y : Type 0} (P : X → Y → Type 0) (xs : List X) (ys : 
 paired_length P [] [] all = refl
 paired_length P [] (y ∷ ys) all = absurd all
 paired_length P (x ∷ xs) [] all = absurd all
-paired_length P (x ∷ xs) (y ∷ ys) all = ap (λ n. n + 1) (paired_length P xs ys all.1)
+paired_length P (x ∷ xs) (y ∷ ys) all = ap suc (paired_length P xs ys all.1)
 
 pub paired_second : {X Y : Type 0} (P : X → Y → Type 0) (Q : Y → Type 0) → ((x : X) (y : Y) → P x y → Q y) → (xs : List X) (ys : List Y) → Paired P xs ys → AllByRecursion Q ys
 paired_second P Q gives [] [] all = tt
@@ -53,7 +53,7 @@ total w (y ∷ ys) = w y + total w ys
 
 pub none_in_all : {Y : Type 0} (ys : List Y) → total (λ (y : Y). 0) ys ≡ 0
 none_in_all [] = refl
-none_in_all (y ∷ ys) = none_in_all ys
+none_in_all (y ∷ ys) = omega (arith, none_in_all ys)
 
 pub spent : {S X Y : Type 0} (A : S → X → Y → S → Type 0) (w : Y → ℕ) (b : S → ℕ) → ((s : S) (x : X) (y : Y) (m : S) → A s x y m → w y + b m ≤ b s)
     → (s : S) (xs : List X) (ys : List Y) (end : S) → AnswersAll A s xs ys end → total w ys + b end ≤ b s

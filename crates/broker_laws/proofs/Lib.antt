@@ -1,3 +1,11 @@
 pub mod AnsweredFrames
-pub mod Followed
-pub mod TopicsFit
+mod Followed
+mod Said
+mod TopicsFit
+mod ValidContents
+mod SoundStates
+mod Works
+mod Appendable
+mod ProduceFits
+mod ListOffsetsFits
+mod FetchFits

@@ -9,25 +9,14 @@ use Rattle.std.specs.List.{flat_map, AllByRecursion}
 use Rattle.std.proofs.lemmas.List.{length-append, length-map}
 use Rattle.std.proofs.lemmas.List.Folds.{flat_map-map}
 use Rattle.frame_fields.specs.Fields.{size16, size32, Fields, end, array, Value, be, field, FitsLength, Fits, ElementsFit, encoded}
-use Rattle.frame_fields.specs.Types.{TopicOf, string, topic, ◌⨾◌}
+use Rattle.frame_fields.specs.Types.{TopicOf, string, topic, ◌⨾◌, topic_request}
 use Rattle.frame_fields.proofs.Numbers.{length-be}
-use Rattle.request_frames.specs.Requests.{topic_request}
 use Rattle.responses.specs.Responses.{topic_values}
 use Rattle.answering.specs.Plans.{AnswersAll, AnswersTopic, AnswersTopics}
+use Rattle.broker_laws.proofs.Said.{IsSaid, said_entries, topic_length}
 use Rattle.broker_laws.proofs.Followed.{Paired, paired_length, paired_second, paired_weaker, followed, total, spent, longer, grown}
 
--- a topic's encoding: its name's length, its name, the count, the entries
-pub topic_length : (d : Fields) (t : Value (topic d)) → length (encoded (topic d) t) ≡ 6 + (length t.0 + length (flat_map (encoded d) t.1.0))
-unfolding encoded
-topic_length d t =
-    let name : length (field string t.0) ≡ 2 + length t.0 = length-append (be size16 (pos (length t.0))) t.0 ∙ ap (λ n. n + length t.0) (length-be size16 (pos (length t.0))) in
-    let count : length (be size32 (pos (length t.1.0)) ++ flat_map (encoded d) t.1.0) ≡ 4 + length (flat_map (encoded d) t.1.0) =
-        length-append (be size32 (pos (length t.1.0))) (flat_map (encoded d) t.1.0) ∙ ap (λ n. n + length (flat_map (encoded d) t.1.0)) (length-be size32 (pos (length t.1.0))) in
-    let all = length-append (field string t.0) ((be size32 (pos (length t.1.0)) ++ flat_map (encoded d) t.1.0) ++ []) in
-    let last = length-append (be size32 (pos (length t.1.0)) ++ flat_map (encoded d) t.1.0) [] in
-    omega (arith, name, count, all, last)
-
-module _ {E R S : Type 0} (P : Fields) (f : Value P → E) (Q : Fields) (g : R → Value Q) (extra : R → ℕ) where
+module _ {R : Type 0} (P Q : Fields) (g : R → Value Q) (extra : R → ℕ) where
   -- what an answer to an entry has
   pub record EntryFits (e : Value P) (r : R) : Type 0 where
     pub fits : Fits Q (g r)
@@ -64,23 +53,22 @@ module _ {E R S : Type 0} (P : Fields) (f : Value P → E) (Q : Fields) (g : R �
         omega (arith, more, mapped, same, topic_length P t, topic_length Q (value_of r));
   }
 
-  module _ (A : S → List ℕ → E → R → S → Type 0) (I : S → Type 0)
-      (step : (s : S) (name : List ℕ) (e : Value P) (r : R) (m : S) → I s → Fits P e → A s name (f e) r m → EntryFits e r × I m) where
-    one_topic : (s : S) (t : Value (topic P)) (r : TopicOf R) (m : S) → I s → Fits (topic P) t → AnswersTopic A s (topic_request P f t) r m → TopicFits t r × I m
-    unfolding Fits
-    one_topic s t r m i fits answers =
-        let all = followed f (λ s e y m. A s t.0 e y m) I (Fits P) EntryFits (λ s e r m. step s t.0 e r m) s t.1.0 r.entries m i fits.1.0.1 answers.1 in
-        (topic_fits t r fits answers.0 all.0, all.1)
+  module _ {E S : Type 0} (f : Value P → E) (A : S → List ℕ → E → R → S → Type 0) (I : S → Type 0)
+      (step : (s : S) (name : List ℕ) (e : Value P) (r : R) (m : S) → I s → IsSaid P e → A s name (f e) r m → EntryFits e r × I m) where
+    one_topic : (s : S) (t : Value (topic P)) (r : TopicOf R) (m : S) → I s → IsSaid (topic P) t → AnswersTopic A s (topic_request P f t) r m → TopicFits t r × I m
+    one_topic s t r m i said answers =
+        let all = followed f (λ s e y m. A s t.0 e y m) I (IsSaid P) EntryFits (λ s e r m. step s t.0 e r m) s t.1.0 r.entries m i (said_entries P t said) answers.1 in
+        (topic_fits t r said.fits answers.0 all.0, all.1)
 
-    pub topics_fit : (s end : S) (ts : List (Value (topic P))) (rs : List (TopicOf R)) → I s → ElementsFit (Fits (topic P)) ts → AnswersTopics A s (map (topic_request P f) ts) rs end
-        → (ElementsFit (Fits (topic Q)) (topic_values Q g rs) × (length (flat_map (encoded (topic Q)) (topic_values Q g rs)) ≤ 3 * length (flat_map (encoded (topic P)) ts) + total extra_of rs)) × I end
-    topics_fit s end ts rs i fits answers =
-        let all = followed (topic_request P f) (AnswersTopic A) I (Fits (topic P)) TopicFits one_topic s ts rs end i fits.1 answers in
+    pub topics_fit : (s last : S) (ts : List (Value (topic P))) (rs : List (TopicOf R)) → I s → FitsLength size32 (length ts) → AllByRecursion (IsSaid (topic P)) ts → AnswersTopics A s (map (topic_request P f) ts) rs last
+        → (ElementsFit (Fits (topic Q)) (topic_values Q g rs) × (length (flat_map (encoded (topic Q)) (topic_values Q g rs)) ≤ 3 * length (flat_map (encoded (topic P)) ts) + total extra_of rs)) × I last
+    topics_fit s last ts rs i count said answers =
+        let all = followed (topic_request P f) (AnswersTopic A) I (IsSaid (topic P)) TopicFits one_topic s ts rs last i said answers in
         let more : length (flat_map (λ r. encoded (topic Q) (value_of r)) rs) ≤ 3 * length (flat_map (encoded (topic P)) ts) + total extra_of rs =
             grown (encoded (topic P)) (λ r. encoded (topic Q) (value_of r)) extra_of ts rs (paired_weaker TopicFits (λ t r. length (encoded (topic Q) (value_of r)) ≤ 3 * length (encoded (topic P) t) + extra_of r) (λ t r one. one.size) ts rs all.0) in
         let mapped : length (flat_map (encoded (topic Q)) (topic_values Q g rs)) ≡ length (flat_map (λ r. encoded (topic Q) (value_of r)) rs) = ap length (flat_map-map (encoded (topic Q)) value_of rs) in
         ((
-          (subst (λ (n : ℕ). FitsLength size32 n) (sym (length-map rs value_of ∙ paired_length TopicFits ts rs all.0)) fits.0, topics_mapped rs (paired_second TopicFits (λ r. Fits (topic Q) (value_of r)) (λ t r one. one.fits) ts rs all.0)),
+          (subst (λ (n : ℕ). FitsLength size32 n) (sym (length-map rs value_of ∙ paired_length TopicFits ts rs all.0)) count, topics_mapped rs (paired_second TopicFits (λ r. Fits (topic Q) (value_of r)) (λ t r one. one.fits) ts rs all.0)),
           omega (arith, more, mapped),
         ), all.1)
       where

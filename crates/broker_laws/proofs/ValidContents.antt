@@ -69,14 +69,11 @@ stamps_fit (b ∷ bs) keepable ranges =
 -- what is found among elements of which each has a property has it
 pub found_has : {X : Type 0} (P : X → Type 0) (test : X → Bool) (xs : List X) (x : X) → AllByRecursion P xs → find test xs ≡ Some x → P x
 found_has P test [] x all e = absurd cc
-found_has {X = X} P test (y ∷ ys) x all e = by (test y) e
+found_has {X = X} P test (y ∷ ys) x all e = by (test y) (found_has P test ys x all.1) e
   where
-    rest : find test ys ≡ Some x → P x
-    rest = found_has P test ys x all.1
-
-    by : (b : Bool) → cond b (Some y) (find test ys) ≡ Some x → P x
-    by true f = let same : y ≡ x = cc in subst P same all.0
-    by false f = rest f
+    by : (b : Bool) → (find test ys ≡ Some x → P x) → cond b (Some y) (find test ys) ≡ Some x → P x
+    by true rest f = let same : y ≡ x = cc in subst P same all.0
+    by false rest f = rest f
 
 pub time_fits : (c : Content) (time : ℤ) (stamp : ℤ × ℤ) → IsContent c → first_by_time time c.kept ≡ Some stamp → StampFits stamp
 time_fits c time stamp is = found_has StampFits _ (stamps c.kept) stamp (stamps_fit c.kept is.keepable (kept_in_range c is))
