@@ -114,39 +114,36 @@ records_of r = length r.records
 abbrev pub IsRoom : FetchRoom → Type 0
 IsRoom room = room.left ≤ MAX_FETCH_BYTES
 
-abbrev Has : Entry → FetchRoom → Fetched → FetchRoom → Type 0
-Has e room r after = EntryFits fetch_partition (fetched_fields bytes) fetched_of records_of e r × IsRoom after × (records_of r + room_of after ≤ room_of room)
+abbrev Has : Entry → Fetched → FetchRoom → Type 0
+Has e r after = EntryFits fetch_partition (fetched_fields bytes) fetched_of records_of e r × IsRoom after
 
-answered : (e : Entry) (room after : FetchRoom) (code last : ℤ) (run : List BatchValue) → IsSaid fetch_partition e → FitsSigned w16 code → FitsSigned w64 last → bytes_of run < 2 ^ 31
-    → IsRoom after → bytes_of run + room_of after ≤ room_of room → Has e room (fetch_result e.0 code last run) after
+answered : (e : Entry) (after : FetchRoom) (code last : ℤ) (run : List BatchValue) → IsSaid fetch_partition e → FitsSigned w16 code → FitsSigned w64 last → bytes_of run < 2 ^ 31 → IsRoom after
+    → Has e (fetch_result e.0 code last run) after
 unfolding Fits
-answered e room after code last run said c l small left less = (record {
+answered e after code last run said c l small left = (record {
   fits = (said.fits.0, (c, (l, (l, (tt, (record { sfits = small }, tt))))));
   size = omega (arith, entry_long e, answer_long (fetch_result e.0 code last run));
-}, left, less)
+}, left)
+
+small_run : (room : FetchRoom) (force : Bool) (limit : ℤ) (run : List BatchValue) → IsRoom room → FitsOrForced force (min (fetch_limit limit) room.left) run → bytes_of run < 2 ^ 31
+small_run room force limit run left (inl h) = omega (arith, h, left)
+small_run room force limit run left (inr h) = let most = h.1 in omega (arith, most)
 
 module _ (s : State) (sound : IsSound s) where
-  fetch_step : (room : FetchRoom) (name : List ℕ) (e : Entry) (r : Fetched) (after : FetchRoom) → IsRoom room → IsSaid fetch_partition e → MayAnswer (fetch_work s room name (fetch_partition_value e)) room r after → Has e room r after
-  fetch_step room name e r after left said = worked (Has e room) (fetch_work s room name (fetch_partition_value e)) room r after
-      (λ code. answered e room room (code_number code) (negsuc 0) [] said (code_fits code) (null_fits size64) (omega arith) left (omega arith))
-      (λ none. done)
-    where
-      c : Content
-      c = content_at s name e.0
-
-      run : List BatchValue
-      run = fetch_run_within room c (fetch_partition_value e)
-
-      done : Has e room (fetch_result e.0 no_error (end (content_at s name e.0)) (fetch_run_within room (content_at s name e.0) (fetch_partition_value e))) (fetch_room_after room (fetch_run_within room (content_at s name e.0) (fetch_partition_value e)))
-      done =
+  pub fetch_entry : (room : FetchRoom) (name : List ℕ) (e : Entry) (r : Fetched) (after : FetchRoom) → IsRoom room → IsSaid fetch_partition e → MayAnswer (fetch_work s room name (fetch_partition_value e)) room r after → Has e r after
+  fetch_entry room name e r after left said = worked (Has e) (fetch_work s room name (fetch_partition_value e)) room r after
+      (λ code. answered e room (code_number code) (negsuc 0) [] said (code_fits code) (null_fits size64) (omega arith) left)
+      (λ none.
+          let c = content_at s name e.0 in
           let is = content_valid s name e.0 sound in
-          let of_run = run_within room (content_at s name e.0) (fetch_partition_value e) is in
-          by (fetch_run_within room (content_at s name e.0) (fetch_partition_value e)) (end_fits (content_at s name e.0) is) of_run
-        where
-          small : (run : List BatchValue) → FitsOrForced (not room.given) (min (fetch_limit e.1.1.0) room.left) run → bytes_of run < 2 ^ 31
-          small run (inl h) = omega (arith, h, left)
-          small run (inr h) = let most = h.1 in omega (arith, most)
+          let run = fetch_run_within room c (fetch_partition_value e) in
+          answered e (fetch_room_after room run) no_error (end c) run said no_error_fits (end_fits c is) (small_run room (not room.given) e.1.1.0 run left (run_within room c (fetch_partition_value e) is)) (omega (arith, left)))
 
-          by : {last : ℤ} (run : List BatchValue) → FitsSigned w64 last → FitsOrForced (not room.given) (min (fetch_limit e.1.1.0) room.left) run → Has e room (fetch_result e.0 no_error last run) (fetch_room_after room run)
-          by {last = last} run fits h = answered e room (fetch_room_after room run) no_error last run said no_error_fits fits (small run h) (omega (arith, left))
-              (spends (min (fetch_limit e.1.1.0) room.left) room.left (bytes_of run) (length run) room.given (omega arith) h (no_batches run))
+  -- what is given comes from the room
+  pub fetch_spends : (room : FetchRoom) (name : List ℕ) (e : FetchPartitionValue) (r : Fetched) (after : FetchRoom) → MayAnswer (fetch_work s room name e) room r after → records_of r + room_of after ≤ room_of room
+  fetch_spends room name e r after = worked (λ r after. records_of r + room_of after ≤ room_of room) (fetch_work s room name e) room r after
+      (λ code. omega arith)
+      (λ none.
+          let c = content_at s name e.partition in
+          let run = fetch_run_within room c e in
+          spends (min (fetch_limit e.max_bytes) room.left) room.left (bytes_of run) (length run) room.given (omega arith) (run_within room c e (content_valid s name e.partition sound)) (no_batches run))

@@ -9,3 +9,5 @@ mod Appendable
 mod ProduceFits
 mod ListOffsetsFits
 mod FetchFits
+mod MetadataFits
+mod RepliesFit

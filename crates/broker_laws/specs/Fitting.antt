@@ -34,9 +34,13 @@ pub record IsFitting (correlation : ℤ) (d : Fields) (bytes : List ℕ) : Type 
   pub size : length bytes < 2 ^ 31
 
 -- nothing is sent, or a response that fits
+abbrev pub FitsIfSent : (correlation : ℤ) → Fields → Option (List ℕ) → Type 0
+FitsIfSent correlation d None = ⊤
+FitsIfSent correlation d (Some bytes) = IsFitting correlation d bytes
+
+-- what is replied to a request fits
 abbrev pub FitsReply : RequestValue → Option (List ℕ) → Type 0
-FitsReply q None = ⊤
-FitsReply q (Some bytes) = IsFitting q.correlation (response_fields q.body) bytes
+FitsReply q out = FitsIfSent q.correlation (response_fields q.body) out
 
 -- ---- states
 
