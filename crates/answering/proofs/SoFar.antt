@@ -1,12 +1,15 @@
 -- Lists that are answered element by element, each answer written as it comes.
 use Rattle.std.proofs.Common.{◌≡◌, ℕ, suc, ◌+◌, ◌*◌, ◌≤◌, List, [], ◌∷◌, ◌++◌, length, Option, Some, refl, sym, ap, subst, ◌∙◌, arith, append_assoc, append-nil}
+use Rattle.std.specs.Prelude.{ℤ, pos, Result, Ok, Err, OnOk, if◌then◌else◌}
+use Rattle.std.specs.Result.{is_ok}
 use Rattle.std.specs.List.{flat_map}
 use Rattle.std.proofs.lemmas.List.{length-append}
+use Rattle.frame_fields.specs.Fields.{size32, be}
 use Rattle.frame_fields.specs.Types.{TopicOf}
-use Rattle.responses.specs.Responses.{topic_head, topic_bytes}
+use Rattle.responses.specs.Responses.{response_head, topic_head, topic_bytes}
 use Rattle.answering.specs.Plans.{AnswersAll}
 use Rattle.answering.specs.Writing.{Begins, topic_room, topics_room}
-use Rattle.answering.specs.WritingParts.{SoFar, WritesSoFar, FitsSoFar}
+use Rattle.answering.specs.WritingParts.{WritesTopics, WritesResponse, SoFar, WritesSoFar, FitsSoFar}
 
 -- ---- what is answered and written
 
@@ -106,3 +109,25 @@ topics_parts left ts t is n = ap (topics_room n) is
 
 pub no_less : (a b c : ℕ) → a ≤ b → b ≤ c → a ≤ c
 no_less a b c x y = omega (arith, x, y)
+
+-- ---- a whole response
+
+-- what comes before the topics, the topics, and what comes after them, where the last one went well
+pub response_written : {V R S E : Type 0} (r : Result (Unit {0}) E) (A : S → List ℕ → V → R → S → Type 0) (enc : R → List ℕ) (n z : ℤ) (before ahead : List ℕ) (s end : S) (ts : List (TopicOf V)) (out headed middle out' : List ℕ) (count : ℕ)
+    → z ≡ n → count ≡ length ts → headed ≡ out ++ response_head z ++ before ++ be size32 (pos count) → WritesTopics A enc s ts headed middle end
+    → out' ≡ (if is_ok r then middle ++ ahead else middle) → OnOk r (WritesResponse A enc n before s ts ahead out out' end)
+response_written (Err e) A enc n z before ahead s end ts out headed middle out' count number counts heads written e' = tt
+response_written (Ok u) A enc n z before ahead s end ts out headed middle out' count number counts heads written e' =
+    let front = out ++ response_head n in
+    let topics = flat_map (topic_bytes enc) written.results in
+    let counted : count ≡ length written.results = counts ∙ sym written.as_many in
+    record {
+      results = written.results;
+      answers = written.answers;
+      appends = e' ∙ (λ i. written.appends i ++ ahead) ∙ (λ i. (heads i ++ topics) ++ ahead)
+          ∙ (λ i. ((((out ++ response_head (number i)) ++ before) ++ be size32 (pos (counted i))) ++ topics) ++ ahead)
+          ∙ in_parts front before (be size32 (pos (length written.results))) topics ahead;
+    }
+  where
+    in_parts : (a b c d e : List ℕ) → (((a ++ b) ++ c) ++ d) ++ e ≡ a ++ ((b ++ (c ++ d)) ++ e)
+    in_parts a b c d e = simp append_assoc

@@ -8,38 +8,4 @@
 #![tactic(auto)]
 
 #[cfg(test)]
-mod brokers;
-#[cfg(test)]
-mod command_lines;
-#[cfg(test)]
-mod copying;
-#[cfg(test)]
-mod cutting;
-#[cfg(test)]
-mod failing_streams;
-#[cfg(test)]
-mod frames;
-#[cfg(test)]
-mod memory;
-#[cfg(test)]
-mod new_brokers;
-#[cfg(test)]
-mod one;
-#[cfg(test)]
-mod parts;
-#[cfg(test)]
-mod pieces;
-#[cfg(test)]
-mod refusing;
-#[cfg(test)]
-mod script_memory;
-#[cfg(test)]
-mod sessions;
-#[cfg(test)]
-mod sinks;
-#[cfg(test)]
-mod sources;
-#[cfg(test)]
-mod table_memory;
-#[cfg(test)]
-mod writing;
+mod tests;

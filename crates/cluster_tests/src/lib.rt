@@ -2,18 +2,4 @@
 #![tactic(auto)]
 
 #[cfg(test)]
-mod copies;
-#[cfg(test)]
-mod event_memory;
-#[cfg(test)]
-mod events;
-#[cfg(test)]
-mod leading;
-#[cfg(test)]
-mod memory;
-#[cfg(test)]
-mod merging;
-#[cfg(test)]
-mod outside;
-#[cfg(test)]
-mod parts;
+mod tests;

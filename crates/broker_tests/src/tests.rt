@@ -1,0 +1,20 @@
+//! The tests, and what they share, a file for each.
+
+mod brokers;
+mod command_lines;
+mod copying;
+mod cutting;
+mod failing_streams;
+mod frames;
+mod memory;
+mod new_brokers;
+mod one;
+mod parts;
+mod pieces;
+mod refusing;
+mod script_memory;
+mod sessions;
+mod sinks;
+mod sources;
+mod table_memory;
+mod writing;

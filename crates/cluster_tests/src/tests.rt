@@ -1,0 +1,10 @@
+//! The tests, and what they share, a file for each.
+
+mod copies;
+mod event_memory;
+mod events;
+mod leading;
+mod memory;
+mod merging;
+mod outside;
+mod parts;

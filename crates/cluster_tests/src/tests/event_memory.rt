@@ -1,0 +1,325 @@
+//! Clusters with each allocation failing in turn: they are as they were, and the same call then succeeds.
+//! A call counts it where it lacks memory.
+
+use crate::tests::events::{Answer, end_of};
+use crate::tests::memory::{MOST, count};
+use crate::tests::outside::{EMPTY, SECOND_OF_TWO, TWO};
+use cluster::{Cluster, ClusterError, Event, EventError, Outcome};
+use copy_images::write_image;
+use outside_batches::{NINE, THREE, nine_at};
+use partition_log::{CleanReport, Delivered, PartitionLog};
+use refusing_alloc::Refusing;
+use segment::{BatchStore, VecStore};
+use std::alloc::{AllocError, Global};
+use std::test::Fail;
+
+/// An event.
+#[derive(Clone, Copy)]
+enum Told {
+    /// These bytes are sent to the leader.
+    Produce(&'static [u8]),
+    /// A batch is delivered to a copy.
+    Deliver(usize, usize),
+    /// A copy is cleaned up to an offset.
+    Clean(usize, i64),
+    /// The image of a copy is kept.
+    Send(usize),
+    /// An image is merged into a copy.
+    Merge(usize, usize),
+}
+
+/// Events that happen one after the other, and their answers.
+static STEPS: [(Told, Answer); 8] = [
+    (
+        Told::Produce(&TWO),
+        Ok(Outcome::Based {
+            base: 0,
+            repeat: false,
+        }),
+    ),
+    (
+        Told::Clean(0, 2),
+        Ok(Outcome::Cleaned(CleanReport {
+            records: 1,
+            tombstones: 0,
+            batches: 0,
+        })),
+    ),
+    (Told::Send(0), Ok(Outcome::Sent { image: 0 })),
+    (
+        Told::Produce(&NINE),
+        Ok(Outcome::Based {
+            base: 2,
+            repeat: false,
+        }),
+    ),
+    (
+        Told::Clean(0, 3),
+        Ok(Outcome::Cleaned(CleanReport {
+            records: 1,
+            tombstones: 0,
+            batches: 1,
+        })),
+    ),
+    (
+        Told::Deliver(1, 0),
+        Ok(Outcome::Delivered(Delivered::Added)),
+    ),
+    (Told::Merge(2, 0), Ok(Outcome::Merged)),
+    (Told::Send(3), Ok(Outcome::Sent { image: 1 })),
+];
+
+/// A list of events behind these, and their answers. Their order is all the same.
+static LIST: [(Told, Answer); 5] = [
+    (
+        Told::Deliver(1, 1),
+        Ok(Outcome::Delivered(Delivered::Added)),
+    ),
+    (Told::Merge(3, 0), Ok(Outcome::Merged)),
+    (
+        Told::Clean(1, 2),
+        Ok(Outcome::Cleaned(CleanReport {
+            records: 1,
+            tombstones: 0,
+            batches: 0,
+        })),
+    ),
+    (
+        Told::Produce(&THREE),
+        Ok(Outcome::Based {
+            base: 3,
+            repeat: false,
+        }),
+    ),
+    (Told::Send(2), Ok(Outcome::Sent { image: 2 })),
+];
+
+/// An event as a cluster takes it.
+fn event_of(alloc: Global, told: Told) -> Result<Event<Global>, AllocError> {
+    Ok(match told {
+        Told::Produce(bytes) => Event::Produce {
+            bytes: Vec::from_slice(alloc, bytes)?,
+        },
+        Told::Deliver(copy, batch) => Event::Deliver { copy, batch },
+        Told::Clean(copy, upto) => Event::Clean {
+            copy,
+            upto,
+            tomb_before: 0,
+        },
+        Told::Send(copy) => Event::Send { copy },
+        Told::Merge(copy, image) => Event::Merge { copy, image },
+    })
+}
+
+/// The events of a table.
+fn events_of(
+    alloc: Global,
+    table: &[(Told, Answer)],
+) -> Result<Vec<Event<Global>, Global>, AllocError> {
+    let mut events = Vec::new(alloc);
+    for (told, _) in table {
+        events.push(event_of(alloc, *told)?)?;
+    }
+    Ok(events)
+}
+
+/// Adds the image of a copy, where there is such a copy.
+fn add_copy<S: BatchStore>(
+    alloc: Global,
+    copy: Option<&PartitionLog<S>>,
+    out: &mut Vec<u8, Global>,
+) -> Result<(), AllocError> {
+    match copy {
+        Some(copy) => out.extend_from_slice(&write_image(alloc, copy)?),
+        None => Ok(()),
+    }
+}
+
+/// Adds what a cluster shows by a number: a copy's image, a batch, and an image.
+fn add_shown<S: BatchStore>(
+    alloc: Global,
+    cluster: &Cluster<S>,
+    number: usize,
+    out: &mut Vec<u8, Global>,
+) -> Result<(), AllocError> {
+    add_copy(alloc, cluster.copy(number), out)?;
+    out.extend_from_slice(cluster.archived(number).unwrap_or(&[]))?;
+    out.extend_from_slice(cluster.image(number).unwrap_or(&[]))
+}
+
+/// All that a cluster shows.
+fn shown<S: BatchStore>(
+    alloc: Global,
+    cluster: &Cluster<S>,
+) -> Result<Vec<u8, Global>, AllocError> {
+    let mut out = Vec::new(alloc);
+    for number in 0..5 {
+        add_shown(alloc, cluster, number, &mut out)?;
+    }
+    Ok(out)
+}
+
+/// Whether an event happens that has this answer, again where memory lacked, and the cluster showed what it
+/// had shown then.
+fn happens<S: BatchStore>(
+    alloc: Global,
+    cluster: &mut Cluster<S>,
+    event: &Event<Global>,
+    wanted: Answer,
+    lacked: &mut u64,
+) -> bool {
+    let before = shown(alloc, cluster);
+    let mut answer = cluster.step(event);
+    let mut is_same = before.is_ok();
+    if answer == Err(EventError::OutOfMemory) {
+        count(lacked);
+        is_same = is_same && shown(alloc, cluster) == before;
+        answer = cluster.step(event);
+    }
+    is_same && answer == wanted
+}
+
+/// Whether the events happen one after the other.
+fn all_happen<S: BatchStore>(
+    alloc: Global,
+    cluster: &mut Cluster<S>,
+    events: &[Event<Global>],
+    lacked: &mut u64,
+) -> bool {
+    let mut all = true;
+    for (event, (_, answer)) in events.iter().zip(&STEPS) {
+        all = all && happens(alloc, cluster, event, *answer, lacked);
+    }
+    all
+}
+
+/// Whether the events of the list had their answers, again where they lacked memory.
+fn are_made_up<S: BatchStore>(
+    cluster: &mut Cluster<S>,
+    events: &[Event<Global>],
+    answers: &[Answer],
+    lacked: &mut u64,
+) -> bool {
+    let mut all = events.len() == answers.len();
+    for (event, (answer, (_, wanted))) in events.iter().zip(answers.iter().zip(&LIST)) {
+        let mut answer = *answer;
+        if answer == Err(EventError::OutOfMemory) {
+            count(lacked);
+            answer = cluster.step(event);
+        }
+        all = all && answer == *wanted;
+    }
+    all
+}
+
+/// Whether the events of the list happen at once, again where there was no memory for their answers, and
+/// none had happened then.
+fn list_happens<S: BatchStore>(
+    alloc: Global,
+    cluster: &mut Cluster<S>,
+    events: &[Event<Global>],
+    lacked: &mut u64,
+) -> bool {
+    let before = shown(alloc, cluster);
+    match cluster.run(events) {
+        Ok(answers) => are_made_up(cluster, events, &answers, lacked),
+        Err(_) => {
+            count(lacked);
+            let is_same = before.is_ok() && shown(alloc, cluster) == before;
+            let again = match cluster.run(events) {
+                Ok(answers) => are_made_up(cluster, events, &answers, lacked),
+                Err(_) => false,
+            };
+            is_same && again
+        }
+    }
+}
+
+/// Whether a copy has this image.
+fn has_image<S: BatchStore>(alloc: Global, copy: Option<&PartitionLog<S>>, image: &[u8]) -> bool {
+    match copy {
+        Some(copy) => match write_image(alloc, copy) {
+            Ok(bytes) => bytes.as_slice() == image,
+            Err(_) => false,
+        },
+        None => false,
+    }
+}
+
+/// Whether the cluster shows what the events leave.
+fn is_left<S: BatchStore>(alloc: Global, cluster: &Cluster<S>) -> bool {
+    let facts = [
+        end_of(cluster, 0) == Some(6),
+        end_of(cluster, 1) == Some(3),
+        has_image(alloc, cluster.copy(2), &SECOND_OF_TWO),
+        has_image(alloc, cluster.copy(3), &SECOND_OF_TWO),
+        cluster.archived(0) == Some(TWO.as_slice()),
+        cluster.archived(1) == Some(nine_at(2).as_slice()),
+        cluster.image(0) == Some(SECOND_OF_TWO.as_slice()),
+        cluster.image(1) == Some(EMPTY.as_slice()),
+        cluster.image(2) == Some(SECOND_OF_TWO.as_slice()),
+    ];
+    facts == [true; 9]
+}
+
+/// Whether all happens in a cluster as it should.
+fn does_all<S: BatchStore>(
+    alloc: Global,
+    cluster: &mut Cluster<S>,
+    (steps, list): (&[Event<Global>], &[Event<Global>]),
+    lacked: &mut u64,
+) -> bool {
+    let done = [
+        all_happen(alloc, cluster, steps, lacked),
+        list_happens(alloc, cluster, list, lacked),
+        is_left(alloc, cluster),
+    ];
+    done == [true; 3]
+}
+
+/// The same in a new cluster, which is made again where memory lacked.
+fn new_does_all<S: BatchStore>(
+    heap: S::Alloc,
+    alloc: Global,
+    events: (&[Event<Global>], &[Event<Global>]),
+    lacked: &mut u64,
+) -> bool {
+    let cluster = match Cluster::<S>::new(heap, 4) {
+        Err(ClusterError::OutOfMemory) => {
+            count(lacked);
+            Cluster::<S>::new(heap, 4)
+        }
+        cluster => cluster,
+    };
+    match cluster {
+        Ok(mut cluster) => does_all(alloc, &mut cluster, events, lacked),
+        Err(_) => false,
+    }
+}
+
+/// The number of the first allocation at whose failure not all happens as it should, or no call lacks memory; the number
+/// at which a call lacks memory though none failed; 1 where none is asked for, and [`MOST`] where each run asks for
+/// more. `None` where all is right.
+fn wrong_allocation(alloc: Global, events: (&[Event<Global>], &[Event<Global>])) -> Option<u64> {
+    for number in 1..MOST {
+        let heap = Refusing::new(alloc, number);
+        let mut lacked = 0;
+        let done = new_does_all::<VecStore<_>>(&heap, alloc, events, &mut lacked);
+        // each allocation that fails is that of a call
+        if !done || (lacked > 0) != (number <= heap.calls()) {
+            return Some(number);
+        }
+        if lacked == 0 {
+            return if number > 1 { None } else { Some(number) };
+        }
+    }
+    Some(MOST)
+}
+
+#[test]
+fn events_happen_later(rt: HostRuntime) -> Result<(), Fail> {
+    let steps = events_of(rt.alloc(), &STEPS)?;
+    let list = events_of(rt.alloc(), &LIST)?;
+    assert_eq!(rt; wrong_allocation(rt.alloc(), (&steps, &list)), None);
+    Ok(())
+}

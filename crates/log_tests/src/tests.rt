@@ -1,0 +1,17 @@
+//! The tests, and what they share, a file for each.
+
+mod answers;
+mod copy_memory;
+mod cover;
+mod crc32c_tests;
+mod decode_tests;
+mod encode_tests;
+mod leader;
+mod names;
+mod producer;
+mod producers;
+mod reads;
+mod set_base_tests;
+mod store;
+mod varint_tests;
+mod view_tests;

@@ -1,0 +1,198 @@
+//! A leader's log of many producers: what it answers to each, with an index of producers and without, and
+//! with each allocation failing in turn.
+use crate::tests::answers::{Answer, answer, is_added};
+use outside_batches::sent;
+use partition_log::{AppendError, CleanReport, LeaderLog, PartitionLog};
+use refusing_alloc::Refusing;
+use segment::{BatchStore, VecStore};
+use std::alloc::Allocator;
+
+/// How many producers there are.
+const PRODUCERS: i32 = 20;
+
+/// How many offsets they take, with three batches of one record each.
+const END: i32 = 60;
+
+/// More allocations than any run below asks for.
+const MOST: u64 = 500;
+
+/// What goes where every record but the last does, and no batch.
+const ALL_BUT_ONE: CleanReport = CleanReport {
+    records: 59,
+    tombstones: 0,
+    batches: 0,
+};
+
+/// The batch that the producers, in turn, have at an offset.
+fn in_turn(offset: i32) -> [u8; 70] {
+    let mut bytes = sent(i64::from(offset % PRODUCERS), 0, offset / PRODUCERS);
+    bytes[..8].copy_from_slice(&i64::from(offset).to_be_bytes());
+    bytes
+}
+
+/// Sends the batch that has this offset, and tells whether it goes there. Where memory lacks, which is
+/// counted, the log is as before, and it is sent again.
+fn is_appended<S: BatchStore>(log: &mut LeaderLog<S>, offset: i32, lacked: &mut u64) -> bool {
+    let bytes = in_turn(offset);
+    let base = i64::from(offset);
+    let mut answered = answer(log, &bytes);
+    let end = log.copy().end();
+    if answered == Some(Err(AppendError::OutOfMemory)) && end == base {
+        *lacked = lacked.saturating_add(1);
+        answered = answer(log, &bytes);
+    }
+    answered == Some(Ok((base, false)))
+}
+
+/// Whether the producers' batches go to the end in turn.
+fn are_appended<S: BatchStore>(log: &mut LeaderLog<S>, lacked: &mut u64) -> bool {
+    let mut all = true;
+    for offset in 0..END {
+        all = all && is_appended(log, offset, lacked);
+    }
+    all
+}
+
+/// Whether each of the producers' batches is a repeat.
+fn are_repeats<S: BatchStore>(log: &mut LeaderLog<S>) -> bool {
+    let mut all = true;
+    for offset in 0..END {
+        let repeat = Some(Ok((i64::from(offset), true)));
+        all = all && answer(log, &in_turn(offset)) == repeat;
+    }
+    all
+}
+
+/// Whether a copy has the batches as they were sent.
+fn has_all<S: BatchStore>(copy: &PartitionLog<S>) -> bool {
+    copy.len() == 60 && copy.end() == 60 && copy.bytes_of(0) == in_turn(0).as_slice()
+}
+
+/// Cleans the log, again where memory lacks, which is counted, and tells whether every record but the last
+/// goes, and no batch.
+fn is_cleaned<S: BatchStore>(log: &mut LeaderLog<S>, lacked: &mut u64) -> bool {
+    match log.clean(60, 0) {
+        Ok(report) => report == ALL_BUT_ONE,
+        Err(_) => {
+            *lacked = lacked.saturating_add(1);
+            has_all(log.copy()) && log.clean(60, 0) == Ok(ALL_BUT_ONE)
+        }
+    }
+}
+
+/// A batch's name, its producer, epoch and sequence number, and what the leader answers.
+type Row = (&'static str, i64, i16, i32, Answer);
+
+/// Batches that are sent behind those of the producers.
+static ROWS: [Row; 12] = [
+    ("the first of 0 again", 0, 0, 0, Ok((0, true))),
+    ("the second of 7 again", 7, 0, 1, Ok((27, true))),
+    ("the last of 19 again", 19, 0, 2, Ok((59, true))),
+    ("one of 7 left out", 7, 0, 4, Err(AppendError::OutOfOrder)),
+    ("7 goes on", 7, 0, 3, Ok((60, false))),
+    ("a producer never met", 20, 3, 9, Ok((61, false))),
+    ("it goes on", 20, 3, 10, Ok((62, false))),
+    ("its first again", 20, 3, 9, Ok((61, true))),
+    ("a later epoch of 19", 19, 1, 0, Ok((63, false))),
+    ("the epoch before", 19, 0, 3, Err(AppendError::OldEpoch)),
+    ("one of it left out", 19, 1, 2, Err(AppendError::OutOfOrder)),
+    ("what 7 sent last", 7, 0, 3, Ok((60, true))),
+];
+
+/// What the log of a copy answers that has no index of producers.
+fn answer_without<S: BatchStore>(copy: &PartitionLog<S>, bytes: &[u8]) -> Option<Answer> {
+    let clone = copy.try_clone().ok()?;
+    match LeaderLog::from_copy(clone) {
+        Ok(mut log) => answer(&mut log, bytes),
+        Err(_) => None,
+    }
+}
+
+/// The name of the first batch of these that the log answers in another way, with its index or without; empty
+/// where there is none.
+fn wrong_row<S: BatchStore>(log: &mut LeaderLog<S>, rows: &[Row]) -> &'static str {
+    let mut wrong = "";
+    for (name, producer, epoch, sequence, wanted) in rows {
+        let bytes = sent(*producer, *epoch, *sequence);
+        let answers = [answer_without(log.copy(), &bytes), answer(log, &bytes)];
+        if wrong.is_empty() && answers != [Some(*wanted); 2] {
+            wrong = *name;
+        }
+    }
+    wrong
+}
+
+/// What is wrong of a log that takes the producers' batches, is cleaned, knows them before and after, and is
+/// sent the batches of these rows then; empty where all is right.
+fn wrong_of<S: BatchStore>(log: &mut LeaderLog<S>, lacked: &mut u64, rows: &[Row]) -> &'static str {
+    let known = [
+        are_appended(log, lacked),
+        are_repeats(log),
+        is_cleaned(log, lacked),
+        are_repeats(log),
+    ];
+    if known == [true; 4] {
+        wrong_row(log, rows)
+    } else {
+        "the producers' batches"
+    }
+}
+
+/// The same of a new log.
+fn wrong_of_new<S: BatchStore>(heap: S::Alloc, lacked: &mut u64, rows: &[Row]) -> &'static str {
+    match LeaderLog::from_copy(PartitionLog::<S>::new(heap)) {
+        Ok(mut log) => wrong_of(&mut log, lacked, rows),
+        Err(_) => "a gap",
+    }
+}
+
+#[test]
+fn each_producer_has_its_window(rt: HostRuntime) {
+    assert_eq!(rt; wrong_of_new::<VecStore<_>>(rt.alloc(), &mut 0, &ROWS), "");
+}
+
+/// Whether a new copy takes the batches and is cleaned.
+fn copy_is_cleaned<S: BatchStore>(heap: S::Alloc) -> bool {
+    let mut copy = PartitionLog::<S>::new(heap);
+    let mut all = true;
+    for offset in 0..END {
+        all = all && is_added(&mut copy, &in_turn(offset));
+    }
+    all && has_all(&copy) && copy.clean(60, 0) == Ok(ALL_BUT_ONE)
+}
+
+/// How many allocations a new copy asks for that takes the batches and is cleaned; `None` where anything is wrong, or it
+/// asks for none.
+fn asked_by_copy<A: Allocator + Copy>(alloc: A) -> Option<u64> {
+    let heap = Refusing::new(alloc, 0);
+    if copy_is_cleaned::<VecStore<_>>(&heap) && heap.calls() > 0 {
+        Some(heap.calls())
+    } else {
+        None
+    }
+}
+
+/// How often a call of a log lacks memory, with each allocation failing in turn, until a run doesn't ask for the one
+/// that would fail; `None` where anything is wrong.
+fn lacked_by_log<A: Allocator + Copy>(alloc: A) -> Option<u64> {
+    let mut lacked = 0;
+    for refused in 1..MOST {
+        let heap = Refusing::new(alloc, refused);
+        if !wrong_of_new::<VecStore<_>>(&heap, &mut lacked, &[]).is_empty() {
+            return None;
+        }
+        if heap.calls() < refused {
+            return Some(lacked);
+        }
+    }
+    None
+}
+
+/// A call lacks memory where an allocation fails that the copy alone asks for too, and nowhere else: the
+/// others are the index's, which is left out.
+#[test]
+fn a_log_lacks_memory_where_its_copy_does(rt: HostRuntime) {
+    let asked = asked_by_copy(rt.alloc());
+    assert!(rt; asked.is_some());
+    assert_eq!(rt; lacked_by_log(rt.alloc()), asked);
+}
