@@ -23,12 +23,12 @@ use Rattle.answering.specs.Work.{MayAnswer}
 use Rattle.broker_state.specs.State.{State, content_at}
 use Rattle.log_requests.specs.declared.fetch.room.TheConstants.{MAX_FETCH_BYTES}
 use Rattle.log_requests.specs.Fetch.{FetchRoom, fetch_limit, fetch_room, fetch_run_within, fetch_room_after, fetch_result, fetch_work}
-use Rattle.broker_laws.specs.Fitting.{IsSound}
+use Rattle.broker_state.specs.Sound.{IsSound}
 use Rattle.broker_laws.proofs.Followed.{total, spent}
 use Rattle.broker_laws.proofs.Said.{IsSaid}
 use Rattle.broker_laws.proofs.TopicsFit.{EntryFits}
-use Rattle.broker_laws.proofs.ValidContents.{end_fits}
-use Rattle.broker_laws.proofs.SoundStates.{content_valid}
+use Rattle.broker_state.proofs.ValidAppends.{end_fits}
+use Rattle.broker_state.proofs.SoundStates.{content_valid}
 use Rattle.broker_laws.proofs.Works.{worked, no_error_fits, code_fits}
 
 -- ---- the bytes of a run

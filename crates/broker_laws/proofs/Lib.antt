@@ -3,11 +3,9 @@ mod Followed
 mod Said
 mod TopicsFit
 mod ValidContents
-mod SoundStates
 mod Works
-mod Appendable
 mod ProduceFits
-mod ListOffsetsFits
 mod FetchFits
+mod ListOffsetsFits
 mod MetadataFits
 mod RepliesFit

@@ -16,11 +16,12 @@ use Rattle.answering.specs.Codes.{no_error, code_number}
 use Rattle.answering.specs.Work.{MayAnswer}
 use Rattle.broker_state.specs.State.{State, content_at}
 use Rattle.log_requests.specs.ListOffsets.{latest_time, earliest_time, list_offsets_at, list_offsets_result, list_offsets_work}
-use Rattle.broker_laws.specs.Fitting.{IsSound}
+use Rattle.broker_state.specs.Sound.{IsSound}
 use Rattle.broker_laws.proofs.Said.{IsSaid}
 use Rattle.broker_laws.proofs.TopicsFit.{EntryFits}
-use Rattle.broker_laws.proofs.ValidContents.{StampFits, start_fits, end_fits, time_fits}
-use Rattle.broker_laws.proofs.SoundStates.{content_valid}
+use Rattle.broker_laws.proofs.ValidContents.{StampFits, start_fits, time_fits}
+use Rattle.broker_state.proofs.ValidAppends.{end_fits}
+use Rattle.broker_state.proofs.SoundStates.{content_valid}
 use Rattle.broker_laws.proofs.Works.{worked, no_error_fits, code_fits}
 
 abbrev Entry : Type 0

@@ -25,10 +25,11 @@ use Rattle.broker_state.specs.declared.error.ConfigError.TheVariants.{BadHost, T
 use Rattle.broker_state.specs.State.{TopicConfig, ConfigValue, Topic, State, group_topic, all_topics, is_group_topic, topic_of}
 use Rattle.broker_state.specs.Configs.{topic_fault, topics_fault, IsValidConfig}
 use Rattle.log_requests.specs.Metadata.{broker_of, leader_of, leading_code, known_leader, partition_metadata, failed_topic, topic_metadata, metadata_of, metadata_at, each_once, metadata_topics}
-use Rattle.broker_laws.specs.Fitting.{IsSoundConfig, shape_of, IsSound}
+use Rattle.broker_state.specs.Sound.{IsSoundConfig, shape_of, IsSound}
 use Rattle.broker_laws.proofs.Followed.{total, longer}
-use Rattle.broker_laws.proofs.ValidContents.{found_has}
-use Rattle.broker_laws.proofs.Works.{none_first, no_fault, no_error_fits, code_fits}
+use Rattle.broker_state.proofs.Shapes.{IsSmallTopic, small_config}
+use Rattle.broker_state.proofs.SoundStates.{found_has}
+use Rattle.broker_laws.proofs.Works.{no_error_fits, code_fits}
 
 -- ---- partitions
 
@@ -120,47 +121,12 @@ module _ {X : Type 0} (f : X → MetadataOfTopic) (w : X → ℕ) where
 
 -- ---- the broker's own topics
 
-abbrev IsSmall : TopicConfig → Type 0
-IsSmall t = (length t.name ≤ 249) × (t.partitions ≤ MAX_PARTITIONS)
-
-small_name : (name : List ℕ) → not (is_topic_name name) ≡ false → length name ≤ 249
-small_name name e = grind (arith, e)
-
-few_of : (n : ℕ) → not (is_in_range 1 MAX_PARTITIONS n) ≡ false → n ≤ MAX_PARTITIONS
-few_of n e = grind (arith, e)
-
-small_topic : (taken : List (List ℕ)) (t : TopicConfig) → topic_fault taken t ≡ None → IsSmall t
-small_topic taken t none =
-    let name = none_first (fault_if (not (is_topic_name t.name)) BadTopic) _ none in
-    let few = none_first (fault_if (not (is_in_range 1 MAX_PARTITIONS t.partitions)) BadPartitions) _ name.1 in
-    (small_name t.name (no_fault _ BadTopic name.0), few_of t.partitions (no_fault _ BadPartitions few.0))
-
-small_topics : (taken : List (List ℕ)) (ts : List TopicConfig) → topics_fault taken ts ≡ None → AllByRecursion IsSmall (ts ++ record { name = group_topic; partitions = 1 } ∷ [])
-small_topics taken [] none = ((omega arith, omega arith), tt)
-small_topics taken (t ∷ ts) none =
-    let both = none_first (topic_fault taken t) (topics_fault (t.name ∷ taken) ts) none in
-    (small_topic taken t both.0, small_topics (t.name ∷ taken) ts both.1)
-
-record IsSmallConfig (g : ConfigValue) : Type 0 where
-  pub host : length g.host ≤ 255
-  pub few : length g.topics ≤ MAX_TOPICS
-  pub topics : AllByRecursion IsSmall (all_topics g)
-
-small_config : (g : ConfigValue) → IsValidConfig g → IsSmallConfig g
-small_config g valid =
-    let host = none_first (fault_if (nat_lt MAX_HOST_BYTES (length g.host)) BadHost) _ valid in
-    let few = none_first (fault_if (nat_lt MAX_TOPICS (length g.topics)) TooManyTopics) _ host.1 in
-    let topics = none_first (topics_fault (group_topic ∷ []) g.topics) None few.1 in
-    let low = no_fault _ BadHost host.0 in
-    let most = no_fault _ TooManyTopics few.0 in
-    record { host = grind (arith, low); few = grind (arith, most); topics = small_topics (group_topic ∷ []) g.topics topics.0 }
-
-of_shapes : (ts : List Topic) → AllByRecursion IsSmall (map shape_of ts) → AllByRecursion (λ (t : Topic). IsSmall (shape_of t)) ts
+of_shapes : (ts : List Topic) → AllByRecursion IsSmallTopic (map shape_of ts) → AllByRecursion (λ (t : Topic). IsSmallTopic (shape_of t)) ts
 of_shapes [] all = tt
 of_shapes (t ∷ ts) all = (all.0, of_shapes ts all.1)
 
-state_small : (s : State) → IsSound s → AllByRecursion (λ (t : Topic). IsSmall (shape_of t)) s.topics
-state_small s sound = of_shapes s.topics (subst (AllByRecursion IsSmall) (sym sound.topics) (small_config s.config sound.config.valid).topics)
+state_small : (s : State) → IsSound s → AllByRecursion (λ (t : Topic). IsSmallTopic (shape_of t)) s.topics
+state_small s sound = of_shapes s.topics (subst (AllByRecursion IsSmallTopic) (sym sound.topics) (small_config s.config sound.config.valid).topics)
 
 state_few : (s : State) → IsSound s → length s.topics ≤ MAX_TOPICS + 1
 state_few s sound =
@@ -169,11 +135,11 @@ state_few s sound =
     omega (arith, same, few, length-map s.topics shape_of, length-append s.config.topics (record { name = group_topic; partitions = 1 } ∷ []))
 
 -- all of them: 249 bytes and 64 partitions each at most
-all_known : (g : ConfigValue) (ts : List Topic) → FitsSigned w32 g.node_id → AllByRecursion (λ (t : Topic). IsSmall (shape_of t)) ts → AllByRecursion (λ t. IsWithin 1922 (topic_metadata g t)) ts
+all_known : (g : ConfigValue) (ts : List Topic) → FitsSigned w32 g.node_id → AllByRecursion (λ (t : Topic). IsSmallTopic (shape_of t)) ts → AllByRecursion (λ t. IsWithin 1922 (topic_metadata g t)) ts
 all_known g [] node all = tt
 all_known g (t ∷ ts) node all =
-    let name = all.0.0 in
-    let few = all.0.1 in
+    let name = all.0.name in
+    let few = all.0.few in
     let known = known_within g t node (record { sfits = omega (arith, name) }) few in
     let size = known.size in
     (record { fits = known.fits; size = omega (arith, size, name, few) }, all_known g ts node all.1)
@@ -259,13 +225,13 @@ module _ (t : Topic) (ts : List Topic) (few : length t.partitions ≤ MAX_PARTIT
       by false rest = omega (arith, rest)
 
 -- names that come once each have no more partitions than the topics
-all_named : (ts : List Topic) (xs : Names) → AllByRecursion (λ (t : Topic). IsSmall (shape_of t)) ts → total (named ts) (each_once xs) ≤ 64 * length ts
+all_named : (ts : List Topic) (xs : Names) → AllByRecursion (λ (t : Topic). IsSmallTopic (shape_of t)) ts → total (named ts) (each_once xs) ≤ 64 * length ts
 all_named [] xs all = none (each_once xs)
   where
     none : (xs : Names) → total (named []) xs ≤ 0
     none [] = omega arith
     none (x ∷ xs) = omega (arith, none xs)
-all_named (t ∷ ts) xs all = omega (arith, one_named t ts all.0.1 (each_once xs), at_once t.name xs, all_named ts xs all.1)
+all_named (t ∷ ts) xs all = omega (arith, one_named t ts all.0.few (each_once xs), at_once t.name xs, all_named ts xs all.1)
 
 abbrev asked : List Topic → List ℕ → ℕ
 asked ts name = 9 + length name + 26 * named ts name
@@ -279,9 +245,9 @@ name_within s name sound fits = by (is_topic_name name)
     found : (o : Option Topic) → topic_of s name ≡ o → IsWithin (9 + length name + 26 * partitions_of o) (metadata_of s.config name o)
     found None e = let failed = failed_within UnknownTopicOrPartition name fits in let size = failed.size in record { fits = failed.fits; size = omega (arith, size) }
     found (Some t) e =
-        let small = found_has (λ (t : Topic). IsSmall (shape_of t)) (λ t. bytes_eq t.name name) s.topics t (state_small s sound) e in
+        let small = found_has (λ (t : Topic). IsSmallTopic (shape_of t)) (λ t. bytes_eq t.name name) s.topics t (state_small s sound) e in
         let same : t.name ≡ name = same_name t.name name (test_of s.topics e) in
-        let known = known_within s.config t sound.config.node_id (subst (λ (n : List ℕ). FitsLength size16 (length n)) (sym same) fits) small.1 in
+        let known = known_within s.config t sound.config.node_id (subst (λ (n : List ℕ). FitsLength size16 (length n)) (sym same) fits) small.few in
         let size = known.size in
         let long : length t.name ≡ length name = ap length same in
         record { fits = known.fits; size = omega (arith, size, long) }

@@ -1,12 +1,15 @@
 -- The response to Produce fits its fields, and the state stays sound.
-use Rattle.std.proofs.Common.{◌≡◌, ◌^◌, ℕ, ◌+◌, ◌*◌, ◌<◌, ◌≤◌, ℤ, pos, negsuc, Bool, true, false, cond, List, [], ◌∷◌, ◌++◌, length, Option, Some, None, refl, sym, ap, subst, ◌∙◌, arith}
-use Rattle.std.specs.Prelude.{FitsSigned, not, is_some}
+use Rattle.std.proofs.Common.{◌≡◌, ◌^◌, ℕ, ◌+◌, ◌*◌, ◌<◌, ◌≤◌, ℤ, pos, negsuc, Bool, true, false, cond, List, [], ◌∷◌, ◌++◌, length, take, Option, Some, None, Result, Ok, Err, refl, sym, ap, subst, ◌∙◌, arith}
+use Rattle.std.specs.Prelude.{FitsSigned, not, is_some, nat_lt}
 use Rattle.std.specs.Option.{option_map}
 use Rattle.std.specs.Ordering.{int_eq}
 use Rattle.std.specs.Int.{w16, w32, w64}
-use Rattle.std.proofs.lemmas.List.{length-append}
+use Rattle.std.proofs.lemmas.List.{length-append, take_all}
 use Rattle.batch_codec.specs.Grammar.{Writable}
-use Rattle.batch_codec.specs.Reading.{batch_of}
+use Rattle.batch_codec.specs.Reading.{batch_of, IsEncoding}
+use Rattle.batch_codec.specs.declared.error.BatchError.{BatchError}
+use Rattle.batch_codec.specs.Checks.{Checked, size_at, check_batch}
+use Rattle.batch_codec.proofs.Views.{view_encoded}
 use Rattle.frame_fields.specs.Fields.{size16, size32, size64, Value, be, field, Fits, encoded}
 use Rattle.frame_fields.specs.Types.{int32, nullable_bytes, or_empty, ◌⨾◌}
 use Rattle.frame_fields.specs.Frames.{IsBytes}
@@ -15,21 +18,22 @@ use Rattle.request_frames.specs.Produce.{ProduceValue, ProducePartitionValue, pr
 use Rattle.responses.specs.declared.produce.partition.ProducedPartition.{ProducedPartition}
 use Rattle.responses.specs.Produce.{produced_fields, produced_value}
 use Rattle.answering.specs.declared.codes.ErrorCode.{ErrorCode}
-use Rattle.answering.specs.declared.codes.ErrorCode.TheVariants.{InvalidTopic, InvalidRequiredAcks, InvalidTransactionState}
+use Rattle.answering.specs.declared.codes.ErrorCode.TheVariants.{InvalidTopic, InvalidRequiredAcks, InvalidRecord, InvalidTransactionState}
 use Rattle.answering.specs.Codes.{no_error, code_number}
 use Rattle.answering.specs.Lists.{fault_if, first_some}
 use Rattle.answering.specs.Work.{MayAnswer}
 use Rattle.broker_state.specs.Codes.{append_code}
 use Rattle.broker_state.specs.State.{State, is_group_topic, content_at, with_content}
 use Rattle.broker_state.specs.Checks.{unknown, not_leader}
-use Rattle.broker_state.specs.Batches.{batch_checks, append_fault, appended}
+use Rattle.broker_state.specs.Batches.{checked_code, checks_of_size, batch_checks, append_fault, appended}
 use Rattle.log_requests.specs.Produce.{is_acks, produce_result, produce_checks, produce_work}
-use Rattle.broker_laws.specs.Fitting.{IsSound}
+use Rattle.broker_state.specs.Sound.{IsSound}
 use Rattle.broker_laws.proofs.Said.{IsSaid, said_later, bytes_first}
 use Rattle.broker_laws.proofs.TopicsFit.{EntryFits}
-use Rattle.broker_laws.proofs.SoundStates.{content_valid, sound_with}
-use Rattle.broker_laws.proofs.Works.{worked, none_first, none_both, no_error_fits, code_fits}
-use Rattle.broker_laws.proofs.Appendable.{batch_writable, appended_valid}
+use Rattle.broker_state.proofs.SoundStates.{content_valid, sound_with}
+use Rattle.broker_laws.proofs.Works.{worked, no_error_fits, code_fits}
+use Rattle.broker_state.proofs.Passed.{none_first, none_both, no_fault}
+use Rattle.broker_state.proofs.ValidAppends.{appended_valid}
 
 abbrev Entry : Type 0
 Entry = Value produce_partition
@@ -60,6 +64,27 @@ records_bytes e said = by e.1.0 (bytes_first (field nullable_bytes e.1.0) [] (Is
     by : (o : Option (List ℕ)) → IsBytes (field nullable_bytes o) → IsBytes (or_empty o)
     by None all = λ i. omega arith
     by (Some b) all = IsBytes-second (be size32 (pos (length b))) b all
+
+-- ---- the bytes are one writable batch
+
+abbrev fine : Checked
+fine = Ok tt
+
+passes : (c : Checked) → checked_code c ≡ None → fine ≡ c
+passes (Ok u) e = refl
+passes (Err e) h = absurd cc
+
+batch_writable : (bytes : List ℕ) → IsBytes bytes → first_some (batch_checks bytes) ≡ None → Writable (batch_of bytes)
+batch_writable bytes are = by (size_at bytes) refl
+  where
+    by : (size : Result ℕ BatchError) → size_at bytes ≡ size → first_some (checks_of_size bytes size) ≡ None → Writable (batch_of bytes)
+    by (Err e) same h = absurd cc
+    by (Ok n) same h =
+        let both = none_first (checked_code (check_batch (take n bytes))) (first_some (fault_if (nat_lt n (length bytes)) InvalidRecord ∷ [])) h in
+        let all_used : nat_lt n (length bytes) ≡ false = no_fault (nat_lt n (length bytes)) InvalidRecord (none_first (fault_if (nat_lt n (length bytes)) InvalidRecord) None both.1).0 in
+        let whole : take n bytes ≡ bytes = take_all n bytes (grind (arith, all_used)) in
+        let encoding : IsEncoding (take n bytes) = view_encoded bytes n are (sym same) (passes (check_batch (take n bytes)) both.0) in
+        subst (λ (x : List ℕ). Writable (batch_of x)) whole encoding.0
 
 -- ---- one entry
 

@@ -4,7 +4,7 @@
 -- `body_sound`. Where it is answered entry by entry, its own file says of one entry what `TopicsFit` asks for, and the case
 -- cites `topics_fit`. Where it is answered once, its own file shows that its one value fits, in how many bytes, and the case
 -- cites `fitting`.
-use Rattle.std.proofs.Common.{◌≡◌, ◌^◌, ℕ, ◌+◌, ◌*◌, ◌<◌, ◌≤◌, ℤ, pos, Bool, true, false, cond, List, [], ◌∷◌, ◌++◌, length, drop, Option, Some, None, refl, sym, ap, subst, ◌∙◌, arith}
+use Rattle.std.proofs.Common.{◌≡◌, ◌^◌, ℕ, ◌+◌, ◌-◌, ◌*◌, ◌<◌, ◌≤◌, ℤ, pos, Bool, true, false, cond, List, [], ◌∷◌, ◌++◌, length, drop, Option, Some, None, Ok, refl, sym, ap, subst, ◌∙◌, arith}
 use Rattle.std.specs.Prelude.{map, FitsSigned, ◌≤ℤ◌}
 use Rattle.std.specs.List.{flat_map, AllByRecursion}
 use Rattle.std.specs.Option.{option_map}
@@ -16,6 +16,8 @@ use Rattle.batch_codec.specs.declared.layout.TheConstants.{MAX_BATCH_BYTES}
 use Rattle.frame_fields.specs.Fields.{size16, size32, Field, Fields, end, one, array, array_or_null, Value, be, FitsLength, Fits, ElementsFit, encoded, Encodes}
 use Rattle.frame_fields.specs.Types.{TopicOf, int16, int32, string, topic, bytes, int8, nullable_string, ◌⨾◌}
 use Rattle.frame_fields.specs.Frames.{IsBytes, IsWithinLimit, framed}
+use Rattle.frame_fields.specs.Reading.{read_fields}
+use Rattle.frame_fields.proofs.FieldLaws.{encodes_read}
 use Rattle.frame_fields.proofs.Numbers.{IsBytes-drop, length-be, number_fits}
 use Rattle.request_frames.specs.declared.api.Api.{Api}
 use Rattle.request_frames.specs.declared.api.Api.TheVariants.{Produce, Fetch, ListOffsets, Metadata}
@@ -40,7 +42,8 @@ use Rattle.log_requests.specs.Fetch.{FetchRoom, fetch_room, fetch_work, fetch_pl
 use Rattle.log_requests.specs.ListOffsets.{list_offsets_work, list_offsets_plan}
 use Rattle.log_requests.specs.Metadata.{broker_of, known_leader, metadata_reply, metadata_topics}
 use Rattle.broker_node.specs.Replies.{RepliesTo, MayReply}
-use Rattle.broker_laws.specs.Fitting.{response_fields, IsFitting, FitsIfSent, FitsReply, IsSound}
+use Rattle.broker_state.specs.Sound.{IsSound}
+use Rattle.broker_node.specs.Fitting.{response_fields, IsFitting, FitsIfSent, FitsReply}
 use Rattle.broker_laws.proofs.Followed.{total, none_in_all, spent, longer}
 use Rattle.broker_laws.proofs.Said.{IsSaid, said_later, said_elements, later_shorter, array_length}
 use Rattle.broker_laws.proofs.TopicsFit.{EntryFits, extra_of, topics_fit}
@@ -68,6 +71,19 @@ fitting correlation d v number fits small = record {
   fits = fits;
   size = omega (arith, small, response_length correlation d v);
 }
+
+-- what is read back: the size, the correlation id, and the values
+pub read_back : (correlation : ℤ) (d : Fields) (bytes : List ℕ) (fitting : IsFitting correlation d bytes) → read_fields (int32 ⨾ int32 ⨾ d) bytes ≡ Ok ((pos (length bytes - 4), (correlation, fitting.value)), [])
+unfolding Fits encoded
+read_back correlation d bytes fitting =
+    let frame = be size32 correlation ++ encoded d fitting.value in
+    let size = fitting.size in
+    let long : length bytes ≡ length (be size32 (pos (length frame)) ++ frame) = ap length fitting.is_response in
+    let behind : length frame ≡ length bytes - 4 = omega (arith, long, length-append (be size32 (pos (length frame))) frame, length-be size32 (pos (length frame))) in
+    encodes_read (int32 ⨾ int32 ⨾ d) (pos (length bytes - 4), (correlation, fitting.value)) bytes [] (record {
+      fits = (record { sfits = omega (arith, size) }, (fitting.correlation_fits, fitting.fits));
+      parts = fitting.is_response ∙ ap (λ (n : ℕ). be size32 (pos n) ++ frame) behind ∙ sym (append-nil (be size32 (pos (length bytes - 4)) ++ frame));
+    })
 
 -- ---- the fields of a frame of at most so many bytes
 

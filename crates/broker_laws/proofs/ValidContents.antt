@@ -15,8 +15,9 @@ use Rattle.content.specs.Content.{Content, IsContent, IsInRange, end}
 use Rattle.content_laws.proofs.ByOffset.{all_from_at}
 use Rattle.content_laws.proofs.Slots.{bases_rise, kept_ends}
 use Rattle.partition_log.specs.Lookups.{stamp_of, stamps, first_by_time}
-use Rattle.partition_log.proofs.Behind.{below_end, end_within, start_below_end}
+use Rattle.partition_log.proofs.Behind.{below_end, end_within}
 use Rattle.partition_log.proofs.Stamps.{AreStamped, stamped}
+use Rattle.broker_state.proofs.SoundStates.{found_has}
 
 -- ---- offsets are of 64 bits
 
@@ -25,13 +26,6 @@ start_fits c is =
     let low = is.in_range.0 in
     let high = is.in_range.1 in
     fits_signed_from_abs w64 c.start (omega (arith, ints, low, high))
-
-pub end_fits : (c : Content) → IsContent c → FitsSigned w64 (end c)
-end_fits c is =
-    let low = is.in_range.0 in
-    let least = start_below_end c is in
-    let high = end_within c is in
-    fits_signed_from_abs w64 (end c) (omega (arith, ints, low, least, high))
 
 pub kept_in_range : (c : Content) → IsContent c → AllByRecursion IsInRange c.kept
 kept_in_range c is = all_from_at first_offset IsInRange c.start c.kept (bases_rise c is) within
@@ -65,15 +59,6 @@ stamps_fit [] keepable ranges = tt
 stamps_fit (b ∷ bs) keepable ranges =
     subst (AllByRecursion StampFits) (sym (flat_map-cons (λ (x : BatchValue). map (stamp_of x.head) x.recs) b bs))
     (all_of_both StampFits (map (stamp_of b.head) b.recs) (stamps bs) (stamps_of_batch b.head b.recs (stamped b keepable.0.0 ranges.0)) (stamps_fit bs keepable.1 ranges.1))
-
--- what is found among elements of which each has a property has it
-pub found_has : {X : Type 0} (P : X → Type 0) (test : X → Bool) (xs : List X) (x : X) → AllByRecursion P xs → find test xs ≡ Some x → P x
-found_has P test [] x all e = absurd cc
-found_has {X = X} P test (y ∷ ys) x all e = by (test y) (found_has P test ys x all.1) e
-  where
-    by : (b : Bool) → (find test ys ≡ Some x → P x) → cond b (Some y) (find test ys) ≡ Some x → P x
-    by true rest f = let same : y ≡ x = cc in subst P same all.0
-    by false rest f = rest f
 
 pub time_fits : (c : Content) (time : ℤ) (stamp : ℤ × ℤ) → IsContent c → first_by_time time c.kept ≡ Some stamp → StampFits stamp
 time_fits c time stamp is = found_has StampFits _ (stamps c.kept) stamp (stamps_fit c.kept is.keepable (kept_in_range c is))
