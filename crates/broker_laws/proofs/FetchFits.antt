@@ -120,10 +120,13 @@ Has e r after = EntryFits fetch_partition (fetched_fields bytes) fetched_of reco
 answered : (e : Entry) (after : FetchRoom) (code last : ℤ) (run : List BatchValue) → IsSaid fetch_partition e → FitsSigned w16 code → FitsSigned w64 last → bytes_of run < 2 ^ 31 → IsRoom after
     → Has e (fetch_result e.0 code last run) after
 unfolding Fits
-answered e after code last run said c l small left = (record {
-  fits = (said.fits.0, (c, (l, (l, (tt, (record { sfits = small }, tt))))));
-  size = omega (arith, entry_long e, answer_long (fetch_result e.0 code last run));
-}, left)
+answered e after code last run said c l small left = (
+  record {
+    fits = (said.fits.0, (c, (l, (l, (tt, (record { sfits = small }, tt))))));
+    size = omega (arith, entry_long e, answer_long (fetch_result e.0 code last run));
+  },
+  left,
+)
 
 small_run : (room : FetchRoom) (force : Bool) (limit : ℤ) (run : List BatchValue) → IsRoom room → FitsOrForced force (min (fetch_limit limit) room.left) run → bytes_of run < 2 ^ 31
 small_run room force limit run left (inl h) = omega (arith, h, left)
@@ -134,16 +137,16 @@ module _ (s : State) (sound : IsSound s) where
   fetch_entry room name e r after left said = worked (Has e) (fetch_work s room name (fetch_partition_value e)) room r after
       (λ code. answered e room (code_number code) (negsuc 0) [] said (code_fits code) (null_fits size64) (omega arith) left)
       (λ none.
-          let c = content_at s name e.0 in
-          let is = content_valid s name e.0 sound in
-          let run = fetch_run_within room c (fetch_partition_value e) in
-          answered e (fetch_room_after room run) no_error (end c) run said no_error_fits (end_fits c is) (small_run room (not room.given) e.1.1.0 run left (run_within room c (fetch_partition_value e) is)) (omega (arith, left)))
+      let c = content_at s name e.0 in
+      let is = content_valid s name e.0 sound in
+      let run = fetch_run_within room c (fetch_partition_value e) in
+      answered e (fetch_room_after room run) no_error (end c) run said no_error_fits (end_fits c is) (small_run room (not room.given) e.1.1.0 run left (run_within room c (fetch_partition_value e) is)) (omega (arith, left)))
 
   -- what is given comes from the room
   pub fetch_spends : (room : FetchRoom) (name : List ℕ) (e : FetchPartitionValue) (r : Fetched) (after : FetchRoom) → MayAnswer (fetch_work s room name e) room r after → records_of r + room_of after ≤ room_of room
   fetch_spends room name e r after = worked (λ r after. records_of r + room_of after ≤ room_of room) (fetch_work s room name e) room r after
       (λ code. omega arith)
       (λ none.
-          let c = content_at s name e.partition in
-          let run = fetch_run_within room c e in
-          spends (min (fetch_limit e.max_bytes) room.left) room.left (bytes_of run) (length run) room.given (omega arith) (run_within room c e (content_valid s name e.partition sound)) (no_batches run))
+      let c = content_at s name e.partition in
+      let run = fetch_run_within room c e in
+      spends (min (fetch_limit e.max_bytes) room.left) room.left (bytes_of run) (length run) room.given (omega arith) (run_within room c e (content_valid s name e.partition sound)) (no_batches run))

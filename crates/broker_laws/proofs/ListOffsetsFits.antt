@@ -61,10 +61,13 @@ Has e r m = EntryFits list_offsets_partition list_offsets_answer_fields list_off
 
 answered : (e : Entry) (code : ℤ) (at : ℤ × ℤ) (m : State) → IsSaid list_offsets_partition e → FitsSigned w16 code → StampFits at → IsSound m → Has e (list_offsets_result e.0 code at) m
 unfolding Fits
-answered e code at m said c fits sound = (record {
-  fits = (said.fits.0, (c, (fits.0, (fits.1, tt))));
-  size = omega (arith, entry_long e, answer_long (list_offsets_result e.0 code at));
-}, sound)
+answered e code at m said c fits sound = (
+  record {
+    fits = (said.fits.0, (c, (fits.0, (fits.1, tt))));
+    size = omega (arith, entry_long e, answer_long (list_offsets_result e.0 code at));
+  },
+  sound,
+)
 
 pub list_offsets_entry : (s : State) (name : List ℕ) (e : Entry) (r : ListedPartition) (m : State) → IsSound s → IsSaid list_offsets_partition e → MayAnswer (list_offsets_work s name (list_offsets_partition_value e)) s r m → Has e r m
 list_offsets_entry s name e r m sound said = worked (Has e) (list_offsets_work s name (list_offsets_partition_value e)) s r m

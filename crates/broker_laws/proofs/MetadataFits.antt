@@ -80,8 +80,20 @@ topic_long t =
     let all = flat_map (encoded metadata_partition_fields) (map metadata_partition_value t.partitions) in
     let internal = be size8 (flag t.is_internal) in
     let last = (count ++ all) ++ [] in
-    omega (arith, length-append (be size16 t.code) ((name ++ t.name) ++ (internal ++ last)), length-be size16 t.code, length-append (name ++ t.name) (internal ++ last), length-append name t.name, length-be size16 (pos (length t.name)),
-        length-append internal last, length-be size8 (flag t.is_internal), length-append (count ++ all) [], length-append count all, length-be size32 (pos (length (map metadata_partition_value t.partitions))), partitions_long t.partitions)
+    omega (
+      arith,
+      length-append (be size16 t.code) ((name ++ t.name) ++ (internal ++ last)),
+      length-be size16 t.code,
+      length-append (name ++ t.name) (internal ++ last),
+      length-append name t.name,
+      length-be size16 (pos (length t.name)),
+      length-append internal last,
+      length-be size8 (flag t.is_internal),
+      length-append (count ++ all) [],
+      length-append count all,
+      length-be size32 (pos (length (map metadata_partition_value t.partitions))),
+      partitions_long t.partitions,
+    )
 
 flag_fits : (b : Bool) → FitsSigned w8 (flag b)
 flag_fits true = record { sfits = omega arith }
@@ -320,8 +332,7 @@ pub response_fits : (g : ConfigValue) (n : ℕ) (ts : List MetadataOfTopic) → 
 unfolding Fits
 response_fits g n ts sound within =
     let host = (small_config g sound.valid).host in
-    let port = sound.port in
-    (
+    let port = sound.port in (
       (record { sfits = omega arith }, ((sound.node_id, (record { sfits = omega (arith, host) }, (record { sfits = omega (arith, port) }, (tt, tt)))), tt)),
       (leader_fits g.role g.node_id sound.node_id, (within.fit, tt)),
     )
@@ -339,6 +350,26 @@ response_long g n ts sound within =
     let broker = be size32 g.node_id ++ ((name ++ g.host) ++ behind) in
     let one = be size32 (pos 1) ++ (broker ++ []) in
     let topics = (count ++ all) ++ [] in
-    omega (arith, host, size, length-append one (id ++ topics), length-append (be size32 (pos 1)) (broker ++ []), length-append broker [], length-append (be size32 g.node_id) ((name ++ g.host) ++ behind), length-append (name ++ g.host) behind, length-append name g.host,
-        length-append id topics, length-append (count ++ all) [], length-append count all, length-be size32 (pos 1), length-be size32 g.node_id, length-be size16 (pos (length g.host)), length-be size32 (pos g.port), length-append (be size32 (pos g.port)) (be size16 (negsuc 0) ++ []),
-        length-append (be size16 (negsuc 0)) [], length-be size16 (negsuc 0), length-be size32 (metadata_leader_id (metadata_leader g)), length-be size32 (pos (length (map metadata_topic_value ts))))
+    omega (
+      arith,
+      host,
+      size,
+      length-append one (id ++ topics),
+      length-append (be size32 (pos 1)) (broker ++ []),
+      length-append broker [],
+      length-append (be size32 g.node_id) ((name ++ g.host) ++ behind),
+      length-append (name ++ g.host) behind,
+      length-append name g.host,
+      length-append id topics,
+      length-append (count ++ all) [],
+      length-append count all,
+      length-be size32 (pos 1),
+      length-be size32 g.node_id,
+      length-be size16 (pos (length g.host)),
+      length-be size32 (pos g.port),
+      length-append (be size32 (pos g.port)) (be size16 (negsuc 0) ++ []),
+      length-append (be size16 (negsuc 0)) [],
+      length-be size16 (negsuc 0),
+      length-be size32 (metadata_leader_id (metadata_leader g)),
+      length-be size32 (pos (length (map metadata_topic_value ts))),
+    )

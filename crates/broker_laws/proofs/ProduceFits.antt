@@ -114,10 +114,13 @@ module _ (q : ProduceValue) where
 
   answered : (e : Entry) (code base : ℤ) (m : State) → IsSaid produce_partition e → FitsSigned w16 code → FitsSigned w64 base → IsSound m → Has e (produce_result e.0 code base) m
   unfolding Fits
-  answered e code base m said c b sound = (record {
-    fits = result_fits e.0 code base said.fits.0 c b;
-    size = omega (arith, entry_long e, answer_long (produce_result e.0 code base));
-  }, sound)
+  answered e code base m said c b sound = (
+    record {
+      fits = result_fits e.0 code base said.fits.0 c b;
+      size = omega (arith, entry_long e, answer_long (produce_result e.0 code base));
+    },
+    sound,
+  )
 
   pub produce_entry : (s : State) (name : List ℕ) (e : Entry) (r : ProducedPartition) (m : State) → IsSound s → IsSaid produce_partition e → MayAnswer (produce_work s q name (produce_partition_value e)) s r m → Has e r m
   produce_entry s name e r m sound said = worked (Has e) (produce_work s q name (produce_partition_value e)) s r m

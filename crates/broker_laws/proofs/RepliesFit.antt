@@ -209,9 +209,9 @@ fetch_fits n s correlation v out after low sound number part h =
     let size = all.0.1 in
     let long = ts.long in
     let records : total records_in h.results + room_of h.end ≤ room_of room =
-        spent (AnswersTopic (λ room name e r m. MayAnswer (fetch_work s room name e) room r m)) records_in room_of
-        (λ room t r m answers. spent (λ room e r m. MayAnswer (fetch_work s room t.name e) room r m) records_of room_of (λ room e r m. fetch_spends s sound room t.name e r m) room t.entries r.entries m answers.1)
-        room (fetch_request v).topics h.results h.end h.answers in
+    spent (AnswersTopic (λ room name e r m. MayAnswer (fetch_work s room name e) room r m)) records_in room_of
+    (λ room t r m answers. spent (λ room e r m. MayAnswer (fetch_work s room t.name e) room r m) records_of room_of (λ room e r m. fetch_spends s sound room t.name e r m) room t.entries r.entries m answers.1)
+    room (fetch_request v).topics h.results h.end h.answers in
     let value = fetch_value h.results in
     let whole : length (encoded fetch_response value) ≤ LIMIT = omega (arith, low, size, long, records, later_long value, array_length (topic (fetched_fields bytes)) end value.1, none_long) in
     (subst (FitsIfSent correlation fetch_response) (sym h.sends) (fitting correlation fetch_response value number (record { sfits = omega arith }, (all.0.0, tt)) whole), subst IsSound (sym h.leaves) sound)
@@ -224,9 +224,10 @@ metadata_fits : (n : ℕ) (s : State) (correlation : ℤ) (v : Value metadata_fi
 metadata_fits n s correlation v out after low sound number part h =
     let within = topics_within v.0 part in
     let value = metadata_value (metadata_of_broker s.config) (metadata_leader_id (metadata_leader s.config)) (metadata_topics s (metadata_request v)) in
-    let long = response_long s.config (5 * n + 124930) (metadata_topics s (metadata_request v)) sound.config within in
-    (subst (FitsIfSent correlation metadata_response) (sym h.0) (fitting correlation metadata_response value number (response_fits s.config (5 * n + 124930) (metadata_topics s (metadata_request v)) sound.config within) (omega (arith, low, long))),
-        subst IsSound (sym h.1) sound)
+    let long = response_long s.config (5 * n + 124930) (metadata_topics s (metadata_request v)) sound.config within in (
+      subst (FitsIfSent correlation metadata_response) (sym h.0) (fitting correlation metadata_response value number (response_fits s.config (5 * n + 124930) (metadata_topics s (metadata_request v)) sound.config within) (omega (arith, low, long))),
+      subst IsSound (sym h.1) sound,
+    )
   where
     named_long : (vs : List (Value (string ⨾ end))) → total (λ name. 2 + length name) (map (λ name. name.0) vs) ≤ length (flat_map (encoded (string ⨾ end)) vs)
     named_long [] = omega arith

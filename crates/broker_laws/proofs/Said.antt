@@ -46,7 +46,7 @@ unfolding encoded
 topic_length d t =
     let name : length (field string t.0) ≡ 2 + length t.0 = length-append (be size16 (pos (length t.0))) t.0 ∙ ap (λ n. n + length t.0) (length-be size16 (pos (length t.0))) in
     let count : length (be size32 (pos (length t.1.0)) ++ flat_map (encoded d) t.1.0) ≡ 4 + length (flat_map (encoded d) t.1.0) =
-        length-append (be size32 (pos (length t.1.0))) (flat_map (encoded d) t.1.0) ∙ ap (λ n. n + length (flat_map (encoded d) t.1.0)) (length-be size32 (pos (length t.1.0))) in
+    length-append (be size32 (pos (length t.1.0))) (flat_map (encoded d) t.1.0) ∙ ap (λ n. n + length (flat_map (encoded d) t.1.0)) (length-be size32 (pos (length t.1.0))) in
     let all = length-append (field string t.0) ((be size32 (pos (length t.1.0)) ++ flat_map (encoded d) t.1.0) ++ []) in
     let last = length-append (be size32 (pos (length t.1.0)) ++ flat_map (encoded d) t.1.0) [] in
     omega (arith, name, count, all, last)
