@@ -1,10 +1,10 @@
 -- What a frame of so many bytes says: values of fields that fit, part by part.
-use Rattle.std.proofs.Common.{◌≡◌, ℕ, ◌+◌, ◌≤◌, ℤ, pos, List, [], ◌∷◌, ◌++◌, length, refl, sym, ap, subst, ◌∙◌, arith}
+use Rattle.std.proofs.Common.{◌≡◌, ℕ, ◌+◌, ◌≤◌, pos, List, [], ◌∷◌, ◌++◌, length, refl, ap, subst, ◌∙◌, arith}
 use Rattle.std.specs.List.{flat_map, AllByRecursion}
 use Rattle.std.proofs.lemmas.List.{length-append, take_at}
 use Rattle.std.proofs.lemmas.List.Concat.{flat_map-cons}
-use Rattle.frame_fields.specs.Fields.{size16, size32, Field, Fields, end, one, array, Value, be, field, FitsLength, Fits, encoded}
-use Rattle.frame_fields.specs.Types.{string, topic, ◌⨾◌}
+use Rattle.frame_fields.specs.Fields.{size16, size32, Field, Fields, end, one, array, Value, be, field, Fits, encoded}
+use Rattle.frame_fields.specs.Types.{string, topic}
 use Rattle.frame_fields.specs.Frames.{IsBytes}
 use Rattle.frame_fields.proofs.Numbers.{IsBytes-take, IsBytes-second, length-be}
 
@@ -46,7 +46,7 @@ unfolding encoded
 topic_length d t =
     let name : length (field string t.0) ≡ 2 + length t.0 = length-append (be size16 (pos (length t.0))) t.0 ∙ ap (λ n. n + length t.0) (length-be size16 (pos (length t.0))) in
     let count : length (be size32 (pos (length t.1.0)) ++ flat_map (encoded d) t.1.0) ≡ 4 + length (flat_map (encoded d) t.1.0) =
-        length-append (be size32 (pos (length t.1.0))) (flat_map (encoded d) t.1.0) ∙ ap (λ n. n + length (flat_map (encoded d) t.1.0)) (length-be size32 (pos (length t.1.0))) in
+    length-append (be size32 (pos (length t.1.0))) (flat_map (encoded d) t.1.0) ∙ ap (λ n. n + length (flat_map (encoded d) t.1.0)) (length-be size32 (pos (length t.1.0))) in
     let all = length-append (field string t.0) ((be size32 (pos (length t.1.0)) ++ flat_map (encoded d) t.1.0) ++ []) in
     let last = length-append (be size32 (pos (length t.1.0)) ++ flat_map (encoded d) t.1.0) [] in
     omega (arith, name, count, all, last)

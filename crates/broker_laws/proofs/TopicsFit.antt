@@ -3,18 +3,17 @@
 --
 -- A further request of entries joins by one lemma: of an entry whose fields fit, answered in a state with the invariant,
 -- the answer's fields fit, and its encoding has at most three times as many bytes and `extra`; `topics_fit` gives the rest.
-use Rattle.std.proofs.Common.{◌≡◌, ℕ, ◌+◌, ◌*◌, ◌≤◌, List, [], ◌∷◌, ◌++◌, length, refl, sym, ap, subst, ◌∙◌, arith}
-use Rattle.std.specs.Prelude.{pos, map}
+use Rattle.std.proofs.Common.{◌≡◌, ℕ, ◌+◌, ◌*◌, ◌≤◌, List, [], ◌∷◌, length, sym, ap, subst, ◌∙◌, arith}
+use Rattle.std.specs.Prelude.{map}
 use Rattle.std.specs.List.{flat_map, AllByRecursion}
-use Rattle.std.proofs.lemmas.List.{length-append, length-map}
+use Rattle.std.proofs.lemmas.List.{length-map}
 use Rattle.std.proofs.lemmas.List.Folds.{flat_map-map}
-use Rattle.frame_fields.specs.Fields.{size16, size32, Fields, end, array, Value, be, field, FitsLength, Fits, ElementsFit, encoded}
-use Rattle.frame_fields.specs.Types.{TopicOf, string, topic, ◌⨾◌, topic_request}
-use Rattle.frame_fields.proofs.Numbers.{length-be}
+use Rattle.frame_fields.specs.Fields.{size16, size32, Fields, Value, FitsLength, Fits, ElementsFit, encoded}
+use Rattle.frame_fields.specs.Types.{TopicOf, topic, topic_request}
 use Rattle.responses.specs.Responses.{topic_values}
-use Rattle.answering.specs.Plans.{AnswersAll, AnswersTopic, AnswersTopics}
+use Rattle.answering.specs.Plans.{AnswersTopic, AnswersTopics}
 use Rattle.broker_laws.proofs.Said.{IsSaid, said_entries, topic_length}
-use Rattle.broker_laws.proofs.Followed.{Paired, paired_length, paired_second, paired_weaker, followed, total, spent, longer, grown}
+use Rattle.broker_laws.proofs.Followed.{Paired, paired_length, paired_second, paired_weaker, followed, total, grown}
 
 module _ {R : Type 0} (P Q : Fields) (g : R → Value Q) (extra : R → ℕ) where
   -- what an answer to an entry has
@@ -42,12 +41,17 @@ module _ {R : Type 0} (P Q : Fields) (g : R → Value Q) (extra : R → ℕ) whe
   topic_fits t r fits name all = record {
     fits = (
       subst (λ (n : List ℕ). FitsLength size16 (length n)) (sym name) fits.0,
-      ((subst (λ (n : ℕ). FitsLength size32 n) (sym (length-map r.entries g ∙ paired_length EntryFits t.1.0 r.entries all)) fits.1.0.0,
-          all_mapped r.entries (paired_second EntryFits (λ r. Fits Q (g r)) (λ e r one. one.fits) t.1.0 r.entries all)), tt),
+      (
+        (
+          subst (λ (n : ℕ). FitsLength size32 n) (sym (length-map r.entries g ∙ paired_length EntryFits t.1.0 r.entries all)) fits.1.0.0,
+          all_mapped r.entries (paired_second EntryFits (λ r. Fits Q (g r)) (λ e r one. one.fits) t.1.0 r.entries all),
+        ),
+        tt,
+      ),
     );
     size =
         let more : length (flat_map (λ r. encoded Q (g r)) r.entries) ≤ 3 * length (flat_map (encoded P) t.1.0) + total extra r.entries =
-            grown (encoded P) (λ r. encoded Q (g r)) extra t.1.0 r.entries (paired_weaker EntryFits (λ e r. length (encoded Q (g r)) ≤ 3 * length (encoded P e) + extra r) (λ e r one. one.size) t.1.0 r.entries all) in
+        grown (encoded P) (λ r. encoded Q (g r)) extra t.1.0 r.entries (paired_weaker EntryFits (λ e r. length (encoded Q (g r)) ≤ 3 * length (encoded P e) + extra r) (λ e r one. one.size) t.1.0 r.entries all) in
         let mapped : length (flat_map (encoded Q) (map g r.entries)) ≡ length (flat_map (λ r. encoded Q (g r)) r.entries) = ap length (flat_map-map (encoded Q) g r.entries) in
         let same : length r.name ≡ length t.0 = ap length name in
         omega (arith, more, mapped, same, topic_length P t, topic_length Q (value_of r));
@@ -65,12 +69,14 @@ module _ {R : Type 0} (P Q : Fields) (g : R → Value Q) (extra : R → ℕ) whe
     topics_fit s last ts rs i count said answers =
         let all = followed (topic_request P f) (AnswersTopic A) I (IsSaid (topic P)) TopicFits one_topic s ts rs last i said answers in
         let more : length (flat_map (λ r. encoded (topic Q) (value_of r)) rs) ≤ 3 * length (flat_map (encoded (topic P)) ts) + total extra_of rs =
-            grown (encoded (topic P)) (λ r. encoded (topic Q) (value_of r)) extra_of ts rs (paired_weaker TopicFits (λ t r. length (encoded (topic Q) (value_of r)) ≤ 3 * length (encoded (topic P) t) + extra_of r) (λ t r one. one.size) ts rs all.0) in
-        let mapped : length (flat_map (encoded (topic Q)) (topic_values Q g rs)) ≡ length (flat_map (λ r. encoded (topic Q) (value_of r)) rs) = ap length (flat_map-map (encoded (topic Q)) value_of rs) in
-        ((
-          (subst (λ (n : ℕ). FitsLength size32 n) (sym (length-map rs value_of ∙ paired_length TopicFits ts rs all.0)) count, topics_mapped rs (paired_second TopicFits (λ r. Fits (topic Q) (value_of r)) (λ t r one. one.fits) ts rs all.0)),
-          omega (arith, more, mapped),
-        ), all.1)
+        grown (encoded (topic P)) (λ r. encoded (topic Q) (value_of r)) extra_of ts rs (paired_weaker TopicFits (λ t r. length (encoded (topic Q) (value_of r)) ≤ 3 * length (encoded (topic P) t) + extra_of r) (λ t r one. one.size) ts rs all.0) in
+        let mapped : length (flat_map (encoded (topic Q)) (topic_values Q g rs)) ≡ length (flat_map (λ r. encoded (topic Q) (value_of r)) rs) = ap length (flat_map-map (encoded (topic Q)) value_of rs) in (
+          (
+            (subst (λ (n : ℕ). FitsLength size32 n) (sym (length-map rs value_of ∙ paired_length TopicFits ts rs all.0)) count, topics_mapped rs (paired_second TopicFits (λ r. Fits (topic Q) (value_of r)) (λ t r one. one.fits) ts rs all.0)),
+            omega (arith, more, mapped),
+          ),
+          all.1,
+        )
       where
         topics_mapped : (rs : List (TopicOf R)) → AllByRecursion (λ r. Fits (topic Q) (value_of r)) rs → AllByRecursion (Fits (topic Q)) (topic_values Q g rs)
         topics_mapped [] all = tt

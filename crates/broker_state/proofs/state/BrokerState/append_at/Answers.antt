@@ -22,14 +22,13 @@ extend_partition-requires-clause-leads g c =
 pub invariant_of-self : goal.invariant_of-self
 invariant_of-self g c =
     let topics = c.self.inside.topics.items in
-    let config = config_value c.self.inside.config in
-    (
+    let config = config_value c.self.inside.config in (
       c.self.invariant.0,
       topics_stay topics config c.args.self.now c.requires.is_place.0 c.requires.is_place.1 c.args.place c.self.view_is c.requires.is_place.2 c.index_mut.result.now c.extend_partition.new.self c.index_mut.ensures.value c.self.invariant.1 c.extend_partition.ensures.shape
           (subst (λ role. HasRole role c.extend_partition.new.self) (sym (ap (λ s. s.config.role) c.self.view_is ∙ c.requires.leads)) c.extend_partition.ensures.roles),
       all_set HoldParts topics c.args.place.topic c.extend_partition.new.self c.self.invariant.2
           (appends_keep c.index_mut.result.now c.extend_partition.new.self (pos c.args.place.partition) c.args.batch.now c.extend_partition.result c.know_writable.ensures c.extend_partition.ensures.appends
-              (holds_at_place topics config c.args.self.now c.requires.is_place.0 c.requires.is_place.1 c.args.place c.self.view_is c.requires.is_place.2 HoldParts c.index_mut.result.now c.index_mut.ensures.value c.self.invariant.2)),
+          (holds_at_place topics config c.args.self.now c.requires.is_place.0 c.requires.is_place.1 c.args.place c.self.view_is c.requires.is_place.2 HoldParts c.index_mut.result.now c.index_mut.ensures.value c.self.invariant.2)),
     )
 
 pub returns : goal.returns
