@@ -1,30 +1,27 @@
 -- The response to Fetch fits its fields: its records have at most the room that there is for them, and one batch more.
-use Rattle.std.proofs.Common.{◌≡◌, ◌^◌, ℕ, zero, suc, ◌+◌, ◌-◌, ◌*◌, ◌<◌, ◌≤◌, ℤ, pos, negsuc, Bool, true, false, cond, List, [], ◌∷◌, ◌++◌, length, take, drop, Option, Some, None, refl, sym, ap, subst, ◌∙◌, ◌⊎◌, inl, inr, arith, true≢false}
-use Rattle.std.specs.Prelude.{min, max, nat_le, nat_lt, not, ◌||◌, FitsSigned}
-use Rattle.std.specs.List.{flat_map, AllByRecursion}
+use Rattle.std.proofs.Common.{◌≡◌, ◌^◌, ℕ, zero, suc, ◌+◌, ◌-◌, ◌<◌, ◌≤◌, ℤ, pos, negsuc, Bool, true, false, cond, List, [], ◌∷◌, ◌++◌, length, take, drop, refl, sym, ◌⊎◌, inl, inr, arith, true≢false}
+use Rattle.std.specs.Prelude.{min, max, nat_lt, not, ◌||◌, FitsSigned}
+use Rattle.std.specs.List.{AllByRecursion}
 use Rattle.std.specs.Int.{w16, w64}
 use Rattle.std.proofs.lemmas.List.{length-append}
-use Rattle.std.proofs.lemmas.List.Concat.{flat_map-cons}
 use Rattle.batch_codec.specs.Values.{BatchValue}
-use Rattle.batch_codec.specs.Grammar.{batch_encoding}
 use Rattle.batch_codec.specs.declared.layout.TheConstants.{MAX_BATCH_BYTES}
 use Rattle.content.specs.Content.{Content, IsContent, end}
 use Rattle.content.specs.Records.{IsKeepable}
 use Rattle.segment.specs.BatchLists.{first_from}
 use Rattle.partition_log.specs.Lookups.{size_of, fitting, fetched}
-use Rattle.frame_fields.specs.Fields.{size16, size32, size64, Value, be, FitsLength, Fits, encoded}
-use Rattle.frame_fields.specs.Types.{TopicOf, bytes}
+use Rattle.frame_fields.specs.Fields.{size32, size64, Value, be, Fits, encoded}
+use Rattle.frame_fields.specs.Types.{bytes}
 use Rattle.frame_fields.proofs.Numbers.{length-be, null_fits}
 use Rattle.request_frames.specs.Fetch.{FetchPartitionValue, fetch_partition, fetch_partition_value}
 use Rattle.responses.specs.Fetch.{Fetched, fetched_fields, fetched_value}
 use Rattle.answering.specs.Codes.{no_error, code_number}
-use Rattle.answering.specs.Plans.{AnswersTopic, AnswersTopics}
 use Rattle.answering.specs.Work.{MayAnswer}
 use Rattle.broker_state.specs.State.{State, content_at}
 use Rattle.log_requests.specs.declared.fetch.room.TheConstants.{MAX_FETCH_BYTES}
-use Rattle.log_requests.specs.Fetch.{FetchRoom, fetch_limit, fetch_room, fetch_run_within, fetch_room_after, fetch_result, fetch_work}
+use Rattle.log_requests.specs.Fetch.{FetchRoom, fetch_limit, fetch_run_within, fetch_room_after, fetch_result, fetch_work}
 use Rattle.broker_state.specs.Sound.{IsSound}
-use Rattle.broker_laws.proofs.Followed.{total, spent}
+use Rattle.log_requests.proofs.FetchRuns.{bytes_of, bytes_more, run_fits, all_behind}
 use Rattle.broker_laws.proofs.Said.{IsSaid}
 use Rattle.broker_laws.proofs.TopicsFit.{EntryFits}
 use Rattle.broker_state.proofs.ValidAppends.{end_fits}
@@ -33,30 +30,14 @@ use Rattle.broker_laws.proofs.Works.{worked, no_error_fits, code_fits}
 
 -- ---- the bytes of a run
 
-abbrev bytes_of : List BatchValue → ℕ
-bytes_of bs = length (flat_map batch_encoding bs)
-
-bytes_more : (b : BatchValue) (bs : List BatchValue) → bytes_of (b ∷ bs) ≡ size_of b + bytes_of bs
-bytes_more b bs = ap length (flat_map-cons batch_encoding b bs) ∙ length-append (batch_encoding b) (flat_map batch_encoding bs)
-
-within : (limit : ℕ) (bs : List BatchValue) → bytes_of (take (fitting limit bs) bs) ≤ limit
-unfolding fitting
-within limit [] = omega arith
-within limit (b ∷ bs) = by (nat_le (size_of b) limit) refl (within (limit - size_of b) bs)
-  where
-    by : (t : Bool) → nat_le (size_of b) limit ≡ t → bytes_of (take (fitting (limit - size_of b) bs) bs) ≤ limit - size_of b
-        → bytes_of (take (cond t (suc (fitting (limit - size_of b) bs)) 0) (b ∷ bs)) ≤ limit
-    by true e rest = grind (arith, e, rest, bytes_more b (take (fitting (limit - size_of b) bs) bs))
-    by false e rest = omega arith
-
 -- a run fits the limit, or it is one batch, where the first is forced
 abbrev FitsOrForced : (force : Bool) (limit : ℕ) (run : List BatchValue) → Type 0
 FitsOrForced force limit run = (bytes_of run ≤ limit) ⊎ ((force ≡ true) × (bytes_of run ≤ MAX_BATCH_BYTES))
 
 run_bytes : (force : Bool) (limit : ℕ) (bs : List BatchValue) → AllByRecursion IsKeepable bs → FitsOrForced force limit (take (fetched force limit bs) bs)
 run_bytes force limit [] all = inl (omega arith)
-run_bytes false limit (b ∷ bs) all = inl (within limit (b ∷ bs))
-run_bytes true limit (b ∷ bs) all = by (fitting limit (b ∷ bs)) (within limit (b ∷ bs))
+run_bytes false limit (b ∷ bs) all = inl (run_fits limit (b ∷ bs))
+run_bytes true limit (b ∷ bs) all = by (fitting limit (b ∷ bs)) (run_fits limit (b ∷ bs))
   where
     one : bytes_of (b ∷ []) ≡ size_of b + 0
     one = bytes_more b []
@@ -64,11 +45,6 @@ run_bytes true limit (b ∷ bs) all = by (fitting limit (b ∷ bs)) (within limi
     by : (n : ℕ) → bytes_of (take n (b ∷ bs)) ≤ limit → FitsOrForced true limit (take (max 1 n) (b ∷ bs))
     by zero h = let small : size_of b ≤ MAX_BATCH_BYTES = all.0.0.size in inr (refl, omega (arith, one, small))
     by (suc n) h = let more : max 1 (suc n) ≡ suc n = omega arith in inl (rw more h)
-
-all_behind : (n : ℕ) (bs : List BatchValue) → AllByRecursion IsKeepable bs → AllByRecursion IsKeepable (drop n bs)
-all_behind zero bs all = all
-all_behind (suc n) [] all = all
-all_behind (suc n) (b ∷ bs) all = all_behind n bs all.1
 
 run_within : (room : FetchRoom) (c : Content) (e : FetchPartitionValue) → IsContent c → FitsOrForced (not room.given) (min (fetch_limit e.max_bytes) room.left) (fetch_run_within room c e)
 run_within room c e is =

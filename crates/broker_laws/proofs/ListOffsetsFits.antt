@@ -1,14 +1,13 @@
 -- The response to ListOffsets fits its fields.
-use Rattle.std.proofs.Common.{◌≡◌, ℕ, ◌+◌, ◌*◌, ◌≤◌, ℤ, pos, negsuc, Bool, true, false, cond, List, [], ◌∷◌, ◌++◌, length, Option, Some, None, refl, arith}
+use Rattle.std.proofs.Common.{◌≡◌, ℕ, ℤ, negsuc, Bool, true, false, cond, List, length, Option, Some, None, refl, arith}
 use Rattle.std.specs.Prelude.{FitsSigned}
 use Rattle.std.specs.Option.{unwrap_or}
 use Rattle.std.specs.Ordering.{int_eq}
-use Rattle.std.specs.Int.{w16, w32, w64}
-use Rattle.std.proofs.lemmas.List.{length-append}
+use Rattle.std.specs.Int.{w16}
 use Rattle.content.specs.Content.{Content, IsContent, end}
 use Rattle.partition_log.specs.Lookups.{first_by_time}
-use Rattle.frame_fields.specs.Fields.{size32, size64, Value, be, Fits, encoded}
-use Rattle.frame_fields.proofs.Numbers.{length-be, null_fits}
+use Rattle.frame_fields.specs.Fields.{size64, Value, Fits, encoded}
+use Rattle.frame_fields.proofs.Numbers.{null_fits}
 use Rattle.request_frames.specs.ListOffsets.{list_offsets_partition, list_offsets_partition_value}
 use Rattle.responses.specs.declared.list_offsets.partition.ListedPartition.{ListedPartition}
 use Rattle.responses.specs.ListOffsets.{list_offsets_answer_fields, list_offsets_answer_value}

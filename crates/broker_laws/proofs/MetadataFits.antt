@@ -1,31 +1,27 @@
 -- The response to Metadata fits its fields: names that are asked for come back once each, and a topic that the broker has,
 -- with its partitions, is asked for once at most.
-use Rattle.std.proofs.Common.{◌≡◌, ◌^◌, ℕ, zero, suc, ◌+◌, ◌*◌, ◌<◌, ◌≤◌, ℤ, pos, negsuc, Bool, true, false, cond, not, List, [], ◌∷◌, ◌++◌, length, Option, Some, None, refl, sym, ap, subst, ◌∙◌, arith}
-use Rattle.std.specs.Prelude.{map, FitsSigned, bytes_eq, nat_lt}
-use Rattle.std.specs.List.{flat_map, filter, find, range_with_len, list_any, AllByRecursion}
-use Rattle.std.specs.Option.{option_map}
-use Rattle.std.specs.Int.{w8, w16, w32, is_in_range}
+use Rattle.std.proofs.Common.{◌≡◌, ℕ, zero, suc, ◌+◌, ◌*◌, ◌<◌, ◌≤◌, ℤ, pos, negsuc, Bool, true, false, cond, not, List, [], ◌∷◌, ◌++◌, length, Option, Some, None, refl, sym, ap, subst, ◌∙◌, arith}
+use Rattle.std.specs.Prelude.{map, FitsSigned, bytes_eq}
+use Rattle.std.specs.List.{flat_map, filter, find, range_with_len, AllByRecursion}
+use Rattle.std.specs.Int.{w8, w16, w32}
 use Rattle.std.proofs.lemmas.List.{length-append, length-map}
 use Rattle.std.proofs.lemmas.List.FromFn.{length-map-range_with_len}
-use Rattle.std.proofs.lemmas.Slice.Eq.{bytes_eq-Decides}
-use Rattle.frame_fields.specs.Fields.{size8, size16, size32, Fields, end, array, Value, be, field, FitsLength, Fits, ElementsFit, encoded}
-use Rattle.frame_fields.specs.Types.{int32, string, flag, ◌⨾◌}
+use Rattle.frame_fields.specs.Fields.{size8, size16, size32, end, be, FitsLength, Fits, ElementsFit, encoded}
+use Rattle.frame_fields.specs.Types.{int32, flag, ◌⨾◌}
 use Rattle.frame_fields.specs.Names.{is_topic_name}
 use Rattle.frame_fields.proofs.Numbers.{length-be, null_fits}
 use Rattle.responses.specs.declared.metadata.partition.MetadataPartition.{MetadataPartition}
-use Rattle.responses.specs.Metadata.{MetadataOfBroker, MetadataOfTopic, metadata_broker_fields, metadata_partition_fields, metadata_topic_fields, metadata_response, metadata_leader_id, metadata_replicas, metadata_broker_value, metadata_partition_value, metadata_topic_value, metadata_value}
+use Rattle.responses.specs.Metadata.{MetadataOfTopic, metadata_partition_fields, metadata_topic_fields, metadata_response, metadata_leader_id, metadata_replicas, metadata_partition_value, metadata_topic_value, metadata_value}
 use Rattle.answering.specs.declared.codes.ErrorCode.{ErrorCode}
 use Rattle.answering.specs.declared.codes.ErrorCode.TheVariants.{UnknownTopicOrPartition, LeaderNotAvailable, InvalidTopic}
-use Rattle.answering.specs.Codes.{no_error, code_number}
-use Rattle.answering.specs.Lists.{fault_if, first_some}
 use Rattle.broker_state.specs.declared.config.Role.{Role}
 use Rattle.broker_state.specs.declared.config.Role.TheVariants.{Leader, Follower}
-use Rattle.broker_state.specs.declared.limits.TheConstants.{MAX_TOPICS, MAX_PARTITIONS, MAX_HOST_BYTES}
-use Rattle.broker_state.specs.declared.error.ConfigError.TheVariants.{BadHost, TooManyTopics, BadTopic, BadPartitions, TopicTwice}
-use Rattle.broker_state.specs.State.{TopicConfig, ConfigValue, Topic, State, group_topic, all_topics, is_group_topic, topic_of}
-use Rattle.broker_state.specs.Configs.{topic_fault, topics_fault, IsValidConfig}
+use Rattle.broker_state.specs.declared.limits.TheConstants.{MAX_TOPICS, MAX_PARTITIONS}
+use Rattle.broker_state.specs.State.{ConfigValue, Topic, State, group_topic, all_topics, is_group_topic, topic_of}
 use Rattle.log_requests.specs.Metadata.{metadata_of_broker, metadata_leader_of, metadata_leader_code, metadata_leader, metadata_of_partition, metadata_of_failed, metadata_of_topic, metadata_of_found, metadata_at, each_once, metadata_topics}
 use Rattle.broker_state.specs.Sound.{IsSoundConfig, shape_of, IsSound}
+use Rattle.content_laws.proofs.BatchParts.{all-filter}
+use Rattle.log_requests.proofs.MetadataNames.{same_name, no_more}
 use Rattle.broker_laws.proofs.Followed.{total, longer}
 use Rattle.broker_state.proofs.Shapes.{IsSmallTopic, small_config}
 use Rattle.broker_state.proofs.SoundStates.{found_has}
@@ -156,9 +152,9 @@ all_known g (t ∷ ts) node all =
     let size = known.size in
     (record { fits = known.fits; size = omega (arith, size, name, few) }, all_known g ts node all.1)
 
-total_same : {X : Type 0} (n : ℕ) (xs : List X) → total (λ (x : X). 1922) xs ≡ 1922 * length xs
-total_same n [] = omega arith
-total_same n (x ∷ xs) = omega (arith, total_same n xs)
+total_same : {X : Type 0} (xs : List X) → total (λ (x : X). 1922) xs ≡ 1922 * length xs
+total_same [] = omega arith
+total_same (x ∷ xs) = omega (arith, total_same xs)
 
 -- ---- names, each once
 
@@ -178,23 +174,12 @@ less_of_once : (w : List ℕ → ℕ) (xs : Names) → total w (each_once xs) �
 less_of_once w [] = omega arith
 less_of_once w (x ∷ xs) = omega (arith, less_of_some w (λ other. not (bytes_eq other x)) (each_once xs), less_of_once w xs)
 
-all_of_some : (P : List ℕ → Type 0) (p : List ℕ → Bool) (xs : Names) → AllByRecursion P xs → AllByRecursion P (filter p xs)
-all_of_some P p [] all = tt
-all_of_some P p (x ∷ xs) all = by (p x) (all_of_some P p xs all.1)
-  where
-    by : (b : Bool) → AllByRecursion P (filter p xs) → AllByRecursion P (cond b (x ∷ filter p xs) (filter p xs))
-    by true rest = (all.0, rest)
-    by false rest = rest
-
 all_of_once : (P : List ℕ → Type 0) (xs : Names) → AllByRecursion P xs → AllByRecursion P (each_once xs)
 all_of_once P [] all = tt
-all_of_once P (x ∷ xs) all = (all.0, all_of_some P (λ other. not (bytes_eq other x)) (each_once xs) (all_of_once P xs all.1))
+all_of_once P (x ∷ xs) all = (all.0, all-filter P (λ other. not (bytes_eq other x)) (each_once xs) (all_of_once P xs all.1))
 
 abbrev is_at : List ℕ → List ℕ → ℕ
 is_at name other = cond (bytes_eq name other) 1 0
-
-same_name : (x y : List ℕ) → bytes_eq x y ≡ true → x ≡ y
-same_name x y e = (bytes_eq-Decides x y).0 e
 
 others_only : (name : List ℕ) (xs : Names) → total (is_at name) (filter (λ other. not (bytes_eq other name)) xs) ≡ 0
 others_only name [] = refl
@@ -301,16 +286,8 @@ listed_within s sound =
         record { sfits = omega (arith, few, length-map (map (metadata_of_topic s.config) s.topics) metadata_topic_value, length-map s.topics (metadata_of_topic s.config)) },
         all_fit (metadata_of_topic s.config) (λ t. 1922) s.topics each,
       );
-      size = omega (arith, few, all_long (metadata_of_topic s.config) (λ t. 1922) s.topics each, total_same 1922 s.topics);
+      size = omega (arith, few, all_long (metadata_of_topic s.config) (λ t. 1922) s.topics each, total_same s.topics);
     }
-
-no_more : (xs : Names) → length (each_once xs) ≤ length xs
-no_more [] = omega arith
-no_more (x ∷ xs) = omega (arith, no_more xs, fewer (λ other. not (bytes_eq other x)) (each_once xs))
-  where
-    fewer : (p : List ℕ → Bool) (xs : Names) → length (filter p xs) ≤ length xs
-    fewer p [] = omega arith
-    fewer p (x ∷ xs) = grind (arith, fewer p xs)
 
 -- five times the bytes of the names, and 26 for each partition of at most 65 topics
 pub asked_within : (s : State) (n : ℕ) (xs : Names) → IsSound s → FitsLength size32 (length xs) → AllByRecursion (λ name. FitsLength size16 (length name)) xs → total (λ name. 2 + length name) xs ≤ n

@@ -1,8 +1,7 @@
 -- The response to Produce fits its fields, and the state stays sound.
-use Rattle.std.proofs.Common.{◌≡◌, ◌^◌, ℕ, ◌+◌, ◌*◌, ◌<◌, ◌≤◌, ℤ, pos, negsuc, Bool, true, false, cond, List, [], ◌∷◌, ◌++◌, length, take, Option, Some, None, Result, Ok, Err, refl, sym, ap, subst, ◌∙◌, arith}
+use Rattle.std.proofs.Common.{◌≡◌, ℕ, ◌≤◌, ℤ, pos, negsuc, false, List, [], ◌∷◌, ◌++◌, length, take, Option, Some, None, Result, Ok, Err, refl, sym, subst, arith}
 use Rattle.std.specs.Prelude.{FitsSigned, not, is_some, nat_lt}
 use Rattle.std.specs.Option.{option_map}
-use Rattle.std.specs.Ordering.{int_eq}
 use Rattle.std.specs.Int.{w16, w32, w64}
 use Rattle.std.proofs.lemmas.List.{length-append, take_all}
 use Rattle.batch_codec.specs.Grammar.{Writable}
@@ -10,14 +9,13 @@ use Rattle.batch_codec.specs.Reading.{batch_of, IsEncoding}
 use Rattle.batch_codec.specs.declared.error.BatchError.{BatchError}
 use Rattle.batch_codec.specs.Checks.{Checked, size_at, check_batch}
 use Rattle.batch_codec.proofs.Views.{view_encoded}
-use Rattle.frame_fields.specs.Fields.{size16, size32, size64, Value, be, field, Fits, encoded}
-use Rattle.frame_fields.specs.Types.{int32, nullable_bytes, or_empty, ◌⨾◌}
+use Rattle.frame_fields.specs.Fields.{size32, size64, Value, be, field, Fits, encoded}
+use Rattle.frame_fields.specs.Types.{nullable_bytes, or_empty}
 use Rattle.frame_fields.specs.Frames.{IsBytes}
 use Rattle.frame_fields.proofs.Numbers.{IsBytes-second, length-be, null_fits}
 use Rattle.request_frames.specs.Produce.{ProduceValue, ProducePartitionValue, produce_partition, produce_partition_value}
 use Rattle.responses.specs.declared.produce.partition.ProducedPartition.{ProducedPartition}
 use Rattle.responses.specs.Produce.{produced_fields, produced_value}
-use Rattle.answering.specs.declared.codes.ErrorCode.{ErrorCode}
 use Rattle.answering.specs.declared.codes.ErrorCode.TheVariants.{InvalidTopic, InvalidRequiredAcks, InvalidRecord, InvalidTransactionState}
 use Rattle.answering.specs.Codes.{no_error, code_number}
 use Rattle.answering.specs.Lists.{fault_if, first_some}
@@ -28,7 +26,7 @@ use Rattle.broker_state.specs.Checks.{unknown, not_leader}
 use Rattle.broker_state.specs.Batches.{checked_code, checks_of_size, batch_checks, append_fault, appended}
 use Rattle.log_requests.specs.Produce.{is_acks, produce_result, produce_checks, produce_work}
 use Rattle.broker_state.specs.Sound.{IsSound}
-use Rattle.broker_laws.proofs.Said.{IsSaid, said_later, bytes_first}
+use Rattle.broker_laws.proofs.Said.{IsSaid, bytes_first}
 use Rattle.broker_laws.proofs.TopicsFit.{EntryFits}
 use Rattle.broker_state.proofs.SoundStates.{content_valid, sound_with}
 use Rattle.broker_laws.proofs.Works.{worked, no_error_fits, code_fits}

@@ -1,44 +1,42 @@
 -- Whatever may be replied to a frame fits its fields, and the state stays sound.
 --
--- How a further request joins: in `Fitting` the fields of its response; here one case of `body_fits`, and one of
--- `body_sound`. Where it is answered entry by entry, its own file says of one entry what `TopicsFit` asks for, and the case
--- cites `topics_fit`. Where it is answered once, its own file shows that its one value fits, in how many bytes, and the case
--- cites `fitting`.
-use Rattle.std.proofs.Common.{◌≡◌, ◌^◌, ℕ, ◌+◌, ◌-◌, ◌*◌, ◌<◌, ◌≤◌, ℤ, pos, Bool, true, false, cond, List, [], ◌∷◌, ◌++◌, length, drop, Option, Some, None, Ok, refl, sym, ap, subst, ◌∙◌, arith}
-use Rattle.std.specs.Prelude.{map, FitsSigned, ◌≤ℤ◌}
+-- A further request joins by its fields in `Fitting`, and by one case of `body_fits`. Where it is answered entry by entry, a
+-- file of its own shows for one entry what `TopicsFit` asks for, as `ProduceFits` does, and the case cites `topics_fit`; where
+-- it is answered once, such a file shows that its value fits and how many bytes it has, as `MetadataFits` does. Either way
+-- the case ends by `fitting`.
+use Rattle.std.proofs.Common.{◌≡◌, ℕ, ◌+◌, ◌-◌, ◌*◌, ◌≤◌, ℤ, pos, Bool, true, false, cond, List, [], ◌∷◌, ◌++◌, length, drop, Option, Some, None, Ok, refl, sym, ap, subst, ◌∙◌, arith}
+use Rattle.std.specs.Prelude.{map, FitsSigned}
 use Rattle.std.specs.List.{flat_map, AllByRecursion}
 use Rattle.std.specs.Option.{option_map}
 use Rattle.std.specs.Ordering.{int_eq}
 use Rattle.std.specs.Int.{w32}
 use Rattle.std.proofs.lemmas.Int.{ints}
 use Rattle.std.proofs.lemmas.List.{length-append, length-drop, length-map, append-nil}
-use Rattle.batch_codec.specs.declared.layout.TheConstants.{MAX_BATCH_BYTES}
-use Rattle.frame_fields.specs.Fields.{size16, size32, Field, Fields, end, one, array, array_or_null, Value, be, FitsLength, Fits, ElementsFit, encoded, Encodes}
+use Rattle.frame_fields.specs.Fields.{size16, size32, Field, Fields, end, one, array, array_or_null, Value, be, FitsLength, Fits, encoded, Encodes}
 use Rattle.frame_fields.specs.Types.{TopicOf, int16, int32, string, topic, bytes, int8, nullable_string, ◌⨾◌}
-use Rattle.frame_fields.specs.Frames.{IsBytes, IsWithinLimit, framed}
+use Rattle.frame_fields.specs.Frames.{IsBytes, IsWithinLimit}
 use Rattle.frame_fields.specs.Reading.{read_fields}
 use Rattle.frame_fields.proofs.FieldLaws.{encodes_read}
 use Rattle.frame_fields.proofs.Numbers.{IsBytes-drop, length-be, number_fits}
 use Rattle.request_frames.specs.declared.api.Api.{Api}
 use Rattle.request_frames.specs.declared.api.Api.TheVariants.{Produce, Fetch, ListOffsets, Metadata}
-use Rattle.request_frames.specs.Requests.{fields_of, body_value, RequestValue, BodyValue, body_fields, body_of, correlation_of, IsRequest}
+use Rattle.request_frames.specs.Requests.{fields_of, body_value, RequestValue, body_fields, body_of, correlation_of, IsRequest}
 use Rattle.request_frames.specs.Produce.{produce_partition, produce_partition_value, produce_fields, produce_request}
 use Rattle.request_frames.specs.Fetch.{fetch_partition, fetch_partition_value, fetch_fields, fetch_request}
 use Rattle.request_frames.specs.ListOffsets.{list_offsets_partition, list_offsets_partition_value, list_offsets_fields, list_offsets_request}
 use Rattle.request_frames.specs.Metadata.{metadata_fields, metadata_request}
 use Rattle.responses.specs.declared.produce.partition.ProducedPartition.{ProducedPartition}
 use Rattle.responses.specs.declared.list_offsets.partition.ListedPartition.{ListedPartition}
-use Rattle.responses.specs.Responses.{response, topic_values}
+use Rattle.responses.specs.Responses.{response}
 use Rattle.responses.specs.Produce.{produced_fields, produced_value, produce_response, produce_value}
 use Rattle.responses.specs.Fetch.{Fetched, fetched_fields, fetch_response, fetch_value}
 use Rattle.responses.specs.ListOffsets.{list_offsets_answer_fields, list_offsets_answer_value, list_offsets_response, list_offsets_value}
 use Rattle.responses.specs.Metadata.{metadata_response, metadata_value, metadata_leader_id}
-use Rattle.answering.specs.Plans.{AnswersTopic, AnswersTopics, RepliesBy}
+use Rattle.answering.specs.Plans.{AnswersTopic, RepliesBy}
 use Rattle.answering.specs.Work.{MayAnswer}
 use Rattle.broker_state.specs.State.{State}
-use Rattle.log_requests.specs.declared.fetch.room.TheConstants.{MAX_FETCH_BYTES}
 use Rattle.log_requests.specs.Produce.{produce_work, produce_plan}
-use Rattle.log_requests.specs.Fetch.{FetchRoom, fetch_room, fetch_work, fetch_plan}
+use Rattle.log_requests.specs.Fetch.{fetch_room, fetch_work, fetch_plan}
 use Rattle.log_requests.specs.ListOffsets.{list_offsets_work, list_offsets_plan}
 use Rattle.log_requests.specs.Metadata.{metadata_of_broker, metadata_leader, metadata_reply, metadata_topics}
 use Rattle.broker_node.specs.Replies.{RepliesTo, MayReply}
@@ -46,7 +44,7 @@ use Rattle.broker_state.specs.Sound.{IsSound}
 use Rattle.broker_node.specs.Fitting.{response_fields, IsFitting, FitsIfSent, FitsReply}
 use Rattle.broker_laws.proofs.Followed.{total, none_in_all, spent, longer}
 use Rattle.broker_laws.proofs.Said.{IsSaid, said_later, said_elements, later_shorter, array_length}
-use Rattle.broker_laws.proofs.TopicsFit.{EntryFits, extra_of, topics_fit}
+use Rattle.broker_laws.proofs.TopicsFit.{extra_of, topics_fit}
 use Rattle.broker_laws.proofs.ProduceFits.{produce_entry}
 use Rattle.broker_laws.proofs.FetchFits.{fetched_of, records_of, room_of, IsRoom, fetch_entry, fetch_spends}
 use Rattle.broker_laws.proofs.ListOffsetsFits.{list_offsets_entry}
@@ -59,11 +57,11 @@ response_length correlation d v =
     let frame = be size32 correlation ++ encoded d v in
     omega (arith, length-append (be size32 (pos (length frame))) frame, length-be size32 (pos (length frame)), length-append (be size32 correlation) (encoded d v), length-be size32 correlation)
 
--- more than any response has, and less than 2^31
-abbrev LIMIT : ℕ
-LIMIT = 2000000000
+-- more bytes than any response has, and fewer than 2^31
+abbrev enough : ℕ
+enough = 2000000000
 
-fitting : (correlation : ℤ) (d : Fields) (v : Value d) → FitsSigned w32 correlation → Fits d v → length (encoded d v) ≤ LIMIT → IsFitting correlation d (response correlation d v)
+fitting : (correlation : ℤ) (d : Fields) (v : Value d) → FitsSigned w32 correlation → Fits d v → length (encoded d v) ≤ enough → IsFitting correlation d (response correlation d v)
 fitting correlation d v number fits small = record {
   value = v;
   is_response = refl;
@@ -165,7 +163,7 @@ produce_fits n s correlation v out after low sound number part h =
     let long = ts.long in
     let extra : total (extra_of produce_partition produced_fields produced_value (λ r. 0)) h.results ≡ 0 = no_extra h.results in
     let value = produce_value h.results in
-    let whole : length (encoded produce_response value) ≤ LIMIT = omega (arith, low, size, long, extra, array_length (topic produced_fields) (int32 ⨾ end) value, one_long (pos 0)) in
+    let whole : length (encoded produce_response value) ≤ enough = omega (arith, low, size, long, extra, array_length (topic produced_fields) (int32 ⨾ end) value, one_long (pos 0)) in
     (subst (FitsIfSent correlation produce_response) (sym h.sends) (by (int_eq q.acks (pos 0)) (fitting correlation produce_response value number (all.0.0, (record { sfits = omega arith }, tt)) whole)), subst IsSound (sym h.leaves) all.1)
   where
     no_extra : (rs : List (TopicOf ProducedPartition)) → total (extra_of produce_partition produced_fields produced_value (λ r. 0)) rs ≡ 0
@@ -186,7 +184,7 @@ list_offsets_fits n s correlation v out after low sound number part h =
     let long = ts.long in
     let extra : total (extra_of list_offsets_partition list_offsets_answer_fields list_offsets_answer_value (λ r. 0)) h.results ≡ 0 = no_extra h.results in
     let value = list_offsets_value h.results in
-    let whole : length (encoded list_offsets_response value) ≤ LIMIT = omega (arith, low, size, long, extra, array_length (topic list_offsets_answer_fields) end value, none_long) in
+    let whole : length (encoded list_offsets_response value) ≤ enough = omega (arith, low, size, long, extra, array_length (topic list_offsets_answer_fields) end value, none_long) in
     (subst (FitsIfSent correlation list_offsets_response) (sym h.sends) (fitting correlation list_offsets_response value number (all.0.0, tt) whole), subst IsSound (sym h.leaves) all.1)
   where
     no_extra : (rs : List (TopicOf ListedPartition)) → total (extra_of list_offsets_partition list_offsets_answer_fields list_offsets_answer_value (λ r. 0)) rs ≡ 0
@@ -213,7 +211,7 @@ fetch_fits n s correlation v out after low sound number part h =
     (λ room t r m answers. spent (λ room e r m. MayAnswer (fetch_work s room t.name e) room r m) records_of room_of (λ room e r m. fetch_spends s sound room t.name e r m) room t.entries r.entries m answers.1)
     room (fetch_request v).topics h.results h.end h.answers in
     let value = fetch_value h.results in
-    let whole : length (encoded fetch_response value) ≤ LIMIT = omega (arith, low, size, long, records, later_long value, array_length (topic (fetched_fields bytes)) end value.1, none_long) in
+    let whole : length (encoded fetch_response value) ≤ enough = omega (arith, low, size, long, records, later_long value, array_length (topic (fetched_fields bytes)) end value.1, none_long) in
     (subst (FitsIfSent correlation fetch_response) (sym h.sends) (fitting correlation fetch_response value number (record { sfits = omega arith }, (all.0.0, tt)) whole), subst IsSound (sym h.leaves) sound)
   where
     later_long : (value : Value fetch_response) → length (encoded fetch_response value) ≡ 4 + length (encoded (array (topic (fetched_fields bytes)) end) value.1)

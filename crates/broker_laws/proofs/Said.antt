@@ -1,10 +1,10 @@
 -- What a frame of so many bytes says: values of fields that fit, part by part.
-use Rattle.std.proofs.Common.{◌≡◌, ℕ, ◌+◌, ◌≤◌, ℤ, pos, List, [], ◌∷◌, ◌++◌, length, refl, sym, ap, subst, ◌∙◌, arith}
+use Rattle.std.proofs.Common.{◌≡◌, ℕ, ◌+◌, ◌≤◌, pos, List, [], ◌∷◌, ◌++◌, length, refl, ap, subst, ◌∙◌, arith}
 use Rattle.std.specs.List.{flat_map, AllByRecursion}
 use Rattle.std.proofs.lemmas.List.{length-append, take_at}
 use Rattle.std.proofs.lemmas.List.Concat.{flat_map-cons}
-use Rattle.frame_fields.specs.Fields.{size16, size32, Field, Fields, end, one, array, Value, be, field, FitsLength, Fits, encoded}
-use Rattle.frame_fields.specs.Types.{string, topic, ◌⨾◌}
+use Rattle.frame_fields.specs.Fields.{size16, size32, Field, Fields, end, one, array, Value, be, field, Fits, encoded}
+use Rattle.frame_fields.specs.Types.{string, topic}
 use Rattle.frame_fields.specs.Frames.{IsBytes}
 use Rattle.frame_fields.proofs.Numbers.{IsBytes-take, IsBytes-second, length-be}
 

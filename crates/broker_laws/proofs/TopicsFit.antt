@@ -3,18 +3,17 @@
 --
 -- A further request of entries joins by one lemma: of an entry whose fields fit, answered in a state with the invariant,
 -- the answer's fields fit, and its encoding has at most three times as many bytes and `extra`; `topics_fit` gives the rest.
-use Rattle.std.proofs.Common.{◌≡◌, ℕ, ◌+◌, ◌*◌, ◌≤◌, List, [], ◌∷◌, ◌++◌, length, refl, sym, ap, subst, ◌∙◌, arith}
-use Rattle.std.specs.Prelude.{pos, map}
+use Rattle.std.proofs.Common.{◌≡◌, ℕ, ◌+◌, ◌*◌, ◌≤◌, List, [], ◌∷◌, length, sym, ap, subst, ◌∙◌, arith}
+use Rattle.std.specs.Prelude.{map}
 use Rattle.std.specs.List.{flat_map, AllByRecursion}
-use Rattle.std.proofs.lemmas.List.{length-append, length-map}
+use Rattle.std.proofs.lemmas.List.{length-map}
 use Rattle.std.proofs.lemmas.List.Folds.{flat_map-map}
-use Rattle.frame_fields.specs.Fields.{size16, size32, Fields, end, array, Value, be, field, FitsLength, Fits, ElementsFit, encoded}
-use Rattle.frame_fields.specs.Types.{TopicOf, string, topic, ◌⨾◌, topic_request}
-use Rattle.frame_fields.proofs.Numbers.{length-be}
+use Rattle.frame_fields.specs.Fields.{size16, size32, Fields, Value, FitsLength, Fits, ElementsFit, encoded}
+use Rattle.frame_fields.specs.Types.{TopicOf, topic, topic_request}
 use Rattle.responses.specs.Responses.{topic_values}
-use Rattle.answering.specs.Plans.{AnswersAll, AnswersTopic, AnswersTopics}
+use Rattle.answering.specs.Plans.{AnswersTopic, AnswersTopics}
 use Rattle.broker_laws.proofs.Said.{IsSaid, said_entries, topic_length}
-use Rattle.broker_laws.proofs.Followed.{Paired, paired_length, paired_second, paired_weaker, followed, total, spent, longer, grown}
+use Rattle.broker_laws.proofs.Followed.{Paired, paired_length, paired_second, paired_weaker, followed, total, grown}
 
 module _ {R : Type 0} (P Q : Fields) (g : R → Value Q) (extra : R → ℕ) where
   -- what an answer to an entry has

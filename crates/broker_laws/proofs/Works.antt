@@ -1,12 +1,11 @@
 -- What an entry's answer has: a property of the answers to all checks that fail, and of the work that is done.
-use Rattle.std.proofs.Common.{◌≡◌, List, [], ◌∷◌, ◌++◌, Option, Some, None, Bool, true, false, refl, sym, subst, arith, inl, inr}
+use Rattle.std.proofs.Common.{◌≡◌, ◌++◌, Option, Some, None, refl, sym, subst, arith, inl, inr}
 use Rattle.std.specs.Prelude.{FitsSigned}
-use Rattle.std.specs.Option.{option_or}
 use Rattle.std.specs.Int.{w16}
 use Rattle.answering.specs.declared.codes.ErrorCode.{ErrorCode}
 use Rattle.answering.specs.declared.codes.ErrorCode.TheVariants.{UnknownServerError, OffsetOutOfRange, CorruptMessage, UnknownTopicOrPartition, LeaderNotAvailable, NotLeader, MessageTooLarge, InvalidTopic, InvalidRequiredAcks, InvalidRequest, UnsupportedForMessageFormat, OutOfOrderSequence, InvalidProducerEpoch, InvalidTransactionState, StorageError, UnsupportedCompression, InvalidRecord}
 use Rattle.answering.specs.Codes.{no_error, code_number}
-use Rattle.answering.specs.Lists.{fault_if, first_some}
+use Rattle.answering.specs.Lists.{first_some}
 use Rattle.answering.specs.Work.{Work, answer_after, MayAnswer}
 
 -- ---- how an entry is answered

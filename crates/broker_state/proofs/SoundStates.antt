@@ -1,6 +1,6 @@
 -- Each content of a sound state is valid, and the state stays sound with another valid content of a partition. A broker's
 -- state is sound, since its topics are.
-use Rattle.std.proofs.Common.{◌≡◌, ℕ, zero, suc, ℤ, pos, negsuc, Bool, true, false, cond, List, [], ◌∷◌, length, Option, Some, None, Result, set, refl, sym, ap, subst, ◌∙◌}
+use Rattle.std.proofs.Common.{◌≡◌, ℕ, zero, suc, ℤ, pos, negsuc, Bool, true, false, cond, List, [], ◌∷◌, Option, Some, None, Result, refl, sym, subst, ◌∙◌}
 use Rattle.std.specs.Prelude.{map, replicate, slice_get, bytes_eq}
 use Rattle.std.specs.List.{find, AllByRecursion}
 use Rattle.std.specs.Option.{unwrap_or, option_and_then}
