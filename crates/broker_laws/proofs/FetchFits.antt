@@ -11,26 +11,26 @@ use Rattle.content.specs.Records.{IsKeepable}
 use Rattle.segment.specs.BatchLists.{first_from}
 use Rattle.partition_log.specs.Lookups.{size_of, fitting, fetched}
 use Rattle.frame_fields.specs.Fields.{size32, size64, Value, be, Fits, encoded, array, end as no_fields}
-use Rattle.frame_fields.specs.Types.{bytes, topic, TopicOf, int32, ◌⨾◌}
+use Rattle.frame_fields.specs.Types.{bytes, topic, TopicOf}
 use Rattle.frame_fields.proofs.Numbers.{length-be, null_fits}
 use Rattle.request_frames.specs.Fetch.{FetchPartitionValue, fetch_partition, fetch_partition_value, fetch_fields, fetch_request}
 use Rattle.responses.specs.Fetch.{Fetched, fetched_fields, fetched_value, fetch_response, fetch_value}
 use Rattle.answering.specs.Codes.{no_error, code_number}
 use Rattle.answering.specs.Work.{MayAnswer}
+use Rattle.answering.specs.Plans.{RepliesBy, AnswersTopic}
 use Rattle.broker_state.specs.State.{State, content_at}
-use Rattle.log_requests.specs.declared.fetch.room.TheConstants.{MAX_FETCH_BYTES}
-use Rattle.log_requests.specs.Fetch.{FetchRoom, fetch_limit, fetch_run_within, fetch_room_after, fetch_result, fetch_work, fetch_room, fetch_plan}
 use Rattle.broker_state.specs.Sound.{IsSound}
-use Rattle.log_requests.proofs.FetchRuns.{bytes_of, bytes_more, run_fits, all_behind}
-use Rattle.broker_laws.proofs.Said.{IsSaid, IsPart, later, elements_are, array_length, none_long, first_long}
-use Rattle.broker_laws.proofs.TopicsFit.{EntryFits, topics_fit}
 use Rattle.broker_state.proofs.ValidAppends.{end_fits}
 use Rattle.broker_state.proofs.SoundStates.{content_valid}
+use Rattle.log_requests.specs.declared.fetch.room.TheConstants.{MAX_FETCH_BYTES}
+use Rattle.log_requests.specs.Fetch.{FetchRoom, fetch_limit, fetch_run_within, fetch_room_after, fetch_result, fetch_work, fetch_room, fetch_plan}
+use Rattle.log_requests.proofs.FetchRuns.{bytes_of, bytes_more, run_fits, all_behind}
+use Rattle.broker_node.specs.Fitting.{FitsIfSent}
+use Rattle.broker_laws.proofs.Said.{IsSaid, IsPart, later, elements_are, array_length, none_long, first_long}
+use Rattle.broker_laws.proofs.TopicsFit.{EntryFits, topics_fit}
 use Rattle.broker_laws.proofs.Works.{worked, no_error_fits, code_fits}
-use Rattle.answering.specs.Plans.{RepliesBy, AnswersTopic}
 use Rattle.broker_laws.proofs.FittingResponses.{enough, fitting_response, IsKept, frame_limit}
 use Rattle.broker_laws.proofs.Followed.{total, spent}
-use Rattle.broker_node.specs.Fitting.{FitsIfSent}
 
 -- ---- the bytes of a run
 

@@ -6,26 +6,26 @@ use Rattle.std.specs.Ordering.{int_eq}
 use Rattle.std.specs.Int.{w16, w32}
 use Rattle.content.specs.Content.{Content, IsContent, end}
 use Rattle.partition_log.specs.Lookups.{first_by_time}
-use Rattle.frame_fields.specs.Fields.{size64, Value, Fits, encoded, array, end as no_fields}
+use Rattle.frame_fields.specs.Fields.{size64, Value, Fits, encoded, end as no_fields}
 use Rattle.frame_fields.proofs.Numbers.{null_fits}
+use Rattle.frame_fields.specs.Types.{topic}
 use Rattle.request_frames.specs.ListOffsets.{list_offsets_partition, list_offsets_partition_value, list_offsets_fields, list_offsets_request}
 use Rattle.responses.specs.declared.list_offsets.partition.ListedPartition.{ListedPartition}
 use Rattle.responses.specs.ListOffsets.{list_offsets_answer_fields, list_offsets_answer_value, list_offsets_response, list_offsets_value}
 use Rattle.answering.specs.Codes.{no_error, code_number}
 use Rattle.answering.specs.Work.{MayAnswer}
+use Rattle.answering.specs.Plans.{RepliesBy}
 use Rattle.broker_state.specs.State.{State, content_at}
-use Rattle.log_requests.specs.ListOffsets.{latest_time, earliest_time, list_offsets_at, list_offsets_result, list_offsets_work, list_offsets_plan}
 use Rattle.broker_state.specs.Sound.{IsSound}
+use Rattle.broker_state.proofs.ValidAppends.{end_fits}
+use Rattle.broker_state.proofs.SoundStates.{content_valid}
+use Rattle.log_requests.specs.ListOffsets.{latest_time, earliest_time, list_offsets_at, list_offsets_result, list_offsets_work, list_offsets_plan}
+use Rattle.broker_node.specs.Fitting.{FitsIfSent}
 use Rattle.broker_laws.proofs.Said.{IsSaid, IsPart, later, elements_are, array_length, none_long}
 use Rattle.broker_laws.proofs.TopicsFit.{EntryFits, topics_fit, none_apart}
 use Rattle.broker_laws.proofs.ValidContents.{StampFits, start_fits, time_fits}
-use Rattle.broker_state.proofs.ValidAppends.{end_fits}
-use Rattle.broker_state.proofs.SoundStates.{content_valid}
 use Rattle.broker_laws.proofs.Works.{worked, no_error_fits, code_fits}
-use Rattle.frame_fields.specs.Types.{topic, int32, ◌⨾◌}
-use Rattle.answering.specs.Plans.{RepliesBy}
 use Rattle.broker_laws.proofs.FittingResponses.{enough, fitting_response, IsKept, frame_limit}
-use Rattle.broker_node.specs.Fitting.{FitsIfSent}
 
 abbrev Entry : Type 0
 Entry = Value list_offsets_partition

@@ -6,10 +6,13 @@ use Rattle.std.specs.List.{flat_map, filter, find, range_with_len, AllByRecursio
 use Rattle.std.specs.Int.{w8, w16, w32}
 use Rattle.std.proofs.lemmas.List.{length-append, length-map}
 use Rattle.std.proofs.lemmas.List.FromFn.{length-map-range_with_len}
+use Rattle.std.specs.Option.{option_map}
+use Rattle.content_laws.proofs.BatchParts.{all-filter}
 use Rattle.frame_fields.specs.Fields.{size8, size16, size32, end, be, FitsLength, Fits, ElementsFit, encoded, array_or_null, Value}
 use Rattle.frame_fields.specs.Types.{int32, flag, ◌⨾◌, string}
 use Rattle.frame_fields.specs.Names.{is_topic_name}
 use Rattle.frame_fields.proofs.Numbers.{length-be, null_fits}
+use Rattle.request_frames.specs.Metadata.{metadata_fields, metadata_request}
 use Rattle.responses.specs.declared.metadata.partition.MetadataPartition.{MetadataPartition}
 use Rattle.responses.specs.Metadata.{MetadataOfTopic, metadata_partition_fields, metadata_topic_fields, metadata_response, metadata_leader_id, metadata_replicas, metadata_partition_value, metadata_topic_value, metadata_value}
 use Rattle.answering.specs.declared.codes.ErrorCode.{ErrorCode}
@@ -18,19 +21,16 @@ use Rattle.broker_state.specs.declared.config.Role.{Role}
 use Rattle.broker_state.specs.declared.config.Role.TheVariants.{Leader, Follower}
 use Rattle.broker_state.specs.declared.limits.TheConstants.{MAX_TOPICS, MAX_PARTITIONS}
 use Rattle.broker_state.specs.State.{ConfigValue, Topic, State, group_topic, all_topics, is_group_topic, topic_of}
-use Rattle.log_requests.specs.Metadata.{broker_of, leader_of, leading_code, known_leader, partition_metadata, failed_topic, topic_metadata, metadata_of, metadata_at, each_once, metadata_topics, metadata_reply}
 use Rattle.broker_state.specs.Sound.{IsSoundConfig, shape_of, IsSound}
-use Rattle.content_laws.proofs.BatchParts.{all-filter}
-use Rattle.log_requests.proofs.MetadataNames.{same_name, no_more}
-use Rattle.broker_laws.proofs.Followed.{total, longer}
 use Rattle.broker_state.proofs.Shapes.{IsSmallTopic, small_config}
 use Rattle.broker_state.proofs.SoundStates.{found_has}
+use Rattle.log_requests.specs.Metadata.{broker_of, leader_of, leading_code, known_leader, partition_metadata, failed_topic, topic_metadata, metadata_of, metadata_at, each_once, metadata_topics, metadata_reply}
+use Rattle.log_requests.proofs.MetadataNames.{same_name, no_more}
+use Rattle.broker_node.specs.Fitting.{FitsIfSent}
+use Rattle.broker_laws.proofs.Followed.{total, longer}
 use Rattle.broker_laws.proofs.Works.{no_error_fits, code_fits}
-use Rattle.request_frames.specs.Metadata.{metadata_fields, metadata_request}
 use Rattle.broker_laws.proofs.Said.{IsPart}
 use Rattle.broker_laws.proofs.FittingResponses.{fitting_response, IsKept, frame_limit}
-use Rattle.broker_node.specs.Fitting.{FitsIfSent}
-use Rattle.std.specs.Option.{option_map}
 
 -- ---- partitions
 

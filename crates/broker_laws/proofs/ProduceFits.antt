@@ -4,12 +4,13 @@ use Rattle.std.specs.Prelude.{FitsSigned, not, is_some, nat_lt}
 use Rattle.std.specs.Option.{option_map}
 use Rattle.std.specs.Int.{w16, w32, w64}
 use Rattle.std.proofs.lemmas.List.{length-append, take_all}
+use Rattle.std.specs.Ordering.{int_eq}
 use Rattle.batch_codec.specs.Grammar.{Writable}
 use Rattle.batch_codec.specs.Reading.{batch_of, IsEncoding}
 use Rattle.batch_codec.specs.declared.error.BatchError.{BatchError}
 use Rattle.batch_codec.specs.Checks.{Checked, size_at, check_batch}
 use Rattle.batch_codec.proofs.Views.{view_encoded}
-use Rattle.frame_fields.specs.Fields.{size32, size64, Value, be, field, Fits, encoded, array, end}
+use Rattle.frame_fields.specs.Fields.{size32, size64, Value, be, field, Fits, encoded, end}
 use Rattle.frame_fields.specs.Types.{nullable_bytes, or_empty, topic, int32, ◌⨾◌}
 use Rattle.frame_fields.specs.Frames.{IsBytes}
 use Rattle.frame_fields.proofs.Numbers.{IsBytes-second, length-be, null_fits}
@@ -20,22 +21,21 @@ use Rattle.answering.specs.declared.codes.ErrorCode.TheVariants.{InvalidTopic, I
 use Rattle.answering.specs.Codes.{no_error, code_number}
 use Rattle.answering.specs.Lists.{fault_if, first_some}
 use Rattle.answering.specs.Work.{MayAnswer}
+use Rattle.answering.specs.Plans.{RepliesBy}
 use Rattle.broker_state.specs.Codes.{append_code}
 use Rattle.broker_state.specs.State.{State, is_group_topic, content_at, with_content}
 use Rattle.broker_state.specs.Checks.{unknown, not_leader}
 use Rattle.broker_state.specs.Batches.{checked_code, checks_of_size, batch_checks, append_fault, appended}
-use Rattle.log_requests.specs.Produce.{is_acks, produce_result, produce_checks, produce_work, produce_plan}
 use Rattle.broker_state.specs.Sound.{IsSound}
-use Rattle.broker_laws.proofs.Said.{IsSaid, bytes_first, IsPart, later, elements_are, array_length, none_long, first_long}
-use Rattle.broker_laws.proofs.TopicsFit.{EntryFits, topics_fit, none_apart}
 use Rattle.broker_state.proofs.SoundStates.{content_valid, sound_with}
-use Rattle.broker_laws.proofs.Works.{worked, no_error_fits, code_fits}
 use Rattle.broker_state.proofs.Passed.{none_first, none_both, no_fault}
 use Rattle.broker_state.proofs.ValidAppends.{appended_valid}
-use Rattle.answering.specs.Plans.{RepliesBy}
-use Rattle.broker_laws.proofs.FittingResponses.{enough, fitting_response, IsKept, frame_limit}
+use Rattle.log_requests.specs.Produce.{is_acks, produce_result, produce_checks, produce_work, produce_plan}
 use Rattle.broker_node.specs.Fitting.{IsFitting, FitsIfSent}
-use Rattle.std.specs.Ordering.{int_eq}
+use Rattle.broker_laws.proofs.Said.{IsSaid, bytes_first, IsPart, later, elements_are, array_length, none_long, first_long}
+use Rattle.broker_laws.proofs.TopicsFit.{EntryFits, topics_fit, none_apart}
+use Rattle.broker_laws.proofs.Works.{worked, no_error_fits, code_fits}
+use Rattle.broker_laws.proofs.FittingResponses.{enough, fitting_response, IsKept, frame_limit}
 
 abbrev Entry : Type 0
 Entry = Value produce_partition

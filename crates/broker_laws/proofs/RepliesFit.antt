@@ -3,7 +3,7 @@
 -- A further request joins by its response's fields in `Fitting`, a file like `ListOffsetsFits`, and one case of `body_fits`. Of a
 -- request of entries that file shows what `TopicsFit` asks for of one entry, and ends by `topics_fit` and `fitting_response`; of a request
 -- that is answered once it shows that its value fits and how many bytes it has, and ends by `fitting_response`, as `MetadataFits`.
-use Rattle.std.proofs.Common.{◌≡◌, ℕ, ◌+◌, ◌≤◌, ℤ, pos, List, [], length, drop, Option, sym, ap, subst, ◌∙◌, arith}
+use Rattle.std.proofs.Common.{◌≡◌, ℕ, ◌≤◌, ℤ, pos, List, [], length, drop, Option, sym, ap, subst, ◌∙◌, arith}
 use Rattle.std.specs.Prelude.{FitsSigned}
 use Rattle.std.specs.Int.{w32}
 use Rattle.std.proofs.lemmas.Int.{ints}

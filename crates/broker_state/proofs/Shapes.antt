@@ -7,9 +7,9 @@ use Rattle.std.proofs.lemmas.List.{length-append, length-map}
 use Rattle.std.proofs.lemmas.List.Elements.{All-from_recursion}
 use Rattle.frame_fields.specs.declared.names.TheConstants.{MAX_TOPIC_NAME}
 use Rattle.frame_fields.specs.Names.{is_topic_name}
+use Rattle.answering.specs.Lists.{fault_if}
 use Rattle.broker_state.specs.declared.limits.TheConstants.{MAX_TOPICS, MAX_PARTITIONS, MAX_HOST_BYTES}
 use Rattle.broker_state.specs.declared.error.ConfigError.TheVariants.{BadHost, TooManyTopics, BadTopic, BadPartitions}
-use Rattle.answering.specs.Lists.{fault_if}
 use Rattle.broker_state.specs.State.{TopicConfig, ConfigValue, group_topic, all_topics}
 use Rattle.broker_state.specs.Configs.{topic_fault, topics_fault, IsValidConfig}
 use Rattle.broker_state.specs.Parts.{TopicParts, topic_shape, AreTopicsOf}
