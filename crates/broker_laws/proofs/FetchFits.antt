@@ -1,8 +1,8 @@
 -- The response to Fetch fits its fields: its records have at most the room that there is for them, and one batch more.
-use Rattle.std.proofs.Common.{◌≡◌, ◌^◌, ℕ, zero, suc, ◌+◌, ◌-◌, ◌<◌, ◌≤◌, ℤ, pos, negsuc, Bool, true, false, cond, List, [], ◌∷◌, ◌++◌, length, take, drop, refl, sym, ◌⊎◌, inl, inr, arith, true≢false}
+use Rattle.std.proofs.Common.{◌≡◌, ◌^◌, ℕ, zero, suc, ◌+◌, ◌-◌, ◌<◌, ◌≤◌, ℤ, pos, negsuc, Bool, true, false, cond, List, [], ◌∷◌, ◌++◌, length, take, drop, refl, sym, ◌⊎◌, inl, inr, arith, true≢false, Option, subst}
 use Rattle.std.specs.Prelude.{min, max, nat_lt, not, ◌||◌, FitsSigned}
 use Rattle.std.specs.List.{AllByRecursion}
-use Rattle.std.specs.Int.{w16, w64}
+use Rattle.std.specs.Int.{w16, w64, w32}
 use Rattle.std.proofs.lemmas.List.{length-append}
 use Rattle.batch_codec.specs.Values.{BatchValue}
 use Rattle.batch_codec.specs.declared.layout.TheConstants.{MAX_BATCH_BYTES}
@@ -10,23 +10,27 @@ use Rattle.content.specs.Content.{Content, IsContent, end}
 use Rattle.content.specs.Records.{IsKeepable}
 use Rattle.segment.specs.BatchLists.{first_from}
 use Rattle.partition_log.specs.Lookups.{size_of, fitting, fetched}
-use Rattle.frame_fields.specs.Fields.{size32, size64, Value, be, Fits, encoded}
-use Rattle.frame_fields.specs.Types.{bytes}
+use Rattle.frame_fields.specs.Fields.{size32, size64, Value, be, Fits, encoded, array, end as no_fields}
+use Rattle.frame_fields.specs.Types.{bytes, topic, TopicOf}
 use Rattle.frame_fields.proofs.Numbers.{length-be, null_fits}
-use Rattle.request_frames.specs.Fetch.{FetchPartitionValue, fetch_partition, fetch_partition_value}
-use Rattle.responses.specs.Fetch.{Fetched, fetched_fields, fetched_value}
+use Rattle.request_frames.specs.Fetch.{FetchPartitionValue, fetch_partition, fetch_partition_value, fetch_fields, fetch_request}
+use Rattle.responses.specs.Fetch.{Fetched, fetched_fields, fetched_value, fetch_response, fetch_value}
 use Rattle.answering.specs.Codes.{no_error, code_number}
 use Rattle.answering.specs.Work.{MayAnswer}
+use Rattle.answering.specs.Plans.{RepliesBy, AnswersTopic}
 use Rattle.broker_state.specs.State.{State, content_at}
-use Rattle.log_requests.specs.declared.fetch.room.TheConstants.{MAX_FETCH_BYTES}
-use Rattle.log_requests.specs.Fetch.{FetchRoom, fetch_limit, fetch_run_within, fetch_room_after, fetch_result, fetch_work}
 use Rattle.broker_state.specs.Sound.{IsSound}
-use Rattle.log_requests.proofs.FetchRuns.{bytes_of, bytes_more, run_fits, all_behind}
-use Rattle.broker_laws.proofs.Said.{IsSaid}
-use Rattle.broker_laws.proofs.TopicsFit.{EntryFits}
 use Rattle.broker_state.proofs.ValidAppends.{end_fits}
 use Rattle.broker_state.proofs.SoundStates.{content_valid}
+use Rattle.log_requests.specs.declared.fetch.room.TheConstants.{MAX_FETCH_BYTES}
+use Rattle.log_requests.specs.Fetch.{FetchRoom, fetch_limit, fetch_run_within, fetch_room_after, fetch_result, fetch_work, fetch_room, fetch_plan}
+use Rattle.log_requests.proofs.FetchRuns.{bytes_of, bytes_more, run_fits, all_behind}
+use Rattle.broker_node.specs.Fitting.{FitsIfSent}
+use Rattle.broker_laws.proofs.Said.{IsSaid, IsPart, later, elements_are, array_length, none_long, first_long}
+use Rattle.broker_laws.proofs.TopicsFit.{EntryFits, topics_fit}
 use Rattle.broker_laws.proofs.Works.{worked, no_error_fits, code_fits}
+use Rattle.broker_laws.proofs.FittingResponses.{enough, fitting_response, IsKept, frame_limit}
+use Rattle.broker_laws.proofs.Followed.{total, spent}
 
 -- ---- the bytes of a run
 
@@ -126,3 +130,25 @@ module _ (s : State) (sound : IsSound s) where
       let c = content_at s name e.partition in
       let run = fetch_run_within room c e in
       spends (min (fetch_limit e.max_bytes) room.left) room.left (bytes_of run) (length run) room.given (omega arith) (run_within room c e (content_valid s name e.partition sound)) (no_batches run))
+
+-- ---- a request
+
+abbrev records_in : TopicOf Fetched → ℕ
+records_in t = total records_of t.entries
+
+pub fetch_fits : (n : ℕ) (s : State) (correlation : ℤ) (v : Value fetch_fields) (out : Option (List ℕ)) (after : State) → n ≤ frame_limit → IsSound s → FitsSigned w32 correlation → IsPart n fetch_fields v
+    → RepliesBy (λ R S w. MayAnswer w) (fetch_plan s correlation (fetch_request v)) out after → IsKept correlation fetch_response out after
+unfolding Fits
+fetch_fits n s correlation v out after low sound number part h =
+    let ts = elements_are (later (later (later (later (later part))))) in
+    let room = fetch_room v.1.1.1.0 in
+    let all = topics_fit fetch_partition (fetched_fields bytes) fetched_of records_of fetch_partition_value (λ room name e r m. MayAnswer (fetch_work s room name e) room r m) IsRoom (fetch_entry s sound) room h.end v.1.1.1.1.1.0 h.results (omega arith) ts.count ts.said h.answers in
+    let size = all.0.1 in
+    let long = ts.long in
+    let records : total records_in h.results + room_of h.end ≤ room_of room =
+    spent (AnswersTopic (λ room name e r m. MayAnswer (fetch_work s room name e) room r m)) records_in room_of
+    (λ room t r m answers. spent (λ room e r m. MayAnswer (fetch_work s room t.name e) room r m) records_of room_of (λ room e r m. fetch_spends s sound room t.name e r m) room t.entries r.entries m answers.1)
+    room (fetch_request v).topics h.results h.end h.answers in
+    let value = fetch_value h.results in
+    let whole : length (encoded fetch_response value) ≤ enough = omega (arith, low, size, long, records, first_long value.0 (array (topic (fetched_fields bytes)) no_fields) value.1, array_length (topic (fetched_fields bytes)) no_fields value.1, none_long) in
+    (subst (FitsIfSent correlation fetch_response) (sym h.sends) (fitting_response correlation fetch_response value number (record { sfits = omega arith }, (all.0.0, tt)) whole), subst IsSound (sym h.leaves) sound)

@@ -2,6 +2,7 @@ pub mod AnsweredFrames
 mod Followed
 mod Said
 mod TopicsFit
+mod FittingResponses
 mod ValidContents
 mod Works
 mod ProduceFits

@@ -6,10 +6,13 @@ use Rattle.std.specs.List.{flat_map, filter, find, range_with_len, AllByRecursio
 use Rattle.std.specs.Int.{w8, w16, w32}
 use Rattle.std.proofs.lemmas.List.{length-append, length-map}
 use Rattle.std.proofs.lemmas.List.FromFn.{length-map-range_with_len}
-use Rattle.frame_fields.specs.Fields.{size8, size16, size32, end, be, FitsLength, Fits, ElementsFit, encoded}
-use Rattle.frame_fields.specs.Types.{int32, flag, ◌⨾◌}
+use Rattle.std.specs.Option.{option_map}
+use Rattle.content_laws.proofs.BatchParts.{all-filter}
+use Rattle.frame_fields.specs.Fields.{size8, size16, size32, end, be, FitsLength, Fits, ElementsFit, encoded, array_or_null, Value}
+use Rattle.frame_fields.specs.Types.{int32, flag, ◌⨾◌, string}
 use Rattle.frame_fields.specs.Names.{is_topic_name}
 use Rattle.frame_fields.proofs.Numbers.{length-be, null_fits}
+use Rattle.request_frames.specs.Metadata.{metadata_fields, metadata_request}
 use Rattle.responses.specs.declared.metadata.partition.MetadataPartition.{MetadataPartition}
 use Rattle.responses.specs.Metadata.{MetadataOfTopic, metadata_partition_fields, metadata_topic_fields, metadata_response, metadata_leader_id, metadata_replicas, metadata_partition_value, metadata_topic_value, metadata_value}
 use Rattle.answering.specs.declared.codes.ErrorCode.{ErrorCode}
@@ -18,14 +21,16 @@ use Rattle.broker_state.specs.declared.config.Role.{Role}
 use Rattle.broker_state.specs.declared.config.Role.TheVariants.{Leader, Follower}
 use Rattle.broker_state.specs.declared.limits.TheConstants.{MAX_TOPICS, MAX_PARTITIONS}
 use Rattle.broker_state.specs.State.{ConfigValue, Topic, State, group_topic, all_topics, is_group_topic, topic_of}
-use Rattle.log_requests.specs.Metadata.{metadata_of_broker, metadata_leader_of, metadata_leader_code, metadata_leader, metadata_of_partition, metadata_of_failed, metadata_of_topic, metadata_of_found, metadata_at, each_once, metadata_topics}
 use Rattle.broker_state.specs.Sound.{IsSoundConfig, shape_of, IsSound}
-use Rattle.content_laws.proofs.BatchParts.{all-filter}
-use Rattle.log_requests.proofs.MetadataNames.{same_name, no_more}
-use Rattle.broker_laws.proofs.Followed.{total, longer}
 use Rattle.broker_state.proofs.Shapes.{IsSmallTopic, small_config}
 use Rattle.broker_state.proofs.SoundStates.{found_has}
+use Rattle.log_requests.specs.Metadata.{metadata_of_broker, metadata_leader_of, metadata_leader_code, metadata_leader, metadata_of_partition, metadata_of_failed, metadata_of_topic, metadata_of_found, metadata_at, each_once, metadata_topics, metadata_reply}
+use Rattle.log_requests.proofs.MetadataNames.{same_name, no_more}
+use Rattle.broker_node.specs.Fitting.{FitsIfSent}
+use Rattle.broker_laws.proofs.Followed.{total, longer}
 use Rattle.broker_laws.proofs.Works.{no_error_fits, code_fits}
+use Rattle.broker_laws.proofs.Said.{IsPart}
+use Rattle.broker_laws.proofs.FittingResponses.{fitting_response, IsKept, frame_limit}
 
 -- ---- partitions
 
@@ -350,3 +355,49 @@ response_long g n ts sound within =
       length-be size32 (metadata_leader_id (metadata_leader g)),
       length-be size32 (pos (length (map metadata_topic_value ts))),
     )
+
+-- ---- a request
+
+name_long : (v : Value (string ⨾ end)) → length (encoded (string ⨾ end) v) ≡ 2 + length v.0
+unfolding encoded
+name_long v = omega (arith, length-append (be size16 (pos (length v.0)) ++ v.0) [], length-append (be size16 (pos (length v.0))) v.0, length-be size16 (pos (length v.0)))
+
+abbrev IsName : List ℕ → Type 0
+IsName name = FitsLength size16 (length name)
+
+all_names : (vs : List (Value (string ⨾ end))) → AllByRecursion (Fits (string ⨾ end)) vs → AllByRecursion IsName (map (λ name. name.0) vs)
+unfolding Fits
+all_names [] all = tt
+all_names (v ∷ vs) all = (all.0.0, all_names vs all.1)
+
+names_part : (n : ℕ) (vs : List (Value (string ⨾ end))) → IsPart n (array_or_null (string ⨾ end) end) (Some vs, tt)
+    → FitsLength size32 (length (map (λ name. name.0) vs)) × (AllByRecursion IsName (map (λ name. name.0) vs) × (length (flat_map (encoded (string ⨾ end)) vs) ≤ n))
+unfolding Fits encoded
+names_part n vs part =
+    let count = be size32 (pos (length vs)) in
+    let all = flat_map (encoded (string ⨾ end)) vs in
+    let long = part.long in
+    (subst (FitsLength size32) (sym (length-map vs (λ name. name.0))) part.said.fits.0.0, (all_names vs part.said.fits.0.1, omega (arith, long, length-append (count ++ all) [], length-append count all)))
+
+pub metadata_fits : (n : ℕ) (s : State) (correlation : ℤ) (v : Value metadata_fields) (out : Option (List ℕ)) (after : State) → n ≤ frame_limit → IsSound s → FitsSigned w32 correlation → IsPart n metadata_fields v
+    → (out ≡ Some (metadata_reply s correlation (metadata_request v))) × (after ≡ s) → IsKept correlation metadata_response out after
+metadata_fits n s correlation v out after low sound number part h =
+    let within = topics_within v.0 part in
+    let value = metadata_value (metadata_of_broker s.config) (metadata_leader_id (metadata_leader s.config)) (metadata_topics s (metadata_request v)) in
+    let long = response_long s.config (5 * n + 124930) (metadata_topics s (metadata_request v)) sound.config within in (
+      subst (FitsIfSent correlation metadata_response) (sym h.0) (fitting_response correlation metadata_response value number (response_fits s.config (5 * n + 124930) (metadata_topics s (metadata_request v)) sound.config within) (omega (arith, low, long))),
+      subst IsSound (sym h.1) sound,
+    )
+  where
+    named_long : (vs : List (Value (string ⨾ end))) → total (λ name. 2 + length name) (map (λ name. name.0) vs) ≤ length (flat_map (encoded (string ⨾ end)) vs)
+    named_long [] = omega arith
+    named_long (v ∷ vs) = omega (arith, longer (encoded (string ⨾ end)) v vs, name_long v, named_long vs)
+
+    topics_within : (names : Option (List (Value (string ⨾ end)))) → IsPart n metadata_fields (names, tt) → AreWithin (5 * n + 124930) (metadata_topics s (option_map (map (λ name. name.0)) names))
+    topics_within None part = let listed = listed_within s sound in let size = listed.size in record { fit = listed.fit; size = omega (arith, size) }
+    topics_within (Some vs) part =
+        let of_names = names_part n vs part in
+        let long = of_names.1.1 in
+        let asked = asked_within s n (map (λ name. name.0) vs) sound of_names.0 of_names.1.0 (omega (arith, long, named_long vs)) in
+        let size = asked.size in
+        record { fit = asked.fit; size = omega (arith, size) }

@@ -1,37 +1,41 @@
 -- The response to Produce fits its fields, and the state stays sound.
-use Rattle.std.proofs.Common.{◌≡◌, ℕ, ◌≤◌, ℤ, pos, negsuc, false, List, [], ◌∷◌, ◌++◌, length, take, Option, Some, None, Result, Ok, Err, refl, sym, subst, arith}
+use Rattle.std.proofs.Common.{Bool, true, false, cond, ◌≡◌, ℕ, ◌≤◌, ℤ, pos, negsuc, List, [], ◌∷◌, ◌++◌, length, take, Option, Some, None, Result, Ok, Err, refl, sym, subst, arith}
 use Rattle.std.specs.Prelude.{FitsSigned, not, is_some, nat_lt}
 use Rattle.std.specs.Option.{option_map}
 use Rattle.std.specs.Int.{w16, w32, w64}
 use Rattle.std.proofs.lemmas.List.{length-append, take_all}
+use Rattle.std.specs.Ordering.{int_eq}
 use Rattle.batch_codec.specs.Grammar.{Writable}
 use Rattle.batch_codec.specs.Reading.{batch_of, IsEncoding}
 use Rattle.batch_codec.specs.declared.error.BatchError.{BatchError}
 use Rattle.batch_codec.specs.Checks.{Checked, size_at, check_batch}
 use Rattle.batch_codec.proofs.Views.{view_encoded}
-use Rattle.frame_fields.specs.Fields.{size32, size64, Value, be, field, Fits, encoded}
-use Rattle.frame_fields.specs.Types.{nullable_bytes, or_empty}
+use Rattle.frame_fields.specs.Fields.{size32, size64, Value, be, field, Fits, encoded, end}
+use Rattle.frame_fields.specs.Types.{nullable_bytes, or_empty, topic, int32, ◌⨾◌}
 use Rattle.frame_fields.specs.Frames.{IsBytes}
 use Rattle.frame_fields.proofs.Numbers.{IsBytes-second, length-be, null_fits}
-use Rattle.request_frames.specs.Produce.{ProduceValue, ProducePartitionValue, produce_partition, produce_partition_value}
+use Rattle.request_frames.specs.Produce.{ProduceValue, ProducePartitionValue, produce_partition, produce_partition_value, produce_fields, produce_request}
 use Rattle.responses.specs.declared.produce.partition.ProducedPartition.{ProducedPartition}
-use Rattle.responses.specs.Produce.{produced_fields, produced_value}
+use Rattle.responses.specs.Produce.{produced_fields, produced_value, produce_response, produce_value}
 use Rattle.answering.specs.declared.codes.ErrorCode.TheVariants.{InvalidTopic, InvalidRequiredAcks, InvalidRecord, InvalidTransactionState}
 use Rattle.answering.specs.Codes.{no_error, code_number}
 use Rattle.answering.specs.Lists.{fault_if, first_some}
 use Rattle.answering.specs.Work.{MayAnswer}
+use Rattle.answering.specs.Plans.{RepliesBy}
 use Rattle.broker_state.specs.Codes.{append_code}
 use Rattle.broker_state.specs.State.{State, is_group_topic, content_at, with_content}
 use Rattle.broker_state.specs.Checks.{unknown, not_leader}
 use Rattle.broker_state.specs.Batches.{checked_code, checks_of_size, batch_checks, append_fault, appended}
-use Rattle.log_requests.specs.Produce.{is_acks, produce_result, produce_checks, produce_work}
 use Rattle.broker_state.specs.Sound.{IsSound}
-use Rattle.broker_laws.proofs.Said.{IsSaid, bytes_first}
-use Rattle.broker_laws.proofs.TopicsFit.{EntryFits}
 use Rattle.broker_state.proofs.SoundStates.{content_valid, sound_with}
-use Rattle.broker_laws.proofs.Works.{worked, no_error_fits, code_fits}
 use Rattle.broker_state.proofs.Passed.{none_first, none_both, no_fault}
 use Rattle.broker_state.proofs.ValidAppends.{appended_valid}
+use Rattle.log_requests.specs.Produce.{is_acks, produce_result, produce_checks, produce_work, produce_plan}
+use Rattle.broker_node.specs.Fitting.{IsFitting, FitsIfSent}
+use Rattle.broker_laws.proofs.Said.{IsSaid, bytes_first, IsPart, later, elements_are, array_length, none_long, first_long}
+use Rattle.broker_laws.proofs.TopicsFit.{EntryFits, topics_fit, none_apart}
+use Rattle.broker_laws.proofs.Works.{worked, no_error_fits, code_fits}
+use Rattle.broker_laws.proofs.FittingResponses.{enough, fitting_response, IsKept, frame_limit}
 
 abbrev Entry : Type 0
 Entry = Value produce_partition
@@ -136,3 +140,22 @@ module _ (q : ProduceValue) where
           let after = appended_valid c (batch_of given.records) (content_valid s name given.index sound) writable passed.1 in
           answered e no_error (appended c (batch_of given.records)).0 (with_content s name given.index (appended c (batch_of given.records)).1) said no_error_fits after.0
           (sound_with s name given.index (appended c (batch_of given.records)).1 after.1 sound)
+
+-- ---- a request
+
+pub produce_fits : (n : ℕ) (s : State) (correlation : ℤ) (v : Value produce_fields) (out : Option (List ℕ)) (after : State) → n ≤ frame_limit → IsSound s → FitsSigned w32 correlation → IsPart n produce_fields v
+    → RepliesBy (λ R S w. MayAnswer w) (produce_plan s correlation (produce_request v)) out after → IsKept correlation produce_response out after
+unfolding Fits
+produce_fits n s correlation v out after low sound number part h =
+    let q = produce_request v in
+    let ts = elements_are (later (later (later part))) in
+    let all = topics_fit produce_partition produced_fields produced_value (λ r. 0) produce_partition_value (λ s name e r m. MayAnswer (produce_work s q name e) s r m) IsSound (produce_entry q) s h.end v.1.1.1.0 h.results sound ts.count ts.said h.answers in
+    let size = all.0.1 in
+    let long = ts.long in
+    let value = produce_value h.results in
+    let whole : length (encoded produce_response value) ≤ enough = omega (arith, low, size, long, none_apart h.results, array_length (topic produced_fields) (int32 ⨾ end) value, first_long (pos 0) end tt, none_long) in
+    (subst (FitsIfSent correlation produce_response) (sym h.sends) (by (int_eq q.acks (pos 0)) (fitting_response correlation produce_response value number (all.0.0, (record { sfits = omega arith }, tt)) whole)), subst IsSound (sym h.leaves) all.1)
+  where
+    by : {bytes : List ℕ} (silent : Bool) → IsFitting correlation produce_response bytes → FitsIfSent correlation produce_response (cond silent None (Some bytes))
+    by true is = tt
+    by false is = is

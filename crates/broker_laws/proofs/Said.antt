@@ -1,10 +1,10 @@
 -- What a frame of so many bytes says: values of fields that fit, part by part.
-use Rattle.std.proofs.Common.{◌≡◌, ℕ, ◌+◌, ◌≤◌, pos, List, [], ◌∷◌, ◌++◌, length, refl, ap, subst, ◌∙◌, arith}
+use Rattle.std.proofs.Common.{◌≡◌, ℕ, ◌+◌, ◌≤◌, ℤ, pos, List, [], ◌∷◌, ◌++◌, length, refl, ap, subst, ◌∙◌, arith}
 use Rattle.std.specs.List.{flat_map, AllByRecursion}
 use Rattle.std.proofs.lemmas.List.{length-append, take_at}
 use Rattle.std.proofs.lemmas.List.Concat.{flat_map-cons}
-use Rattle.frame_fields.specs.Fields.{size16, size32, Field, Fields, end, one, array, Value, be, field, Fits, encoded}
-use Rattle.frame_fields.specs.Types.{string, topic}
+use Rattle.frame_fields.specs.Fields.{size16, size32, Field, Fields, end, one, array, Value, be, field, FitsLength, Fits, encoded}
+use Rattle.frame_fields.specs.Types.{string, topic, int32, ◌⨾◌}
 use Rattle.frame_fields.specs.Frames.{IsBytes}
 use Rattle.frame_fields.proofs.Numbers.{IsBytes-take, IsBytes-second, length-be}
 
@@ -63,3 +63,35 @@ array_length x d v =
     let count = be size32 (pos (length v.0)) in
     let all = length-append (count ++ flat_map (encoded x) v.0) (encoded d v.1) in
     omega (arith, all, length-append count (flat_map (encoded x) v.0), length-be size32 (pos (length v.0)))
+
+-- ---- both, in a frame of at most so many bytes
+
+pub record IsPart (n : ℕ) (d : Fields) (v : Value d) : Type 0 where
+  pub said : IsSaid d v
+  pub long : length (encoded d v) ≤ n
+
+-- the fields after the first one
+pub later : {n : ℕ} {f : Field} {d : Fields} {v : Value (one f d)} → IsPart n (one f d) v → IsPart n d v.1
+later {f = f} {d = d} {v = v} part = let long = part.long in record { said = said_later f d v part.said; long = omega (arith, long, later_shorter f d v) }
+
+-- what an array's elements are: their count fits, they are said, and they have at most so many bytes
+pub record AreParts (n : ℕ) (d : Fields) (vs : List (Value d)) : Type 0 where
+  pub count : FitsLength size32 (length vs)
+  pub said : AllByRecursion (IsSaid d) vs
+  pub long : length (flat_map (encoded d) vs) ≤ n
+
+pub elements_are : {n : ℕ} {x d : Fields} {v : Value (array x d)} → IsPart n (array x d) v → AreParts n x v.0
+unfolding Fits
+elements_are {x = x} {d = d} {v = v} part =
+    let long = part.long in
+    record { count = part.said.fits.0.0; said = said_elements x d v part.said; long = omega (arith, long, array_length x d v) }
+
+-- ---- lengths of fields
+
+pub none_long : length (encoded end tt) ≡ 0
+unfolding encoded
+none_long = refl
+
+pub first_long : (z : ℤ) (d : Fields) (v : Value d) → length (encoded (int32 ⨾ d) (z, v)) ≡ 4 + length (encoded d v)
+unfolding encoded
+first_long z d v = omega (arith, length-append (be size32 z) (encoded d v), length-be size32 z)

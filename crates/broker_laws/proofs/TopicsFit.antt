@@ -3,7 +3,7 @@
 --
 -- A further request of entries joins by one lemma: of an entry whose fields fit, answered in a state with the invariant,
 -- the answer's fields fit, and its encoding has at most three times as many bytes and `extra`; `topics_fit` gives the rest.
-use Rattle.std.proofs.Common.{◌≡◌, ℕ, ◌+◌, ◌*◌, ◌≤◌, List, [], ◌∷◌, length, sym, ap, subst, ◌∙◌, arith}
+use Rattle.std.proofs.Common.{◌≡◌, ℕ, ◌+◌, ◌*◌, ◌≤◌, List, [], ◌∷◌, length, refl, sym, ap, subst, ◌∙◌, arith}
 use Rattle.std.specs.Prelude.{map}
 use Rattle.std.specs.List.{flat_map, AllByRecursion}
 use Rattle.std.proofs.lemmas.List.{length-map}
@@ -13,7 +13,12 @@ use Rattle.frame_fields.specs.Types.{TopicOf, topic, topic_request}
 use Rattle.responses.specs.Responses.{topic_values}
 use Rattle.answering.specs.Plans.{AnswersTopic, AnswersTopics}
 use Rattle.broker_laws.proofs.Said.{IsSaid, said_entries, topic_length}
-use Rattle.broker_laws.proofs.Followed.{Paired, paired_length, paired_second, paired_weaker, followed, total, grown}
+use Rattle.broker_laws.proofs.Followed.{Paired, paired_length, paired_second, paired_weaker, followed, total, none_in_all, grown}
+
+-- where nothing is counted apart
+pub none_apart : {R : Type 0} (rs : List (TopicOf R)) → total (λ t. total (λ (r : R). 0) t.entries) rs ≡ 0
+none_apart [] = refl
+none_apart (t ∷ ts) = omega (arith, none_in_all t.entries, none_apart ts)
 
 module _ {R : Type 0} (P Q : Fields) (g : R → Value Q) (extra : R → ℕ) where
   -- what an answer to an entry has

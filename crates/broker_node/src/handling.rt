@@ -76,6 +76,7 @@ impl<S: BatchStore> Node<S> {
         ensures is_sound { IsSound self.new }
     {
         let replied = reply_to(&mut self.state, request, out);
+        // Known for the caller, whatever is answered.
         self.state.know_sound();
         replied?;
         Ok(answer_to(&request.body))

@@ -1,4 +1,5 @@
-use Rattle.broker_laws.proofs.RepliesFit.{reply_fits, read_back, reply_keeps_sound}
+use Rattle.broker_laws.proofs.FittingResponses.{read_back}
+use Rattle.broker_laws.proofs.RepliesFit.{reply_fits, reply_keeps_sound}
 use Rattle.broker_laws.proofs.laws.replies_fit.Goals as goal
 
 pub returns-clause-fits : goal.returns-clause-fits
