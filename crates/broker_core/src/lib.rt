@@ -12,7 +12,7 @@ mod replying;
 mod session;
 
 pub use broker_laws::{
-    answered_snoc, answers_function, append_faults, examples, one_content_changes,
+    answered_snoc, answers_function, append_faults, examples, one_content_changes, replies_fit,
 };
 pub use broker_node::{
     Answer, Config, ConfigError, ErrorCode, GROUP_TOPIC, MAX_FETCH_BYTES, MAX_HOST_BYTES,

@@ -1,15 +1,21 @@
 //! Laws about the definitions alone. The functions do nothing: what they ensure is the law.
 
-ghost use Rattle.std.specs.Prelude.{◌≡◌, ◌≢◌, ◌↔◌, ℕ, ℤ, true, false, List, [], ◌∷◌, ◌++◌, Option, Some, None};
+ghost use Rattle.std.specs.Prelude.{◌≡◌, ◌≢◌, ◌↔◌, ◌-◌, ℕ, ℤ, pos, true, false, List, [], ◌∷◌, ◌++◌, length, Option, Some, None, Ok};
 ghost use Rattle.batch_codec.specs.Values.{BatchValue};
 ghost use Rattle.content.specs.Content.{Content};
 ghost use Rattle.content.specs.declared.verdict.Verdict.TheVariants.{New, Repeat};
 ghost use Rattle.partition_log.specs.declared.leader.AppendError.{AppendError};
 ghost use Rattle.partition_log.specs.Appends.{RefusesAppend, IsSendable, kept_verdict, HasOffsets};
-ghost use Rattle.request_frames.specs.Requests.{RequestValue};
+ghost use Rattle.frame_fields.specs.Fields.{Fields};
+ghost use Rattle.frame_fields.specs.Types.{int32, ◌⨾◌};
+ghost use Rattle.frame_fields.specs.Frames.{IsBytes, IsWithinLimit};
+ghost use Rattle.frame_fields.specs.Reading.{read_fields};
+ghost use Rattle.request_frames.specs.Requests.{RequestValue, IsRequest};
 ghost use Rattle.broker_state.specs.Batches.{append_fault, FaultIs};
 ghost use Rattle.broker_state.specs.State.{State, partition_at, is_known, with_content};
+ghost use Rattle.broker_state.specs.Sound.{IsSound};
 ghost use Rattle.broker_node.specs.Replies.{reply, IsReply, MayReply};
+ghost use Rattle.broker_node.specs.Fitting.{IsFitting, FitsReply};
 ghost use Rattle.broker_node.specs.Streams.{IsAnswered, AreAnswered};
 
 /// The reply that is a function is the one case of what may be replied in which no entry runs out of
@@ -52,4 +58,19 @@ pub fn answered_snoc()
     ensures { (s m after : State) (frames : List (List ℕ))
         (frame out one : List ℕ) → AreAnswered s frames out m → IsAnswered m frame one after
         → AreAnswered s (frames ++ frame ∷ []) (out ++ one) after }
+{}
+
+/// Whatever may be replied to a frame, in a state that a broker can be in, fits its fields: nothing is sent,
+/// or a response whose values their fields can hold, of a size that an int32 can hold. A client reads these
+/// values back, and the state after is again one that a broker can be in.
+pub fn replies_fit()
+    ensures fits { (s after : State) (frame : List ℕ) (q : RequestValue) (out : Option (List ℕ))
+        → IsSound s → IsBytes frame → IsWithinLimit (pos (length frame)) → IsRequest frame q
+        → MayReply s q out after → FitsReply q out }
+    ensures is_read_back { (correlation : ℤ) (d : Fields) (bytes : List ℕ)
+        (fitting : IsFitting correlation d bytes) → read_fields (int32 ⨾ int32 ⨾ d) bytes
+        ≡ Ok ((pos (length bytes - 4), (correlation, fitting.value)), []) }
+    ensures stays_sound { (s after : State) (frame : List ℕ) (q : RequestValue) (out : Option (List ℕ))
+        → IsSound s → IsBytes frame → IsWithinLimit (pos (length frame)) → IsRequest frame q
+        → MayReply s q out after → IsSound after }
 {}

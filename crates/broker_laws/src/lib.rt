@@ -5,4 +5,4 @@
 pub mod examples;
 mod laws;
 
-pub use laws::{answered_snoc, answers_function, append_faults, one_content_changes};
+pub use laws::{answered_snoc, answers_function, append_faults, one_content_changes, replies_fit};

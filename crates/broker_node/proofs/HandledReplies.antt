@@ -8,7 +8,6 @@ use Rattle.request_frames.specs.declared.parsing.Request.{Request}
 use Rattle.request_frames.specs.declared.parsing.RequestBody.{RequestBody}
 use Rattle.request_frames.specs.Requests.BodyValue.{produce, fetch, list_offsets, metadata}
 use Rattle.request_frames.specs.Requests.{BodyValue, RequestValue}
-use Rattle.request_frames.specs.Produce.{ProduceValue}
 use Rattle.request_frames.specs.Metadata.{metadata_view}
 use Rattle.request_frames.specs.Views.{request_body, request_value}
 use Rattle.answering.specs.Work.{MayAnswer}

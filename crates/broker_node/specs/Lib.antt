@@ -1,5 +1,6 @@
 -- Read in this order; each module uses only those above it.
 pub mod Replies
+pub mod Fitting
 pub mod Streams
 pub mod Handling
 pub mod Answers

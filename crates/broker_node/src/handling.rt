@@ -2,6 +2,7 @@
 
 ghost use Rattle.std.specs.Prelude.{◌≡◌, IfOk, OnOk, OnErr};
 ghost use Rattle.request_frames.specs.Views.{request_body, request_value};
+ghost use Rattle.broker_state.specs.Sound.{IsSound};
 ghost use Rattle.broker_node.specs.Handling.{Handles};
 ghost use Rattle.broker_node.specs.Answers.{RespondsTo, answer_to};
 
@@ -72,8 +73,11 @@ impl<S: BatchStore> Node<S> {
             out.old.items out.new.items answer self.new) }
         ensures unchanged_on_error { OnErr result
             ((self.new ≡ self.old) × (out.new.items ≡ out.old.items)) }
+        ensures is_sound { IsSound self.new }
     {
-        reply_to(&mut self.state, request, out)?;
+        let replied = reply_to(&mut self.state, request, out);
+        self.state.know_sound();
+        replied?;
         Ok(answer_to(&request.body))
     }
 }

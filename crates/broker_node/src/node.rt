@@ -5,6 +5,7 @@ ghost use Rattle.std.specs.Option.{option_map};
 ghost use Rattle.broker_state.specs.State.{new_state, partition_at};
 ghost use Rattle.broker_state.specs.Configs.{IsValidConfig, ConfigFault};
 ghost use Rattle.broker_state.specs.ConfigValues.{config_value};
+ghost use Rattle.broker_state.specs.Sound.{IsSound};
 
 use broker_state::{BrokerState, Config, ConfigError};
 use partition_log::PartitionLog;
@@ -36,6 +37,7 @@ impl<S: BatchStore> Node<S> {
     pub fn new(alloc: S::Alloc, config: Config<S::Alloc>) -> Result<Node<S>, ConfigError>
         ensures valid { IfOk result (λ _. IsValidConfig (config_value config)) }
         ensures is_new { IfOk result (λ node. node ≡ new_state (config_value config)) }
+        ensures is_sound { IfOk result IsSound }
         ensures refuses { IfErr result (ConfigFault (config_value config)) }
     {
         match BrokerState::new(alloc, config) {

@@ -1,3 +1,4 @@
+pub mod Passed
 pub mod AppendFaults
 pub mod LogAppends
 pub mod OneContent
@@ -8,3 +9,5 @@ pub mod OwnContent
 pub mod PlacedTopics
 pub mod NumberedPartitions
 pub mod Shapes
+pub mod ValidAppends
+pub mod SoundStates

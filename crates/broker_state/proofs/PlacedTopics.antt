@@ -6,7 +6,6 @@ use Rattle.std.specs.Option.{option_map, option_and_then, unwrap_or}
 use Rattle.std.proofs.lemmas.List.{length-map}
 use Rattle.std.proofs.lemmas.List.Folds.{find_at}
 use Rattle.content.specs.Content.{Content, empty}
-use Rattle.broker_state.specs.declared.config.Role.{Role}
 use Rattle.batch_codec.specs.Values.{BatchValue}
 use Rattle.partition_log.specs.declared.leader.AppendError.{AppendError}
 use Rattle.partition_log.specs.declared.leader.Appended.{Appended}
@@ -34,7 +33,7 @@ map_set f [] n x y there same = refl
 map_set f (z ∷ zs) zero x y there same = ap (λ w. w ∷ map f zs) (same ∙ sym (ap f (some_same z x there)))
 map_set f (z ∷ zs) (suc n) x y there same = ap (λ ws. f z ∷ ws) (map_set f zs n x y there same)
 
-all_set : {X : Type 0} (P : X → Type 0) (xs : List X) (n : ℕ) (y : X) → AllByRecursion P xs → P y → AllByRecursion P (set xs n y)
+pub all_set : {X : Type 0} (P : X → Type 0) (xs : List X) (n : ℕ) (y : X) → AllByRecursion P xs → P y → AllByRecursion P (set xs n y)
 all_set P [] n y all is = tt
 all_set P (x ∷ xs) zero y all is = (is, all.1)
 all_set P (x ∷ xs) (suc n) y all is = (all.0, all_set P xs n y all.1 is)
@@ -183,8 +182,8 @@ module _ (ts : List TopicParts) (g : ConfigValue) (s : State) (name : List ℕ) 
   copy_shown t c is here =
       partition_here ts name place.topic t topic_of_place is g s p view ∙ ap (λ q. partition_of q (topic_contents t)) of.partition ∙ here
 
-  pub role_of_place : (role : Role) (t : TopicParts) → t ≡ get_or ts place.topic t → AllByRecursion (HasRole role) ts → HasRole role t
-  role_of_place role t is all = holds_here ts name place.topic t topic_of_place is (HasRole role) all
+  pub holds_at_place : (P : TopicParts → Type 0) (t : TopicParts) → t ≡ get_or ts place.topic t → AllByRecursion P ts → P t
+  holds_at_place P t is all = holds_here ts name place.topic t topic_of_place is P all
 
   pub topics_stay : (t u : TopicParts) → t ≡ get_or ts place.topic t → AreTopicsOf g ts → topic_shape u ≡ topic_shape t → HasRole g.role u → AreTopicsOf g (set ts place.topic u)
   topics_stay t u is all shape role = stay_topics ts name place.topic t topic_of_place is g u all shape role

@@ -10,3 +10,4 @@ pub mod Partitions
 pub mod ConfigValues
 pub mod Taken
 pub mod Parts
+pub mod Sound

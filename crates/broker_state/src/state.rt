@@ -3,6 +3,7 @@
 ghost use Rattle.std.specs.Prelude.{◌≡◌, ◌≤◌, ◌+◌, ℕ, ℤ, List, [], ◌∷◌, Some, None, IfOk, IfErr, IfSome, IfNone, map, length};
 ghost use Rattle.std.specs.List.{All};
 ghost use Rattle.std.specs.Option.{option_map};
+ghost use Rattle.batch_codec.specs.Grammar.{Writable};
 ghost use Rattle.answering.specs.Lists.{first_some};
 ghost use Rattle.broker_state.specs.State.{new_state, topic_of, partition_at};
 ghost use Rattle.broker_state.specs.Places.{IsPlaceOf, IsPlace};
@@ -12,6 +13,7 @@ ghost use Rattle.broker_state.specs.declared.config.Role.TheVariants.{Leader};
 ghost use Rattle.broker_state.specs.Configs.{IsValidConfig, ConfigFault};
 ghost use Rattle.broker_state.specs.ConfigValues.{config_value};
 ghost use Rattle.broker_state.specs.Parts.{topic_contents};
+ghost use Rattle.broker_state.specs.Sound.{IsSound};
 
 use crate::config::{Config, Role};
 use crate::error::ConfigError;
@@ -35,11 +37,12 @@ pub struct BrokerState<S: BatchStore> {
 
 impl<S: BatchStore> Model for BrokerState<S> {
     ghost use Rattle.std.specs.Prelude.{map};
+    ghost use Rattle.std.specs.List.{AllByRecursion};
     ghost use Rattle.answering.specs.Lists.{first_some};
     ghost use Rattle.broker_state.specs.State.{State};
-    ghost use Rattle.broker_state.specs.Configs.{IsValidConfig};
     ghost use Rattle.broker_state.specs.ConfigValues.{config_value};
     ghost use Rattle.broker_state.specs.Parts.{AreTopicsOf, topic_contents};
+    ghost use Rattle.broker_state.specs.Sound.{IsSoundConfig, HoldsContents};
 
     ghost Value = { State };
 
@@ -48,8 +51,16 @@ impl<S: BatchStore> Model for BrokerState<S> {
       topics = map topic_contents n.topics.items;
     } };
 
-    ghost invariant = { λ n. IsValidConfig (config_value n.config)
-        × AreTopicsOf (config_value n.config) n.topics.items };
+    ghost invariant = { λ n. IsSoundConfig (config_value n.config)
+        × AreTopicsOf (config_value n.config) n.topics.items
+        × AllByRecursion (λ t. HoldsContents (topic_contents t)) n.topics.items };
+}
+
+/// A batch that was viewed can be written: this is known behind the call, which does nothing.
+fn know_writable(batch: &BatchView<'_>)
+    ensures { Writable batch.now }
+{
+    let _ = batch.bytes();
 }
 
 impl<S: BatchStore> BrokerState<S> {
@@ -63,6 +74,7 @@ impl<S: BatchStore> BrokerState<S> {
     pub fn new(alloc: S::Alloc, config: Config<S::Alloc>) -> Result<BrokerState<S>, ConfigError>
         ensures valid { IfOk result (λ _. IsValidConfig (config_value config)) }
         ensures is_new { IfOk result (λ state. state ≡ new_state (config_value config)) }
+        ensures is_sound { IfOk result IsSound }
         ensures refuses { IfErr result (ConfigFault (config_value config)) }
     {
         match config_fault(&config) {
@@ -133,6 +145,13 @@ impl<S: BatchStore> BrokerState<S> {
         }
     }
 
+    /// What a broker holds is sound: this is known behind the call, which does nothing.
+    pub fn know_sound(&self)
+        ensures { IsSound self.now }
+    {
+        let _ = &self.config;
+    }
+
     /// What the broker is to its partitions.
     pub fn role(&self) -> Role
         ensures { result ≡ self.now.config.role }
@@ -155,6 +174,7 @@ impl<S: BatchStore> BrokerState<S> {
         ensures { (name : List ℕ) (p : ℤ) → IsPlaceOf self.old name p place
             → AppendsAt self.old name p batch.now result self.new }
     {
+        know_writable(batch);
         self.topics[place.topic].extend_partition(place.partition, batch)
     }
 

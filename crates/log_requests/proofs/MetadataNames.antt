@@ -26,7 +26,7 @@ filter_all (x ∷ xs) = ap (λ (ys : Names). x ∷ ys) (filter_all xs)
 
 -- ---- one name more
 
-same_name : (x y : List ℕ) → bytes_eq x y ≡ true → x ≡ y
+pub same_name : (x y : List ℕ) → bytes_eq x y ≡ true → x ≡ y
 same_name x y e = (bytes_eq-Decides x y).0 e
 
 -- what a set has, whether it is asked by the name or by an equal one
@@ -97,7 +97,7 @@ all_inserted keys left all none so_far = sym (append-nil (now keys)) ∙ sym (ap
 
 -- ---- how many they are
 
-fewer : (p : List ℕ → Bool) (xs : Names) → length (filter p xs) ≤ length xs
+pub fewer : (p : List ℕ → Bool) (xs : Names) → length (filter p xs) ≤ length xs
 fewer p [] = omega arith
 fewer p (x ∷ xs) = grind (arith, fewer p xs)
 

@@ -15,7 +15,7 @@ pub returns-in-Some-clause-few_partitions : goal.returns-in-Some-clause-few_part
 returns-in-Some-clause-few_partitions g c =
     holds_here c.self.inside.topics.items c.args.name.now c.in-Some.index c.index.result.now
     (index_in c.deref.result.now c.self.inside.topics.items c.args.name.now _ c.deref.ensures.value (sym c.in-Some.is ∙ c.topic_index.ensures)) c.index.ensures
-    (λ t. length t.partitions ≤ MAX_PARTITIONS) (few_in_each (config_value c.self.inside.config) c.self.inside.topics.items c.self.invariant.0 c.self.invariant.1)
+    (λ t. length t.partitions ≤ MAX_PARTITIONS) (few_in_each (config_value c.self.inside.config) c.self.inside.topics.items c.self.invariant.0.valid c.self.invariant.1)
 
 pub returns-in-None-clause-is_there : goal.returns-in-None-clause-is_there
 returns-in-None-clause-is_there g c =
