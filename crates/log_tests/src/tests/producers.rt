@@ -196,3 +196,51 @@ fn a_log_lacks_memory_where_its_copy_does(rt: HostRuntime) {
     assert!(rt; asked.is_some());
     assert_eq!(rt; lacked_by_log(rt.alloc()), asked);
 }
+
+/// So many producers that a walk over all their batches, for each of them, takes minutes.
+const MANY: i32 = 200_000;
+
+/// The first batch of a producer, at the offset that is its number.
+fn first_of(producer: i32) -> [u8; 70] {
+    let mut bytes = sent(i64::from(producer), 0, 0);
+    bytes[..8].copy_from_slice(&i64::from(producer).to_be_bytes());
+    bytes
+}
+
+/// A copy with the first batch of each of many producers.
+fn copy_of_many<S: BatchStore>(heap: S::Alloc) -> PartitionLog<S> {
+    let mut copy = PartitionLog::new(heap);
+    for producer in 0..MANY {
+        is_added(&mut copy, &first_of(producer));
+    }
+    copy
+}
+
+/// Whether each of many producers' first batches is a repeat.
+fn are_known<S: BatchStore>(log: &mut LeaderLog<S>) -> bool {
+    let mut all = true;
+    for producer in 0..MANY {
+        let repeat = Some(Ok((i64::from(producer), true)));
+        all = all && answer(log, &first_of(producer)) == repeat;
+    }
+    all
+}
+
+/// Whether the leader of such a copy, which has no index of producers at first, appends a batch of another
+/// producer, and then knows all of them.
+fn knows_many<S: BatchStore>(heap: S::Alloc) -> bool {
+    match LeaderLog::from_copy(copy_of_many::<S>(heap)) {
+        Ok(mut log) => {
+            let appended = Some(Ok((i64::from(MANY), false)));
+            answer(&mut log, &first_of(MANY)) == appended && are_known(&mut log)
+        }
+        Err(_) => false,
+    }
+}
+
+/// Where there is no index of producers, the next append makes it: without it this takes longer than a test
+/// may.
+#[test]
+fn an_append_makes_the_index_again(rt: HostRuntime) {
+    assert!(rt; knows_many::<VecStore<_>>(rt.alloc()));
+}
