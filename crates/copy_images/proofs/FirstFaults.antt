@@ -163,7 +163,7 @@ fits_runs low (run ∷ runs) z h =
       fits_runs (run.1 +ℤ pos 2) runs (omega (arith, ints)) h.3,
     )
 
-image_front : (bytes : List ℕ) (c : Content) → IsImage bytes c → HasFront bytes c.cover (pos (length c.kept)) (flat_map batch_encoding c.kept)
+pub image_front : (bytes : List ℕ) (c : Content) → IsImage bytes c → HasFront bytes c.cover (pos (length c.kept)) (flat_map batch_encoding c.kept)
 image_front bytes c is =
     let few = is.batches in
     record {
@@ -173,7 +173,7 @@ image_front bytes c is =
       encoded = is.encoded;
     }
 
-from_zero : (bytes : List ℕ) (c : Content) → IsImage bytes c → IsContent (content_of c.cover c.kept)
+pub from_zero : (bytes : List ℕ) (c : Content) → IsImage bytes c → IsContent (content_of c.cover c.kept)
 from_zero bytes c is = subst IsContent (λ i. record { start = is.start i; cover = c.cover; kept = c.kept }) is.content
 
 refusal_given : (bytes : List ℕ) (error : ImageError) → Refuses bytes error → IsGiven bytes error

@@ -7,3 +7,5 @@ pub mod Refused
 pub mod PartsAgain
 pub mod Unique
 pub mod FirstFaults
+pub mod ReadBack
+pub mod Sizes

@@ -25,7 +25,7 @@ signed_field : (w : Width) → IsWide w → (offset : ℕ) (bytes : List ℕ) (z
 signed_field w wide offset bytes z fits is =
     sym (of_z-to_z w (unsigned_at w offset bytes) (unsigned-below w wide offset bytes fits)) ∙ ap (cast_unsigned w) is
 
-signed_fits : (w : Width) → IsWide w → (offset : ℕ) (bytes : List ℕ) → IsBytes bytes → FitsSigned w (signed_at w offset bytes)
+pub signed_fits : (w : Width) → IsWide w → (offset : ℕ) (bytes : List ℕ) → IsBytes bytes → FitsSigned w (signed_at w offset bytes)
 signed_fits w wide offset bytes fits = sfits_to_z (record { fits = unsigned-below w wide offset bytes fits })
 
 -- ---- ranges

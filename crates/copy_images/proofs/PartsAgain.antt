@@ -57,7 +57,7 @@ ranges_again (range ∷ ranges) rest fits =
       (λ i. drop (size i) (parts i)) ∙ sym (drop-drop (16 * length ranges) 16 (range_encoding range ++ others)) ∙ ap (drop (16 * length ranges)) here.1 ∙ ih.1,
     )
 
-length-ranges : (ranges : Runs) → length (flat_map range_encoding ranges) ≡ 16 * length ranges
+pub length-ranges : (ranges : Runs) → length (flat_map range_encoding ranges) ≡ 16 * length ranges
 unfolding range_encoding
 length-ranges [] = refl
 length-ranges (range ∷ ranges) =

@@ -53,13 +53,13 @@ one_front bytes ranges ranges' count count' rest rest' front front' =
 -- ---- the batches of a content, one by one
 
 -- a batch whose span lies in the ranges
-record IsInside (ranges : Runs) (b : BatchValue) : Type 0 where
-  writable : Writable b
-  keys : HasKeys b
-  in_range : IsInRange b
-  all : CoversAll ranges (first_offset b) (last_offset b)
+pub record IsInside (ranges : Runs) (b : BatchValue) : Type 0 where
+  pub writable : Writable b
+  pub keys : HasKeys b
+  pub in_range : IsInRange b
+  pub all : CoversAll ranges (first_offset b) (last_offset b)
 
-run_of : (runs : Runs) → IsCanonical runs → (o : ℤ) → covers runs o ≡ true → (pos 0 ≤ℤ o) × (o <ℤ pos (2 ^ 62))
+pub run_of : (runs : Runs) → IsCanonical runs → (o : ℤ) → covers runs o ≡ true → (pos 0 ≤ℤ o) × (o <ℤ pos (2 ^ 62))
 run_of runs canonical o e =
     let at = Any-from_list_any (is_within o) runs e in
     let run : ℤ × ℤ = get_or runs at.0 at.1 in
@@ -70,7 +70,7 @@ run_of runs canonical o e =
     let c = is.2 in
     (omega (arith, ints, a, bounds), omega (arith, ints, c, bounds))
 
-all_inside : (ranges : Runs) (batches : Batches) → IsContent (content_of ranges batches) → AllByRecursion (IsInside ranges) batches
+pub all_inside : (ranges : Runs) (batches : Batches) → IsContent (content_of ranges batches) → AllByRecursion (IsInside ranges) batches
 all_inside ranges batches content = all_from_at first_offset (IsInside ranges) (pos 0) batches (bases_rise (content_of ranges batches) content) one
   where
     one : (b : BatchValue) → look_up first_offset (first_offset b) batches ≡ Some b → IsInside ranges b

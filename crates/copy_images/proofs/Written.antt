@@ -14,7 +14,7 @@ use Rattle.copy_images.specs.declared.layout.TheConstants.{MARK, VERSION, MAX_CO
 use Rattle.copy_images.specs.Images.{range_encoding, front_of, with_crc, image_of}
 
 -- one more of the elements that are written one after the other
-next_written : {X : Type 0} (enc : X → List ℕ) (old out new : List ℕ) (i : ℕ) (xs : List X) (x : X) → i < length xs → out ≡ old ++ flat_map enc (take i xs)
+pub next_written : {X : Type 0} (enc : X → List ℕ) (old out new : List ℕ) (i : ℕ) (xs : List X) (x : X) → i < length xs → out ≡ old ++ flat_map enc (take i xs)
     → new ≡ out ++ enc (get_or xs i x) → new ≡ old ++ flat_map enc (take (i + 1) xs)
 next_written enc old out new i xs x low so_far e =
     let here : List ℕ = enc (get_or xs i x) in

@@ -1,3 +1,4 @@
 pub mod Images
 pub mod Refusals
 pub mod Judging
+pub mod Reading

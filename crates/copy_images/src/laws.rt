@@ -1,11 +1,12 @@
 //! Laws of images, over the definitions alone. The functions do nothing: what they ensure is the law.
 
-ghost use Rattle.std.specs.Prelude.{◌≡◌, ◌≤◌, ℕ, pos, List, length, [], ◌∷◌};
+ghost use Rattle.std.specs.Prelude.{◌≡◌, ◌≤◌, ℕ, pos, List, length, [], ◌∷◌, Some};
 ghost use Rattle.content.specs.Content.{Content, IsContent, empty};
 ghost use Rattle.copy_images.specs.declared.layout.TheConstants.{MAX_COUNT};
 ghost use Rattle.copy_images.specs.declared.error.ImageError.{ImageError};
 ghost use Rattle.copy_images.specs.declared.error.ImageError.TheVariants.{OutOfMemory};
 ghost use Rattle.copy_images.specs.Images.{front_of, image_of, IsImage};
+ghost use Rattle.copy_images.specs.Reading.{IsBytes, image_at};
 ghost use Rattle.copy_images.specs.Refusals.{Refuses};
 
 /// A valid content that starts at 0, and whose ranges and batches can be counted, has an image. So
@@ -42,4 +43,11 @@ pub fn one_refusal()
 pub fn an_image_is_not_refused()
     ensures { (bytes : List ℕ) (c : Content) (e : ImageError) → IsImage bytes c → Refuses bytes e
         → e ≡ OutOfMemory }
+{}
+
+/// What is read of bytes is the content of which they are the image; of other bytes it is nothing.
+pub fn reading_is_exact()
+    ensures reads { (bytes : List ℕ) (c : Content) → IsImage bytes c → image_at bytes ≡ Some c }
+    ensures reads_only_images { (bytes : List ℕ) (c : Content) → IsBytes bytes
+        → image_at bytes ≡ Some c → IsImage bytes c }
 {}

@@ -21,4 +21,4 @@ mod write;
 
 pub use error::ImageError;
 pub use read::read_image;
-pub use write::write_image;
+pub use write::{has_image_within, write_image};

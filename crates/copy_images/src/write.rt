@@ -1,6 +1,6 @@
 //! The image of a copy.
 
-ghost use Rattle.std.specs.Prelude.{◌≡◌, ◌++◌, ◌≤◌, ◌∷◌, [], pos, length, IfOk, OnOk};
+ghost use Rattle.std.specs.Prelude.{◌≡◌, ◌↔◌, ◌++◌, ◌≤◌, ◌∷◌, [], pos, ◌+◌, ◌*◌, min, length, IfOk, OnOk, IsTrue};
 ghost use Rattle.std.specs.List.{flat_map};
 ghost use Rattle.std.specs.Int.{w16, w32};
 ghost use Rattle.batch_codec.specs.Grammar.{fields, signed, batch_encoding};
@@ -20,10 +20,18 @@ fn count_field(count: usize) -> Result<i32, AllocError>
     i32::try_from(count).map_err(|_| AllocError)
 }
 
+/// How many bytes an image has beside its batches; where that is no `usize`, the greatest one.
+fn fixed_size(ranges: usize) -> usize
+    ensures { result ≡ min (18 + 16 * ranges) 18446744073709551615 }
+{
+    LEAST_SIZE.saturating_add(ranges.saturating_mul(RANGE_SIZE))
+}
+
 /// How many bytes the image has; where that is no `usize`, the greatest one.
-fn size_of<S: BatchStore>(copy: &PartitionLog<S>) -> usize {
-    let ranges = copy.cover().ranges().len();
-    let mut size = LEAST_SIZE.saturating_add(ranges.saturating_mul(RANGE_SIZE));
+fn size_of<S: BatchStore>(copy: &PartitionLog<S>) -> usize
+    ensures { result ≡ min (length (image_of copy.now)) 18446744073709551615 }
+{
+    let mut size = fixed_size(copy.cover().ranges().len());
     for i in 0..copy.len() {
         size = size.saturating_add(copy.bytes_of(i).len());
     }
@@ -153,4 +161,11 @@ pub fn write_image<A: Allocator + Copy, S: BatchStore>(
     let range_count = count_field(copy.cover().ranges().len())?;
     let batch_count = count_field(copy.len())?;
     new_image(alloc, copy, range_count, batch_count)
+}
+
+/// Whether the image of a copy has at most this many bytes. Takes no memory.
+pub fn has_image_within<S: BatchStore>(copy: &PartitionLog<S>, limit: u32) -> bool
+    ensures { IsTrue result ↔ (length (image_of copy.now) ≤ limit) }
+{
+    size_of(copy) <= limit as usize
 }

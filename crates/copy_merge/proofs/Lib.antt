@@ -4,3 +4,4 @@ pub mod Judged
 pub mod Turns
 pub mod Planned
 pub mod Merged
+pub mod Deciding

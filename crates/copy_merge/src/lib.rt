@@ -12,10 +12,12 @@ mod alike;
 mod common;
 mod error;
 mod judging;
+mod laws;
 mod merging;
 mod next;
 mod planning;
 mod walk;
 
 pub use error::MergeError;
+pub use laws::agreement_is_decided;
 pub use merging::{merge, merge_into};
