@@ -1,0 +1,10 @@
+pub mod WholeFieldLaws
+pub mod KeyEncodings
+pub mod ValidBatches
+pub mod BatchSizes
+pub mod ShownKeys
+pub mod PartsWritten
+pub mod ShownTables
+pub mod MappedElements
+pub mod NullRecords
+pub mod ReadFits
