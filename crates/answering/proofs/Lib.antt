@@ -2,3 +2,4 @@ pub mod AnswersOfAll
 pub mod Begun
 pub mod SoFar
 pub mod Planned
+pub mod Checks

@@ -7,3 +7,4 @@ pub mod Responding
 pub mod Once
 pub mod Writing
 pub mod WritingParts
+pub mod Doing

@@ -8,9 +8,9 @@ ghost use Rattle.answering.specs.Codes.{code_number};
 pub enum ErrorCode {
     /// Something else than the other codes say.
     UnknownServerError,
-    /// The offset lies outside the log.
+    /// An offset lies outside the log, or outside the range of offsets.
     OffsetOutOfRange,
-    /// A batch's bytes are not one, or its checksum is wrong.
+    /// The bytes of a batch or of an image are none, or a checksum is wrong.
     CorruptMessage,
     /// There is no such topic, or it has no such partition.
     UnknownTopicOrPartition,
@@ -18,12 +18,18 @@ pub enum ErrorCode {
     LeaderNotAvailable,
     /// This broker does not lead the partition.
     NotLeader,
-    /// A batch is larger than the limit.
+    /// A batch, an image, or a list of ranges is larger than the limit.
     MessageTooLarge,
+    /// The metadata of a committed offset is longer than the limit.
+    OffsetMetadataTooLarge,
     /// The topic has no valid name, or it is not to be written to.
     InvalidTopic,
     /// The required acknowledgements are none of 0, 1 and -1.
     InvalidRequiredAcks,
+    /// A group's generation is named, and there are no generations here.
+    IllegalGeneration,
+    /// A group has no name.
+    InvalidGroupId,
     /// The request can't be answered as it is.
     InvalidRequest,
     /// The format of a batch is not this one.
@@ -34,7 +40,7 @@ pub enum ErrorCode {
     InvalidProducerEpoch,
     /// There are no transactions here.
     InvalidTransactionState,
-    /// The log could not take the batch.
+    /// There was no memory for what was asked for; nothing was done.
     StorageError,
     /// Compressed records are not taken.
     UnsupportedCompression,
@@ -55,8 +61,11 @@ impl ErrorCode {
             ErrorCode::LeaderNotAvailable => 5,
             ErrorCode::NotLeader => 6,
             ErrorCode::MessageTooLarge => 10,
+            ErrorCode::OffsetMetadataTooLarge => 12,
             ErrorCode::InvalidTopic => 17,
             ErrorCode::InvalidRequiredAcks => 21,
+            ErrorCode::IllegalGeneration => 22,
+            ErrorCode::InvalidGroupId => 24,
             ErrorCode::InvalidRequest => 42,
             ErrorCode::UnsupportedForMessageFormat => 43,
             ErrorCode::OutOfOrderSequence => 45,

@@ -29,7 +29,7 @@
 //!
 //! Its proof is three facts: the way in which `put` answers is one that the entry's work allows
 //! (`MayAnswer`); the bytes around the topics and the topics' own are the encoding of the response; and
-//! what `respond` ensures makes a reply that the plan allows, by `plan_answered` of `proofs/Planned`,
+//! what `respond` ensures makes a reply that the plan allows, by `plan_responded` of `proofs/Planned`,
 //! along the entries' values and the states.
 //!
 //! # A request of one entry
@@ -53,4 +53,4 @@ pub use codes::ErrorCode;
 pub use entries::Answers;
 pub use once::{Body, respond_once, respond_with};
 pub use responding::respond;
-pub use room::{MAX_FIXED_BYTES, response_room};
+pub use room::response_room;

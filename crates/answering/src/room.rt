@@ -7,15 +7,15 @@ ghost use Rattle.answering.specs.Writing.{topics_said, topic_room, response_room
 use frame_fields::{Array, Element, Topic, Topics};
 use responses::{COUNT_BYTES, RESPONSE_HEAD_BYTES, TOPIC_HEAD_BYTES};
 
-/// The most bytes that `response_room` takes for an answer, and for what stands around the topics.
-pub const MAX_FIXED_BYTES: usize = 65_536;
-
-/// How many bytes the answer for a topic has.
-fn topic_room<'a, E: Element<'a> + Drop>(size: usize, topic: &Topic<'a, E>) -> usize
-    requires { size ≤ MAX_FIXED_BYTES }
-    ensures { result ≡ topic_room size topic.now.name.now (length (values E.fields topic.now.partitions)) }
+/// How many bytes the answer for a topic has; `None` of more than there are addresses.
+fn topic_room<'a, E: Element<'a> + Drop>(size: usize, topic: &Topic<'a, E>) -> Option<usize>
+    ensures room { IfSome result (λ room. room
+        ≡ topic_room size topic.now.name.now (length (values E.fields topic.now.partitions))) }
+    ensures too_large { IfNone result (2 ^ 64
+        ≤ topic_room size topic.now.name.now (length (values E.fields topic.now.partitions))) }
 {
-    TOPIC_HEAD_BYTES + topic.name.len() + size * topic.partitions.len() as usize
+    let entries = size.checked_mul(topic.partitions.len() as usize)?;
+    entries.checked_add(TOPIC_HEAD_BYTES + topic.name.len())
 }
 
 /// How many bytes the response to a request has, where each answer has `size` bytes and `around`
@@ -25,16 +25,14 @@ pub fn response_room<'a, E: Element<'a> + Drop>(
     around: usize,
     topics: &Array<'a, Topic<'a, E>>,
 ) -> Option<usize>
-    requires small { size ≤ MAX_FIXED_BYTES }
-    requires small_around { around ≤ MAX_FIXED_BYTES }
     ensures room { IfSome result (λ room. room
         ≡ response_room size around (topics_said E.fields topics.now)) }
     ensures too_large { IfNone result
         (2 ^ 64 ≤ response_room size around (topics_said E.fields topics.now)) }
 {
-    let mut room = RESPONSE_HEAD_BYTES + COUNT_BYTES + around;
+    let mut room = around.checked_add(RESPONSE_HEAD_BYTES + COUNT_BYTES)?;
     for topic in Topics::of(topics) {
-        room = room.checked_add(topic_room(size, &topic))?;
+        room = room.checked_add(topic_room(size, &topic)?)?;
     }
     Some(room)
 }

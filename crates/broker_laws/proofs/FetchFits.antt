@@ -10,7 +10,7 @@ use Rattle.content.specs.Content.{Content, IsContent, end}
 use Rattle.content.specs.Records.{IsKeepable}
 use Rattle.segment.specs.BatchLists.{first_from}
 use Rattle.partition_log.specs.Lookups.{size_of, fitting, fetched}
-use Rattle.frame_fields.specs.Fields.{size32, size64, Value, be, Fits, encoded, array, end as no_fields}
+use Rattle.frame_fields.specs.Fields.{size16, size32, size64, Value, FitsLength, be, Fits, encoded, array, end as no_fields}
 use Rattle.frame_fields.specs.Types.{bytes, topic, TopicOf}
 use Rattle.frame_fields.proofs.Numbers.{length-be, null_fits}
 use Rattle.request_frames.specs.Fetch.{FetchPartitionValue, fetch_partition, fetch_partition_value, fetch_fields, fetch_request}
@@ -113,8 +113,8 @@ small_run room force limit run left (inl h) = omega (arith, h, left)
 small_run room force limit run left (inr h) = let most = h.1 in omega (arith, most)
 
 module _ (s : State) (sound : IsSound s) where
-  pub fetch_entry : (room : FetchRoom) (name : List ℕ) (e : Entry) (r : Fetched) (after : FetchRoom) → IsRoom room → IsSaid fetch_partition e → MayAnswer (fetch_work s room name (fetch_partition_value e)) room r after → Has e r after
-  fetch_entry room name e r after left said = worked (Has e) (fetch_work s room name (fetch_partition_value e)) room r after
+  pub fetch_entry : (room : FetchRoom) (name : List ℕ) (e : Entry) (r : Fetched) (after : FetchRoom) → IsRoom room → FitsLength size16 (length name) → IsSaid fetch_partition e → MayAnswer (fetch_work s room name (fetch_partition_value e)) room r after → Has e r after
+  fetch_entry room name e r after left named said = worked (Has e) (fetch_work s room name (fetch_partition_value e)) room r after
       (λ code. answered e room (code_number code) (negsuc 0) [] said (code_fits code) (null_fits size64) (omega arith) left)
       (λ none.
       let c = content_at s name e.0 in

@@ -62,12 +62,20 @@ spent A w b step s [] (y ∷ ys) end all = absurd all
 spent A w b step s (x ∷ xs) [] end all = absurd all
 spent A w b step s (x ∷ xs) (y ∷ ys) end all = omega (arith, step s x y all.0 all.1, spent A w b step all.0 xs ys end all.2)
 
+-- where each answer takes no more than its element allows, all together do
+pub bounded : {S X Y : Type 0} (A : S → X → Y → S → Type 0) (w : Y → ℕ) (u : X → ℕ) → ((s : S) (x : X) (y : Y) (m : S) → A s x y m → w y ≤ u x)
+    → (s : S) (xs : List X) (ys : List Y) (end : S) → AnswersAll A s xs ys end → total w ys ≤ total u xs
+bounded A w u step s [] [] end all = omega arith
+bounded A w u step s [] (y ∷ ys) end all = absurd all
+bounded A w u step s (x ∷ xs) [] end all = absurd all
+bounded A w u step s (x ∷ xs) (y ∷ ys) end all = omega (arith, step s x y all.0 all.1, bounded A w u step all.0 xs ys end all.2)
+
 pub longer : {W : Type 0} (k : W → List ℕ) (w : W) (ws : List W) → length (flat_map k (w ∷ ws)) ≡ length (k w) + length (flat_map k ws)
 longer k w ws = ap length (flat_map-cons k w ws) ∙ length-append (k w) (flat_map k ws)
 
--- bytes that are each at most three times as many, but for what is counted apart
+-- bytes that are each at most four times as many, but for what is counted apart
 pub grown : {X Y : Type 0} (f : X → List ℕ) (g : Y → List ℕ) (extra : Y → ℕ) (xs : List X) (ys : List Y)
-    → Paired (λ x y. length (g y) ≤ 3 * length (f x) + extra y) xs ys → length (flat_map g ys) ≤ 3 * length (flat_map f xs) + total extra ys
+    → Paired (λ x y. length (g y) ≤ 4 * length (f x) + extra y) xs ys → length (flat_map g ys) ≤ 4 * length (flat_map f xs) + total extra ys
 grown f g extra [] [] all = omega arith
 grown f g extra [] (y ∷ ys) all = absurd all
 grown f g extra (x ∷ xs) [] all = absurd all

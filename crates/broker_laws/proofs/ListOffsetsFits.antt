@@ -6,7 +6,7 @@ use Rattle.std.specs.Ordering.{int_eq}
 use Rattle.std.specs.Int.{w16, w32}
 use Rattle.content.specs.Content.{Content, IsContent, end}
 use Rattle.partition_log.specs.Lookups.{first_by_time}
-use Rattle.frame_fields.specs.Fields.{size64, Value, Fits, encoded, end as no_fields}
+use Rattle.frame_fields.specs.Fields.{size16, size64, Value, FitsLength, Fits, encoded, end as no_fields}
 use Rattle.frame_fields.proofs.Numbers.{null_fits}
 use Rattle.frame_fields.specs.Types.{topic}
 use Rattle.request_frames.specs.ListOffsets.{list_offsets_partition, list_offsets_partition_value, list_offsets_fields, list_offsets_request}
@@ -72,8 +72,8 @@ answered e code at m said c fits sound = (
   sound,
 )
 
-pub list_offsets_entry : (s : State) (name : List ℕ) (e : Entry) (r : ListedPartition) (m : State) → IsSound s → IsSaid list_offsets_partition e → MayAnswer (list_offsets_work s name (list_offsets_partition_value e)) s r m → Has e r m
-list_offsets_entry s name e r m sound said = worked (Has e) (list_offsets_work s name (list_offsets_partition_value e)) s r m
+pub list_offsets_entry : (s : State) (name : List ℕ) (e : Entry) (r : ListedPartition) (m : State) → IsSound s → FitsLength size16 (length name) → IsSaid list_offsets_partition e → MayAnswer (list_offsets_work s name (list_offsets_partition_value e)) s r m → Has e r m
+list_offsets_entry s name e r m sound named said = worked (Has e) (list_offsets_work s name (list_offsets_partition_value e)) s r m
     (λ code. answered e (code_number code) (negsuc 0, negsuc 0) s said (code_fits code) none_fits sound)
     (λ none. answered e no_error (list_offsets_at (content_at s name e.0) e.1.0) s said no_error_fits (at_fits (content_at s name e.0) e.1.0 (content_valid s name e.0 sound)) sound)
 

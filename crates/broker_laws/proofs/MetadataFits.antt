@@ -3,7 +3,7 @@
 use Rattle.std.proofs.Common.{◌≡◌, ℕ, zero, suc, ◌+◌, ◌*◌, ◌<◌, ◌≤◌, ℤ, pos, negsuc, Bool, true, false, cond, not, List, [], ◌∷◌, ◌++◌, length, Option, Some, None, refl, sym, ap, subst, ◌∙◌, arith}
 use Rattle.std.specs.Prelude.{map, FitsSigned, bytes_eq}
 use Rattle.std.specs.List.{flat_map, filter, find, range_with_len, AllByRecursion}
-use Rattle.std.specs.Int.{w8, w16, w32}
+use Rattle.std.specs.Int.{w16, w32}
 use Rattle.std.proofs.lemmas.List.{length-append, length-map}
 use Rattle.std.proofs.lemmas.List.FromFn.{length-map-range_with_len}
 use Rattle.std.specs.Option.{option_map}
@@ -28,7 +28,7 @@ use Rattle.log_requests.specs.Metadata.{metadata_of_broker, metadata_leader_of, 
 use Rattle.log_requests.proofs.MetadataNames.{same_name, no_more}
 use Rattle.broker_node.specs.Fitting.{FitsIfSent}
 use Rattle.broker_laws.proofs.Followed.{total, longer}
-use Rattle.broker_laws.proofs.Works.{no_error_fits, code_fits}
+use Rattle.broker_laws.proofs.Works.{no_error_fits, code_fits, flag_fits}
 use Rattle.broker_laws.proofs.Said.{IsPart}
 use Rattle.broker_laws.proofs.FittingResponses.{fitting_response, IsKept, frame_limit}
 
@@ -95,10 +95,6 @@ topic_long t =
       length-be size32 (pos (length (map metadata_partition_value t.partitions))),
       partitions_long t.partitions,
     )
-
-flag_fits : (b : Bool) → FitsSigned w8 (flag b)
-flag_fits true = record { sfits = omega arith }
-flag_fits false = record { sfits = omega arith }
 
 -- what is said of a topic fits, in so many bytes
 record IsWithin (n : ℕ) (t : MetadataOfTopic) : Type 0 where

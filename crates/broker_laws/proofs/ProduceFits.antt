@@ -1,23 +1,20 @@
 -- The response to Produce fits its fields, and the state stays sound.
-use Rattle.std.proofs.Common.{Bool, true, false, cond, ◌≡◌, ℕ, ◌≤◌, ℤ, pos, negsuc, List, [], ◌∷◌, ◌++◌, length, take, Option, Some, None, Result, Ok, Err, refl, sym, subst, arith}
-use Rattle.std.specs.Prelude.{FitsSigned, not, is_some, nat_lt}
+use Rattle.std.proofs.Common.{Bool, true, false, cond, ◌≡◌, ℕ, ◌≤◌, ℤ, pos, negsuc, List, [], ◌∷◌, ◌++◌, length, Option, Some, None, refl, sym, subst, arith}
+use Rattle.std.specs.Prelude.{FitsSigned, not, is_some}
 use Rattle.std.specs.Option.{option_map}
 use Rattle.std.specs.Int.{w16, w32, w64}
-use Rattle.std.proofs.lemmas.List.{length-append, take_all}
+use Rattle.std.proofs.lemmas.List.{length-append}
 use Rattle.std.specs.Ordering.{int_eq}
 use Rattle.batch_codec.specs.Grammar.{Writable}
-use Rattle.batch_codec.specs.Reading.{batch_of, IsEncoding}
-use Rattle.batch_codec.specs.declared.error.BatchError.{BatchError}
-use Rattle.batch_codec.specs.Checks.{Checked, size_at, check_batch}
-use Rattle.batch_codec.proofs.Views.{view_encoded}
-use Rattle.frame_fields.specs.Fields.{size32, size64, Value, be, field, Fits, encoded, end}
+use Rattle.batch_codec.specs.Reading.{batch_of}
+use Rattle.frame_fields.specs.Fields.{size16, size32, size64, Value, FitsLength, be, field, Fits, encoded, end}
 use Rattle.frame_fields.specs.Types.{nullable_bytes, or_empty, topic, int32, ◌⨾◌}
 use Rattle.frame_fields.specs.Frames.{IsBytes}
 use Rattle.frame_fields.proofs.Numbers.{IsBytes-second, length-be, null_fits}
 use Rattle.request_frames.specs.Produce.{ProduceValue, ProducePartitionValue, produce_partition, produce_partition_value, produce_fields, produce_request}
 use Rattle.responses.specs.declared.produce.partition.ProducedPartition.{ProducedPartition}
 use Rattle.responses.specs.Produce.{produced_fields, produced_value, produce_response, produce_value}
-use Rattle.answering.specs.declared.codes.ErrorCode.TheVariants.{InvalidTopic, InvalidRequiredAcks, InvalidRecord, InvalidTransactionState}
+use Rattle.answering.specs.declared.codes.ErrorCode.TheVariants.{InvalidTopic, InvalidRequiredAcks, InvalidTransactionState}
 use Rattle.answering.specs.Codes.{no_error, code_number}
 use Rattle.answering.specs.Lists.{fault_if, first_some}
 use Rattle.answering.specs.Work.{MayAnswer}
@@ -25,16 +22,17 @@ use Rattle.answering.specs.Plans.{RepliesBy}
 use Rattle.broker_state.specs.Codes.{append_code}
 use Rattle.broker_state.specs.State.{State, is_group_topic, content_at, with_content}
 use Rattle.broker_state.specs.Checks.{unknown, not_leader}
-use Rattle.broker_state.specs.Batches.{checked_code, checks_of_size, batch_checks, append_fault, appended}
+use Rattle.broker_state.specs.Batches.{batch_checks, append_fault, appended}
 use Rattle.broker_state.specs.Sound.{IsSound}
 use Rattle.broker_state.proofs.SoundStates.{content_valid, sound_with}
-use Rattle.broker_state.proofs.Passed.{none_first, none_both, no_fault}
+use Rattle.broker_state.proofs.Passed.{none_first, none_both}
 use Rattle.broker_state.proofs.ValidAppends.{appended_valid}
 use Rattle.log_requests.specs.Produce.{is_acks, produce_result, produce_checks, produce_work, produce_plan}
 use Rattle.broker_node.specs.Fitting.{IsFitting, FitsIfSent}
 use Rattle.broker_laws.proofs.Said.{IsSaid, bytes_first, IsPart, later, elements_are, array_length, none_long, first_long}
 use Rattle.broker_laws.proofs.TopicsFit.{EntryFits, topics_fit, none_apart}
-use Rattle.broker_laws.proofs.Works.{worked, no_error_fits, code_fits}
+use Rattle.broker_laws.proofs.Works.{worked, unmapped, no_error_fits, code_fits}
+use Rattle.broker_laws.proofs.SentBatches.{batch_writable}
 use Rattle.broker_laws.proofs.FittingResponses.{enough, fitting_response, IsKept, frame_limit}
 
 abbrev Entry : Type 0
@@ -67,27 +65,6 @@ records_bytes e said = by e.1.0 (bytes_first (field nullable_bytes e.1.0) [] (Is
     by None all = λ i. omega arith
     by (Some b) all = IsBytes-second (be size32 (pos (length b))) b all
 
--- ---- the bytes are one writable batch
-
-abbrev fine : Checked
-fine = Ok tt
-
-passes : (c : Checked) → checked_code c ≡ None → fine ≡ c
-passes (Ok u) e = refl
-passes (Err e) h = absurd cc
-
-batch_writable : (bytes : List ℕ) → IsBytes bytes → first_some (batch_checks bytes) ≡ None → Writable (batch_of bytes)
-batch_writable bytes are = by (size_at bytes) refl
-  where
-    by : (size : Result ℕ BatchError) → size_at bytes ≡ size → first_some (checks_of_size bytes size) ≡ None → Writable (batch_of bytes)
-    by (Err e) same h = absurd cc
-    by (Ok n) same h =
-        let both = none_first (checked_code (check_batch (take n bytes))) (first_some (fault_if (nat_lt n (length bytes)) InvalidRecord ∷ [])) h in
-        let all_used : nat_lt n (length bytes) ≡ false = no_fault (nat_lt n (length bytes)) InvalidRecord (none_first (fault_if (nat_lt n (length bytes)) InvalidRecord) None both.1).0 in
-        let whole : take n bytes ≡ bytes = take_all n bytes (grind (arith, all_used)) in
-        let encoding : IsEncoding (take n bytes) = view_encoded bytes n are (sym same) (passes (check_batch (take n bytes)) both.0) in
-        subst (λ (x : List ℕ). Writable (batch_of x)) whole encoding.0
-
 -- ---- one entry
 
 result_fits : (index code base : ℤ) → FitsSigned w32 index → FitsSigned w16 code → FitsSigned w64 base → Fits produced_fields (produced_value (produce_result index code base))
@@ -105,10 +82,6 @@ checked s q name e none =
     let leads = none_first (not_leader s) _ group.1 in
     let batch = none_both (batch_checks e.records) (option_map append_code (append_fault (content_at s name e.index) (batch_of e.records)) ∷ []) leads.1 in
     (batch.0, unmapped append_code (append_fault (content_at s name e.index) (batch_of e.records)) (none_first _ None batch.1).0)
-  where
-    unmapped : {X Y : Type 0} (f : X → Y) (o : Option X) → option_map f o ≡ None → o ≡ None
-    unmapped f None h = refl
-    unmapped f (Some x) h = absurd cc
 
 module _ (q : ProduceValue) where
   abbrev Has : Entry → ProducedPartition → State → Type 0
@@ -124,8 +97,8 @@ module _ (q : ProduceValue) where
     sound,
   )
 
-  pub produce_entry : (s : State) (name : List ℕ) (e : Entry) (r : ProducedPartition) (m : State) → IsSound s → IsSaid produce_partition e → MayAnswer (produce_work s q name (produce_partition_value e)) s r m → Has e r m
-  produce_entry s name e r m sound said = worked (Has e) (produce_work s q name (produce_partition_value e)) s r m
+  pub produce_entry : (s : State) (name : List ℕ) (e : Entry) (r : ProducedPartition) (m : State) → IsSound s → FitsLength size16 (length name) → IsSaid produce_partition e → MayAnswer (produce_work s q name (produce_partition_value e)) s r m → Has e r m
+  produce_entry s name e r m sound named said = worked (Has e) (produce_work s q name (produce_partition_value e)) s r m
       (λ code. answered e (code_number code) (negsuc 0) s said (code_fits code) (null_fits size64) sound) done
     where
       given : ProducePartitionValue

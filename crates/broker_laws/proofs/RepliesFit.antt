@@ -1,8 +1,9 @@
 -- Whatever may be replied to a frame fits its fields, and the state stays sound.
 --
--- A further request joins by its response's fields in `Fitting`, a file like `ListOffsetsFits`, and one case of `body_fits`. Of a
--- request of entries that file shows what `TopicsFit` asks for of one entry, and ends by `topics_fit` and `fitting_response`; of a request
--- that is answered once it shows that its value fits and how many bytes it has, and ends by `fitting_response`, as `MetadataFits`.
+-- A further request joins by its response's fields in `Fitting`, a file of its own, and one case of `body_fits`. Of a request of entries
+-- that file shows what `TopicsFit` asks for of one entry, and ends by `topics_fit` and `fitting_response`, as `ListOffsetsFits`. Of one
+-- that is answered once it shows that each result fits and how many bytes it has, and ends by `once_fits`, as `CleanFits`; of one whose
+-- response has many parts it shows the same of the whole, and ends by `fitting_response`, as `MetadataFits`.
 use Rattle.std.proofs.Common.{◌≡◌, ℕ, ◌≤◌, ℤ, pos, List, [], length, drop, Option, sym, ap, subst, ◌∙◌, arith}
 use Rattle.std.specs.Prelude.{FitsSigned}
 use Rattle.std.specs.Int.{w32}
@@ -12,7 +13,7 @@ use Rattle.frame_fields.specs.Fields.{size32, Value, encoded, Encodes}
 use Rattle.frame_fields.specs.Frames.{IsBytes, IsWithinLimit}
 use Rattle.frame_fields.proofs.Numbers.{IsBytes-drop, number_fits}
 use Rattle.request_frames.specs.declared.api.Api.{Api}
-use Rattle.request_frames.specs.declared.api.Api.TheVariants.{Produce, Fetch, ListOffsets, Metadata}
+use Rattle.request_frames.specs.declared.api.Api.TheVariants.{Produce, Fetch, ListOffsets, Metadata, OffsetCommit, OffsetFetch, Deliver, Clean, Export, Import, Get, Cover, ForgetGroup}
 use Rattle.request_frames.specs.Requests.{fields_of, body_value, RequestValue, body_fields, body_of, correlation_of, IsRequest}
 use Rattle.answering.specs.Work.{MayAnswer}
 use Rattle.broker_state.specs.State.{State}
@@ -25,6 +26,15 @@ use Rattle.broker_laws.proofs.ProduceFits.{produce_fits}
 use Rattle.broker_laws.proofs.FetchFits.{fetch_fits}
 use Rattle.broker_laws.proofs.ListOffsetsFits.{list_offsets_fits}
 use Rattle.broker_laws.proofs.MetadataFits.{metadata_fits}
+use Rattle.broker_laws.proofs.OffsetCommitFits.{offset_commit_fits}
+use Rattle.broker_laws.proofs.OffsetFetchFits.{offset_fetch_fits}
+use Rattle.broker_laws.proofs.DeliverFits.{deliver_fits}
+use Rattle.broker_laws.proofs.CleanFits.{clean_fits}
+use Rattle.broker_laws.proofs.ExportFits.{export_fits}
+use Rattle.broker_laws.proofs.ImportFits.{import_fits}
+use Rattle.broker_laws.proofs.GetFits.{get_fits}
+use Rattle.broker_laws.proofs.CoverFits.{cover_fits}
+use Rattle.broker_laws.proofs.ForgetGroupFits.{forget_group_fits}
 
 body_part : (api : Api) (frame : List ℕ) (v : Value (body_fields api)) → IsBytes frame → Encodes (body_fields api) v (body_of frame) [] → IsPart (length frame) (fields_of api) v.1
 body_part api frame v bytes encodes =
@@ -43,6 +53,15 @@ body_fits Produce = produce_fits
 body_fits Fetch = fetch_fits
 body_fits ListOffsets = list_offsets_fits
 body_fits Metadata = metadata_fits
+body_fits OffsetCommit = offset_commit_fits
+body_fits OffsetFetch = offset_fetch_fits
+body_fits Deliver = deliver_fits
+body_fits Clean = clean_fits
+body_fits Export = export_fits
+body_fits Import = import_fits
+body_fits Get = get_fits
+body_fits Cover = cover_fits
+body_fits ForgetGroup = forget_group_fits
 
 within_limit : (frame : List ℕ) → IsWithinLimit (pos (length frame)) → length frame ≤ frame_limit
 within_limit frame low = omega (arith, ints, low)

@@ -35,6 +35,10 @@ said_elements x d v said =
     let count = be size32 (pos (length v.0)) in
     said_all x v.0 said.fits.0.1 (IsBytes-second count (flat_map (encoded x) v.0) (bytes_first (count ++ flat_map (encoded x) v.0) (encoded d v.1) said.bytes))
 
+pub said_name : (d : Fields) (t : Value (topic d)) → IsSaid (topic d) t → FitsLength size16 (length t.0)
+unfolding Fits
+said_name d t said = said.fits.0
+
 pub said_entries : (d : Fields) (t : Value (topic d)) → IsSaid (topic d) t → AllByRecursion (IsSaid d) t.1.0
 said_entries d t said = said_elements d end t.1 (said_later string (array d end) t said)
 

@@ -1,12 +1,12 @@
 -- A small broker, and requests to it, for the definitions worked out by hand.
-use Rattle.std.specs.Prelude.{ℕ, ℤ, pos, negsuc, List, [], ◌∷◌, codes, Option, Some, None}
+use Rattle.std.specs.Prelude.{ℕ, ℤ, pos, negsuc, List, [], ◌∷◌, codes, Option, Some, None, Result}
 use Rattle.batch_codec.specs.Grammar.{batch_encoding}
 use Rattle.content.specs.Cleaning.{clean}
 use Rattle.content.specs.Examples.{key_a, key_b, one, two, three, batch_0, copy_of_four, numbered, record_of, single}
 use Rattle.responses.specs.declared.produce.partition.ProducedPartition.{ProducedPartition}
 use Rattle.responses.specs.declared.list_offsets.partition.ListedPartition.{ListedPartition}
 use Rattle.frame_fields.specs.Types.{TopicOf}
-use Rattle.request_frames.specs.Requests.BodyValue.{produce, list_offsets, metadata}
+use Rattle.request_frames.specs.Requests.BodyValue.{produce, list_offsets, metadata, offset_commit, offset_fetch, forget_group}
 use Rattle.request_frames.specs.Requests.{RequestValue}
 use Rattle.request_frames.specs.Produce.{ProduceValue, ProducePartitionValue}
 use Rattle.request_frames.specs.Fetch.{FetchPartitionValue}
@@ -18,6 +18,9 @@ use Rattle.log_requests.specs.Produce.{produce_work}
 use Rattle.log_requests.specs.Fetch.{fetch_room, fetch_work}
 use Rattle.log_requests.specs.ListOffsets.{list_offsets_work}
 use Rattle.answering.specs.Plans.{over_topics}
+use Rattle.group_offsets.specs.declared.error.GroupError.{GroupError}
+use Rattle.group_offsets.specs.CommittedValues.{CommittedValue}
+use Rattle.group_requests.specs.OffsetFetch.{offset_fetch_lookup}
 use Rattle.broker_node.specs.Replies.{reply}
 
 -- ---- configurations
@@ -143,3 +146,39 @@ fetched_twice s offset max_bytes =
 abbrev pub listed_for : State → (partition time : ℤ) → ListedPartition
 listed_for s partition time =
     (answer (list_offsets_work s topic_t (record { partition = partition; time = time })) s).0
+
+-- ---- offsets of group g, of topic t
+
+abbrev pub group_g : List ℕ
+group_g = codes "g"
+
+-- of partition 0, with metadata "m"
+abbrev pub offset_commit_request : (correlation offset : ℤ) → RequestValue
+offset_commit_request correlation offset = record {
+  correlation = correlation;
+  body = offset_commit (record {
+    group = group_g;
+    generation = negsuc 0;
+    topics = one_topic topic_t (record { partition = pos 0; offset = offset; metadata = Some (codes "m") });
+  });
+}
+
+abbrev pub offset_fetch_request : (correlation : ℤ) → RequestValue
+offset_fetch_request correlation = record {
+  correlation = correlation;
+  body = offset_fetch (record { group = group_g; topics = one_topic topic_t (record { partition = pos 0 }) });
+}
+
+abbrev pub forget_group_request : (correlation : ℤ) → RequestValue
+forget_group_request correlation = record { correlation = correlation; body = forget_group group_g }
+
+-- offset 20 was committed, and offset 21 after it
+abbrev pub committed_twice : State
+committed_twice = (reply (reply leader (offset_commit_request (pos 0) (pos 20))).1 (offset_commit_request (pos 0) (pos 21))).1
+
+abbrev pub forgotten : State
+forgotten = (reply committed_twice (forget_group_request (pos 0))).1
+
+-- what a group is found to have committed for the partition
+abbrev pub found_for : State → (group : List ℕ) → Result (Option CommittedValue) GroupError
+found_for s group = offset_fetch_lookup s group topic_t (pos 0)

@@ -1,8 +1,8 @@
 //! The definitions worked out on a small broker. The functions do nothing: each clause is an example
 //! whose outcome was found by hand.
-#![tactic(auto, unfolding(checksum::specs::Crc::crc_of, checksum::specs::Crc::feed_bytes, checksum::specs::Crc::feed_byte, checksum::specs::Crc::feed_bits, checksum::specs::Crc::feed_bit, varint::specs::Encoding::encoding, varint::specs::Encoding::digits, varint::specs::Reading::number_at, varint::specs::Reading::varint_at, varint::specs::Reading::varlong_at, batch_codec::specs::Checks::size_from, batch_codec::specs::Checks::size_at, batch_codec::specs::Checks::check_attributes, batch_codec::specs::Checks::check_count, batch_codec::specs::Checks::check_records, batch_codec::specs::Checks::check_batch, batch_codec::specs::Fields::head_of, batch_codec::specs::Grammar::record_body, batch_codec::specs::Grammar::batch_encoding, batch_codec::specs::Readers::nullable_at, batch_codec::specs::Readers::required_at, batch_codec::specs::Readers::header_at, batch_codec::specs::Readers::headers_at, batch_codec::specs::Readers::body_at, batch_codec::specs::Readers::record_at, batch_codec::specs::Readers::records_at, batch_codec::specs::Readers::records_of, batch_codec::specs::Reading::batch_of, content::specs::ByOffset::put, content::specs::Verdicts::verdict, cover_ranges::specs::Runs::with_range, segment::specs::BatchLists::first_from, partition_log::specs::Lookups::fitting, frame_fields::specs::Fields::encoded))]
+#![tactic(auto, unfolding(checksum::specs::Crc::crc_of, checksum::specs::Crc::feed_bytes, checksum::specs::Crc::feed_byte, checksum::specs::Crc::feed_bits, checksum::specs::Crc::feed_bit, varint::specs::Encoding::encoding, varint::specs::Encoding::digits, varint::specs::Reading::number_at, varint::specs::Reading::varint_at, varint::specs::Reading::varlong_at, batch_codec::specs::Checks::size_from, batch_codec::specs::Checks::size_at, batch_codec::specs::Checks::check_attributes, batch_codec::specs::Checks::check_count, batch_codec::specs::Checks::check_records, batch_codec::specs::Checks::check_batch, batch_codec::specs::Fields::head_of, batch_codec::specs::Grammar::record_body, batch_codec::specs::Grammar::batch_encoding, batch_codec::specs::Readers::nullable_at, batch_codec::specs::Readers::required_at, batch_codec::specs::Readers::header_at, batch_codec::specs::Readers::headers_at, batch_codec::specs::Readers::body_at, batch_codec::specs::Readers::record_at, batch_codec::specs::Readers::records_at, batch_codec::specs::Readers::records_of, batch_codec::specs::Reading::batch_of, content::specs::ByOffset::put, content::specs::Verdicts::verdict, cover_ranges::specs::Runs::with_range, segment::specs::BatchLists::first_from, partition_log::specs::Lookups::fitting, frame_fields::specs::Fields::encoded, frame_fields::specs::Reading::read_number, frame_fields::specs::Reading::read_field, frame_fields::specs::Reading::read_fields, group_offsets::specs::Keys::group_key_at, group_offsets::specs::Batches::commit_batch, group_offsets::specs::Batches::null_records, group_offsets::specs::Batches::forget_batch, group_offsets::specs::Groups::shown_records, group_offsets::specs::Groups::group_keys))]
 
-ghost use Rattle.std.specs.Prelude.{◌≡◌, pos, negsuc, false, [], ◌∷◌, ◌++◌, length, codes, replicate, Some, None};
+ghost use Rattle.std.specs.Prelude.{◌≡◌, pos, negsuc, false, [], ◌∷◌, ◌++◌, length, codes, replicate, Some, None, Ok};
 ghost use Rattle.batch_codec.specs.Grammar.{batch_encoding};
 ghost use Rattle.content.specs.Content.{empty, add, end};
 ghost use Rattle.content.specs.Examples.{batch_0, batch_1, batch_3, copy_of_four};
@@ -18,7 +18,7 @@ ghost use Rattle.log_requests.specs.Metadata.{metadata_topics};
 ghost use Rattle.broker_node.specs.Replies.{reply};
 ghost use Rattle.answering.specs.Responding.{sent};
 ghost use Rattle.broker_node.specs.Streams.{IsAnswered, RefusesNext};
-ghost use Rattle.broker_laws.specs.Examples.{topic_t, topic, config_with, leader, follower, with_acks, transactional, produced_at, produce_request, produce_twice, list_offsets_request, list_offsets_frame, metadata_request, good, without_key, bad_producer, numbered_batch, produced_four, cleaned_leader, fetched_from, fetched_twice, listed_for, records_to};
+ghost use Rattle.broker_laws.specs.Examples.{topic_t, topic, config_with, leader, follower, with_acks, transactional, produced_at, produce_request, produce_twice, list_offsets_request, list_offsets_frame, metadata_request, good, without_key, bad_producer, numbered_batch, produced_four, cleaned_leader, fetched_from, fetched_twice, listed_for, records_to, group_g, offset_commit_request, offset_fetch_request, forget_group_request, committed_twice, forgotten, found_for};
 
 /// Configurations and their first faults.
 pub fn configurations()
@@ -215,4 +215,21 @@ pub fn topics_listed()
           is_internal = false;
           partitions = record { code = pos 5; index = pos 0; leader = None } ∷ [];
         } ∷ [] }
+{}
+
+/// A group's latest committed offset is found, by no other group, and no more once it is forgotten.
+pub fn committed_offsets()
+    ensures commit { (reply leader (offset_commit_request (pos 5) (pos 20))).0 ≡ Some (
+        0 ∷ 0 ∷ 0 ∷ 21 ∷ 0 ∷ 0 ∷ 0 ∷ 5 ∷ 0 ∷ 0 ∷ 0 ∷ 1 ∷ 0 ∷ 1 ∷ 116 ∷ 0 ∷ 0 ∷ 0 ∷ 1
+        ∷ 0 ∷ 0 ∷ 0 ∷ 0 ∷ 0 ∷ 0 ∷ []) }
+    ensures appended { end (content_at committed_twice group_topic (pos 0)) ≡ pos 2 }
+    ensures latest_is_found { found_for committed_twice group_g
+        ≡ Ok (Some (record { offset = pos 21; metadata = Some (codes "m") })) }
+    ensures not_by_another_group { found_for committed_twice (codes "h") ≡ Ok None }
+    ensures fetch { (reply committed_twice (offset_fetch_request (pos 6))).0 ≡ Some (
+        0 ∷ 0 ∷ 0 ∷ 32 ∷ 0 ∷ 0 ∷ 0 ∷ 6 ∷ 0 ∷ 0 ∷ 0 ∷ 1 ∷ 0 ∷ 1 ∷ 116 ∷ 0 ∷ 0 ∷ 0 ∷ 1
+        ∷ 0 ∷ 0 ∷ 0 ∷ 0 ∷ 0 ∷ 0 ∷ 0 ∷ 0 ∷ 0 ∷ 0 ∷ 0 ∷ 21 ∷ 0 ∷ 1 ∷ 109 ∷ 0 ∷ 0 ∷ []) }
+    ensures one_is_forgotten { (reply committed_twice (forget_group_request (pos 7))).0 ≡ Some (
+        0 ∷ 0 ∷ 0 ∷ 10 ∷ 0 ∷ 0 ∷ 0 ∷ 7 ∷ 0 ∷ 0 ∷ 0 ∷ 0 ∷ 0 ∷ 1 ∷ []) }
+    ensures not_found_once_forgotten { found_for forgotten group_g ≡ Ok None }
 {}

@@ -6,12 +6,13 @@ use Rattle.request_frames.specs.declared.parsing.RequestBody.TheVariants as vari
 use Rattle.request_frames.specs.declared.metadata.request.MetadataRequest.{MetadataRequest}
 use Rattle.request_frames.specs.declared.parsing.Request.{Request}
 use Rattle.request_frames.specs.declared.parsing.RequestBody.{RequestBody}
-use Rattle.request_frames.specs.Requests.BodyValue.{produce, fetch, list_offsets, metadata}
+use Rattle.request_frames.specs.Requests.BodyValue.{produce, fetch, list_offsets, metadata, offset_commit, offset_fetch, deliver, clean, export, import, get, cover, forget_group}
 use Rattle.request_frames.specs.Requests.{BodyValue, RequestValue}
 use Rattle.request_frames.specs.Metadata.{metadata_view}
 use Rattle.request_frames.specs.Views.{request_body, request_value}
-use Rattle.answering.specs.Work.{MayAnswer}
+use Rattle.answering.specs.Work.{Work, MayAnswer}
 use Rattle.answering.specs.Plans.{Plan, RepliesBy}
+use Rattle.answering.specs.Once.{RepliesOnce, WritesOnce}
 use Rattle.broker_state.specs.State.{State}
 use Rattle.answering.specs.Responding.{RespondsBy}
 use Rattle.log_requests.specs.Metadata.{metadata_reply}
@@ -32,6 +33,24 @@ responds_by p s after request body held held' is arm r = record {
   replies = subst (λ b. RepliesTo (λ R S w. MayAnswer w) s request.correlation (request_body b) r.response after) (sym is) (arm r.response r.replies);
   appends = r.appends;
 }
+
+-- of a request of one entry
+pub responds_once : {R : Type 0} (sent : ℤ → R → List ℕ) (w : Work R State) (s after : State) (request : Request) (body : RequestBody) (n : ℤ) (held held' : List ℕ) → n ≡ request.correlation → request.body ≡ body
+    → ((response : Option (List ℕ)) → RepliesOnce (λ R S w. MayAnswer w) (sent request.correlation) w s response after → RepliesTo (λ R S w. MayAnswer w) s request.correlation (request_body body) response after)
+    → WritesOnce (sent n) w s held held' after → RespondsTo s (request_value request) held held' after
+responds_once sent w s after request body n held held' same is arm written = record {
+  response = Some (sent request.correlation written.result);
+  replies = subst (λ b. RepliesTo (λ R S w. MayAnswer w) s request.correlation (request_body b) (Some (sent request.correlation written.result)) after) (sym is)
+      (arm (Some (sent request.correlation written.result)) (record { result = written.result; answers = written.answers; sends = refl }));
+  appends = written.appends ∙ ap (λ m. held ++ sent m written.result) same;
+}
+
+-- of a request of one entry, where it was written
+pub once_responds : {R T E : Type 0} (sent : ℤ → R → List ℕ) (w : Work R State) (r : Result T E) (s after : State) (request : Request) (body : RequestBody) (n : ℤ) (held held' : List ℕ) → n ≡ request.correlation → request.body ≡ body
+    → ((response : Option (List ℕ)) → RepliesOnce (λ R S w. MayAnswer w) (sent request.correlation) w s response after → RepliesTo (λ R S w. MayAnswer w) s request.correlation (request_body body) response after)
+    → OnOk r (WritesOnce (sent n) w s held held' after) → OnOk r (RespondsTo s (request_value request) held held' after)
+once_responds sent w (Err e) s after request body n held held' same is arm written = tt
+once_responds sent w (Ok x) s after request body n held held' same is arm written = responds_once sent w s after request body n held held' same is arm written
 
 -- of a Metadata request, which has no plan
 pub metadata_responds : {T E : Type 0} (r : Result T E) (s : State) (request : Request) (asked : MetadataRequest) (z : ℤ) (held held' : List ℕ) → z ≡ request.correlation → request.body ≡ variants.Metadata asked
@@ -55,6 +74,15 @@ tells s after n (produce q) response r = silent q.acks response _ (int_eq q.acks
 tells s after n (fetch q) response r = ap answer_of (sym r.sends)
 tells s after n (list_offsets ts) response r = ap answer_of (sym r.sends)
 tells s after n (metadata names) response r = ap answer_of (sym r.0)
+tells s after n (offset_commit q) response r = ap answer_of (sym r.sends)
+tells s after n (offset_fetch q) response r = ap answer_of (sym r.sends)
+tells s after n (deliver q) response r = ap answer_of (sym r.sends)
+tells s after n (clean q) response r = ap answer_of (sym r.sends)
+tells s after n (export q) response r = ap answer_of (sym r.sends)
+tells s after n (import q) response r = ap answer_of (sym r.sends)
+tells s after n (get q) response r = ap answer_of (sym r.sends)
+tells s after n (cover q) response r = ap answer_of (sym r.sends)
+tells s after n (forget_group q) response r = ap answer_of (sym r.sends)
 
 pub handled : (s after : State) (q : RequestValue) (held held' : List ℕ) (answer : Answer) → RespondsTo s q held held' after → answer ≡ answer_to q.body
     → Handles s q held held' answer after

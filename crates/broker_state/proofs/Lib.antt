@@ -11,3 +11,4 @@ pub mod NumberedPartitions
 pub mod Shapes
 pub mod ValidAppends
 pub mod SoundStates
+pub mod GroupPlace

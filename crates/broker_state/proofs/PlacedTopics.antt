@@ -1,22 +1,20 @@
 -- A topic by its index, and a partition of it, and what changes where that partition does.
-use Rattle.std.proofs.Common.{◌≡◌, ℕ, zero, suc, ◌+◌, ◌<◌, Bool, true, false, cond, ℤ, pos, List, [], ◌∷◌, length, Option, Some, None, Result, set, refl, sym, ap, subst, ◌∙◌, arith}
+use Rattle.std.proofs.Common.{◌≡◌, ℕ, zero, suc, ◌+◌, ◌<◌, Bool, true, false, cond, ℤ, pos, List, [], ◌∷◌, length, Option, Some, None, set, refl, sym, ap, subst, ◌∙◌, arith}
 use Rattle.std.specs.Prelude.{map, is_some, slice_get, get_or, bytes_eq, not, nat_lt, position}
 use Rattle.std.specs.List.{find, AllByRecursion, position_or_len}
 use Rattle.std.specs.Option.{option_map, option_and_then, unwrap_or}
-use Rattle.std.proofs.lemmas.List.{length-map}
+use Rattle.std.proofs.lemmas.List.{length-map, length-set}
 use Rattle.std.proofs.lemmas.List.Folds.{find_at}
-use Rattle.content.specs.Content.{Content, empty}
-use Rattle.batch_codec.specs.Values.{BatchValue}
-use Rattle.partition_log.specs.declared.leader.AppendError.{AppendError}
-use Rattle.partition_log.specs.declared.leader.Appended.{Appended}
+use Rattle.content.specs.Content.{Content, IsContent, empty}
+use Rattle.broker_state.specs.declared.config.Role.{Role}
 use Rattle.broker_state.specs.declared.place.Place.{Place}
 use Rattle.broker_state.specs.State.{ConfigValue, State, topic_of, partition_of, partition_at, content_at, with_partition, with_partition_of, with_content}
 use Rattle.broker_state.specs.Places.{IsPlaceOf}
-use Rattle.broker_state.specs.Appending.{Appends, AppendsIn, AppendsAt}
+use Rattle.broker_state.specs.Changes.{HowChanged, ChangesIn, ChangesAt}
 use Rattle.broker_state.specs.Partitions.{PartitionValue}
 use Rattle.broker_state.specs.Parts.{TopicParts, topic_contents, topic_shape, HasRole, AreTopicsOf}
+use Rattle.broker_state.specs.Sound.{HoldsContents}
 use Rattle.broker_state.proofs.NewStates.{find_map}
-use Rattle.broker_state.proofs.OwnContent.{appends_at}
 
 some_same : {X : Type 0} (x y : X) → Some x ≡ Some y → x ≡ y
 some_same x y e = cc
@@ -151,16 +149,18 @@ module _ (ts : List TopicParts) (name : List ℕ) (i : ℕ) (t : TopicParts) (at
     roles = all_set (HasRole g.role) ts i u all.roles role;
   }
 
-  -- an append in this topic is one of the broker's
-  pub append_here : (g : ConfigValue) (s : State) (u : TopicParts) (p : ℤ) (b : BatchValue) (result : Result Appended AppendError) → record { config = g; topics = map topic_contents ts } ≡ s
-      → AppendsIn (topic_contents t) p b result (topic_contents u)
-      → AppendsAt s name p b result (record { config = g; topics = map topic_contents (set ts i u) })
-  append_here g s u p b result view made =
+  -- a change in this topic is one of the broker's
+  pub change_here : (how : HowChanged) (g : ConfigValue) (s : State) (u : TopicParts) (p : ℤ) → record { config = g; topics = map topic_contents ts } ≡ s
+      → ChangesIn how (topic_contents t) p (topic_contents u)
+      → ChangesAt how s name p (record { config = g; topics = map topic_contents (set ts i u) })
+  change_here how g s u p view made =
       let c = made.0 in
       let before : unwrap_or (partition_of p (topic_contents t)) empty ≡ content_at s name p =
-      ap (λ x. unwrap_or x empty) (sym (partition_here g s p view)) in
-      appends_at s (record { config = g; topics = map topic_contents (set ts i u) }) name p b c result (subst (λ x. Appends x b result c) before made.1)
-      (ap (λ us. record { config = g; topics = us }) (contents_change u p c made.2) ∙ ap (λ s. with_content s name p c) view)
+      ap (λ x. unwrap_or x empty) (sym (partition_here g s p view)) in (
+        c,
+        subst (λ x. how x c) before made.1,
+        ap (λ us. record { config = g; topics = us }) (contents_change u p c made.2) ∙ ap (λ s. with_content s name p c) view,
+      )
 
 -- ---- a place
 
@@ -188,11 +188,11 @@ module _ (ts : List TopicParts) (g : ConfigValue) (s : State) (name : List ℕ) 
   pub topics_stay : (t u : TopicParts) → t ≡ get_or ts place.topic t → AreTopicsOf g ts → topic_shape u ≡ topic_shape t → HasRole g.role u → AreTopicsOf g (set ts place.topic u)
   topics_stay t u is all shape role = stay_topics ts name place.topic t topic_of_place is g u all shape role
 
-  pub appended_here : (t u : TopicParts) (b : BatchValue) (result : Result Appended AppendError) → t ≡ get_or ts place.topic t → AppendsIn (topic_contents t) (pos place.partition) b result (topic_contents u)
-      → AppendsAt s name p b result (record { config = g; topics = map topic_contents (set ts place.topic u) })
-  appended_here t u b result is made =
-      append_here ts name place.topic t topic_of_place is g s u p b result view
-      (subst (λ q. AppendsIn (topic_contents t) q b result (topic_contents u)) (sym of.partition) made)
+  pub changed_here : (how : HowChanged) (t u : TopicParts) → t ≡ get_or ts place.topic t → ChangesIn how (topic_contents t) (pos place.partition) (topic_contents u)
+      → ChangesAt how s name p (record { config = g; topics = map topic_contents (set ts place.topic u) })
+  changed_here how t u is made =
+      change_here ts name place.topic t topic_of_place is how g s u p view
+      (subst (λ q. ChangesIn how (topic_contents t) q (topic_contents u)) (sym of.partition) made)
 
 -- the place that is found
 pub place_found : (ts : List TopicParts) (g : ConfigValue) (s : State) (name : List ℕ) (p : ℤ) (i n : ℕ) (t : TopicParts) → record { config = g; topics = map topic_contents ts } ≡ s → Some i ≡ position (has_name name) ts → t ≡ get_or ts i t
@@ -224,12 +224,32 @@ copy_in_topic name ps t k x view low is =
     sym (ap (λ (u : TopicParts). slice_get (map content_of u.partitions) k) view)
     ∙ content_here ps k x (subst (λ (u : TopicParts). k < length u.partitions) (sym view) low) is
 
-pub append_in_topic : (name : List ℕ) (ps : List PartitionValue) (t : TopicParts) (k : ℕ) (x y : PartitionValue) (b : BatchValue) (result : Result Appended AppendError)
+pub change_in_topic : (how : HowChanged) (name : List ℕ) (ps : List PartitionValue) (t : TopicParts) (k : ℕ) (x y : PartitionValue)
     → record { name = name; partitions = ps } ≡ t → k < length t.partitions → x ≡ get_or ps k x
-    → Appends x.content b result y.content
-    → AppendsIn (topic_contents t) (pos k) b result (topic_contents (record { name = name; partitions = set ps k y }))
-append_in_topic name ps t k x y b result view low is made = (
+    → how x.content y.content
+    → ChangesIn how (topic_contents t) (pos k) (topic_contents (record { name = name; partitions = set ps k y }))
+change_in_topic how name ps t k x y view low is made = (
   y.content,
-  subst (λ c. Appends c b result y.content) (sym (ap (λ r. unwrap_or r empty) (copy_in_topic name ps t k x view low is))) made,
+  subst (λ c. how c y.content) (sym (ap (λ r. unwrap_or r empty) (copy_in_topic name ps t k x view low is))) made,
   (λ i. record { name = name; partitions = contents_set ps k y i }) ∙ ap (λ (u : TopicParts). with_partition (pos k) y.content (topic_contents u)) view,
 )
+
+-- ---- a partition's role, and whether all contents are valid
+
+module _ (name : List ℕ) (ps : List PartitionValue) (t : TopicParts) (k : ℕ) (x : PartitionValue) (view : record { name = name; partitions = ps } ≡ t) (low : k < length t.partitions) (is : x ≡ get_or ps k x) where
+  is_there : slice_get ps k ≡ Some x
+  is_there = got ps k x (subst (λ (u : TopicParts). k < length u.partitions) (sym view) low) is
+
+  pub role_here : (role : Role) → HasRole role t → x.role ≡ role
+  role_here role all = all_get (λ (p : PartitionValue). p.role ≡ role) ps k x (subst (HasRole role) (sym view) all) is_there
+
+  pub roles_stay : (role : Role) (y : PartitionValue) → y.role ≡ x.role → HasRole role t → HasRole role (record { name = name; partitions = set ps k y })
+  roles_stay role y same all = all_set (λ (p : PartitionValue). p.role ≡ role) ps k y (subst (HasRole role) (sym view) all) (same ∙ role_here role all)
+
+  pub shape_stays : (y : PartitionValue) → topic_shape (record { name = name; partitions = set ps k y }) ≡ topic_shape t
+  shape_stays y = (λ i. record { name = name; partitions = length-set ps k y i }) ∙ ap topic_shape view
+
+  pub contents_stay : (y : PartitionValue) → IsContent y.content → HoldsContents (topic_contents t) → HoldsContents (topic_contents (record { name = name; partitions = set ps k y }))
+  contents_stay y valid all =
+      subst (AllByRecursion IsContent) (sym (contents_set ps k y))
+      (all_set IsContent (map content_of ps) k y.content (subst (λ (u : TopicParts). HoldsContents (topic_contents u)) (sym view) all) valid)

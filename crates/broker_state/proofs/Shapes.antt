@@ -20,6 +20,7 @@ use Rattle.broker_state.proofs.Passed.{none_first, no_fault}
 pub record IsSmallTopic (t : TopicConfig) : Type 0 where
   pub name : length t.name ≤ MAX_TOPIC_NAME
   pub few : t.partitions ≤ MAX_PARTITIONS
+  pub some : 1 ≤ t.partitions
 
 pub record IsSmallConfig (g : ConfigValue) : Type 0 where
   pub host : length g.host ≤ MAX_HOST_BYTES
@@ -32,14 +33,18 @@ small_name name e = grind (arith, e)
 in_limit : (n : ℕ) → not (is_in_range 1 MAX_PARTITIONS n) ≡ false → n ≤ MAX_PARTITIONS
 in_limit n h = grind (arith, h)
 
+at_least_one : (n : ℕ) → not (is_in_range 1 MAX_PARTITIONS n) ≡ false → 1 ≤ n
+at_least_one n h = grind (arith, h)
+
 small_topic : (taken : List (List ℕ)) (t : TopicConfig) → topic_fault taken t ≡ None → IsSmallTopic t
 small_topic taken t none =
     let name = none_first (fault_if (not (is_topic_name t.name)) BadTopic) _ none in
     let few = none_first (fault_if (not (is_in_range 1 MAX_PARTITIONS t.partitions)) BadPartitions) _ name.1 in
-    record { name = small_name t.name (no_fault _ BadTopic name.0); few = in_limit t.partitions (no_fault _ BadPartitions few.0) }
+    let counted = no_fault _ BadPartitions few.0 in
+    record { name = small_name t.name (no_fault _ BadTopic name.0); few = in_limit t.partitions counted; some = at_least_one t.partitions counted }
 
 small_topics : (taken : List (List ℕ)) (ts : List TopicConfig) → topics_fault taken ts ≡ None → AllByRecursion IsSmallTopic (ts ++ record { name = group_topic; partitions = 1 } ∷ [])
-small_topics taken [] none = (record { name = omega arith; few = omega arith }, tt)
+small_topics taken [] none = (record { name = omega arith; few = omega arith; some = omega arith }, tt)
 small_topics taken (t ∷ ts) none =
     let both = none_first (topic_fault taken t) (topics_fault (t.name ∷ taken) ts) none in
     (small_topic taken t both.0, small_topics (t.name ∷ taken) ts both.1)

@@ -1,24 +1,18 @@
 -- Each content of a sound state is valid, and the state stays sound with another valid content of a partition. A broker's
 -- state is sound, since its topics are.
-use Rattle.std.proofs.Common.{◌≡◌, ℕ, zero, suc, ℤ, pos, negsuc, Bool, true, false, cond, List, [], ◌∷◌, Option, Some, None, Result, refl, sym, subst, ◌∙◌}
+use Rattle.std.proofs.Common.{◌≡◌, ℕ, zero, suc, ℤ, pos, negsuc, Bool, true, false, cond, List, [], ◌∷◌, Option, Some, None, refl, sym, subst, ◌∙◌}
 use Rattle.std.specs.Prelude.{map, replicate, slice_get, bytes_eq}
 use Rattle.std.specs.List.{find, AllByRecursion}
 use Rattle.std.specs.Option.{unwrap_or, option_and_then}
 use Rattle.std.proofs.lemmas.List.{length-set, length-map}
-use Rattle.batch_codec.specs.Values.{BatchValue}
-use Rattle.batch_codec.specs.Grammar.{Writable}
 use Rattle.content.specs.Content.{Content, IsContent, empty}
-use Rattle.partition_log.specs.declared.leader.AppendError.{AppendError}
-use Rattle.partition_log.specs.declared.leader.Appended.{Appended}
 use Rattle.partition_log.proofs.Kept.{empty_content}
 use Rattle.broker_state.specs.declared.config.Role.{Role}
 use Rattle.broker_state.specs.State.{TopicConfig, ConfigValue, Topic, State, all_topics, topic_of, partition_of, content_at, with_partition, with_partition_of, with_content}
-use Rattle.broker_state.specs.Appending.{AppendsIn}
 use Rattle.broker_state.specs.Partitions.{PartitionValue}
 use Rattle.broker_state.specs.Parts.{TopicParts, topic_contents, topic_shape, AreTopicsOf, new_parts}
 use Rattle.broker_state.specs.Sound.{IsSoundConfig, shape_of, HoldsContents, IsSound}
 use Rattle.broker_state.proofs.PlacedTopics.{all_get, all_set}
-use Rattle.broker_state.proofs.ValidAppends.{append_keeps}
 
 -- ---- what a state holds
 
@@ -84,13 +78,6 @@ sound_with s name p c valid sound = record {
 
 abbrev pub HoldParts : TopicParts → Type 0
 HoldParts t = HoldsContents (topic_contents t)
-
--- an append to a topic leaves valid contents
-pub appends_keep : (t u : TopicParts) (p : ℤ) (b : BatchValue) (result : Result Appended AppendError) → Writable b → AppendsIn (topic_contents t) p b result (topic_contents u) → HoldParts t → HoldParts u
-appends_keep t u p b result writable made all =
-    let c = made.0 in
-    let valid : IsContent c = append_keeps (unwrap_or (partition_of p (topic_contents t)) empty) c b result (in_topic p (topic_contents t) all) writable made.1 in
-    subst HoldsContents (sym made.2) (changed_topic t.name c p (topic_contents t) valid all)
 
 -- empty partitions do
 empty_parts : (role : Role) (n : ℕ) → AllByRecursion IsContent (map (λ (p : PartitionValue). p.content) (replicate n (record { role = role; content = empty })))

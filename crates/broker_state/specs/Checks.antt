@@ -1,8 +1,8 @@
--- The checks of an entry that names a partition: that the broker has it, and that the broker leads it. Kafka's
+-- The checks of an entry that names a partition: that the broker has it, and that the broker leads it, or follows. Kafka's
 -- documentation, "Protocol Guide", section "Error Codes".
 use Rattle.std.specs.Prelude.{ℕ, ℤ, not, List, Option, Some, None}
 use Rattle.answering.specs.declared.codes.ErrorCode.{ErrorCode}
-use Rattle.answering.specs.declared.codes.ErrorCode.TheVariants.{UnknownTopicOrPartition, NotLeader}
+use Rattle.answering.specs.declared.codes.ErrorCode.TheVariants.{UnknownTopicOrPartition, NotLeader, InvalidRequest}
 use Rattle.answering.specs.Lists.{fault_if}
 use Rattle.broker_state.specs.declared.config.Role.{Role}
 use Rattle.broker_state.specs.declared.config.Role.TheVariants.{Leader, Follower}
@@ -17,3 +17,11 @@ role_code Follower = Some NotLeader
 
 abbrev pub not_leader : State → Option ErrorCode
 not_leader s = role_code s.config.role
+
+-- a leader takes no batches from another one
+abbrev pub follower_code : Role → Option ErrorCode
+follower_code Leader = Some InvalidRequest
+follower_code Follower = None
+
+abbrev pub not_follower : State → Option ErrorCode
+not_follower s = follower_code s.config.role

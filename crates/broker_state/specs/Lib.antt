@@ -5,6 +5,7 @@ pub mod Checks
 pub mod Configs
 pub mod Batches
 pub mod Places
+pub mod Changes
 pub mod Appending
 pub mod Partitions
 pub mod ConfigValues

@@ -3,7 +3,9 @@
 //! itself, and each change of a partition. Read `specs/` in the order of `specs/Lib.antt`.
 #![tactic(auto)]
 
+mod append;
 mod batches;
+mod change;
 mod codes;
 mod config;
 mod error;
@@ -16,6 +18,7 @@ mod state;
 mod topic;
 
 pub use batches::one_batch;
+pub use change::Change;
 pub use codes::append_code;
 pub use config::{Config, Role, TopicConfig};
 pub use error::ConfigError;

@@ -1,13 +1,13 @@
 //! What a broker holds: its configuration, and the partitions of its topics.
 
-ghost use Rattle.std.specs.Prelude.{◌≡◌, ◌≤◌, ◌+◌, ℕ, ℤ, List, [], ◌∷◌, Some, None, IfOk, IfErr, IfSome, IfNone, map, length};
+ghost use Rattle.std.specs.Prelude.{◌≡◌, ◌≤◌, ◌+◌, ℕ, ℤ, pos, List, [], ◌∷◌, Some, None, IfOk, IfErr, IfSome, IfNone, map, length};
 ghost use Rattle.std.specs.List.{All};
 ghost use Rattle.std.specs.Option.{option_map};
-ghost use Rattle.batch_codec.specs.Grammar.{Writable};
 ghost use Rattle.answering.specs.Lists.{first_some};
-ghost use Rattle.broker_state.specs.State.{new_state, topic_of, partition_at};
+ghost use Rattle.broker_state.specs.State.{new_state, group_topic, topic_of, partition_at};
 ghost use Rattle.broker_state.specs.Places.{IsPlaceOf, IsPlace};
 ghost use Rattle.broker_state.specs.Checks.{unknown, not_leader};
+ghost use Rattle.broker_state.specs.Changes.{ChangesAt};
 ghost use Rattle.broker_state.specs.Appending.{AppendsAt};
 ghost use Rattle.broker_state.specs.declared.config.Role.TheVariants.{Leader};
 ghost use Rattle.broker_state.specs.Configs.{IsValidConfig, ConfigFault};
@@ -15,10 +15,12 @@ ghost use Rattle.broker_state.specs.ConfigValues.{config_value};
 ghost use Rattle.broker_state.specs.Parts.{topic_contents};
 ghost use Rattle.broker_state.specs.Sound.{IsSound};
 
+use crate::append::Append;
+use crate::change::Change;
 use crate::config::{Config, Role};
 use crate::error::ConfigError;
 use crate::judging::config_fault;
-use crate::limits::{MAX_PARTITIONS, MAX_TOPICS};
+use crate::limits::{GROUP_TOPIC, MAX_PARTITIONS, MAX_TOPICS};
 use crate::new_topics::new_topics;
 use crate::place::Place;
 use crate::topic::{TopicLogs, topic_index};
@@ -54,13 +56,6 @@ impl<S: BatchStore> Model for BrokerState<S> {
     ghost invariant = { λ n. IsSoundConfig (config_value n.config)
         × AreTopicsOf (config_value n.config) n.topics.items
         × AllByRecursion (λ t. HoldsContents (topic_contents t)) n.topics.items };
-}
-
-/// A batch that was viewed can be written: this is known behind the call, which does nothing.
-fn know_writable(batch: &BatchView<'_>)
-    ensures { Writable batch.now }
-{
-    let _ = batch.bytes();
 }
 
 impl<S: BatchStore> BrokerState<S> {
@@ -102,6 +97,17 @@ impl<S: BatchStore> BrokerState<S> {
                 partition: number,
             }),
             None => None,
+        }
+    }
+
+    /// The place of the partition in which groups keep their offsets. Each broker has it.
+    pub fn group_place(&self) -> Place
+        ensures { IsPlaceOf self.now group_topic (pos 0) result }
+    {
+        self.know_sound();
+        match self.place_of(GROUP_TOPIC, 0) {
+            Some(place) => place,
+            None => unreachable!(),
         }
     }
 
@@ -159,23 +165,32 @@ impl<S: BatchStore> BrokerState<S> {
         self.config.role
     }
 
+    /// Does something to the partition at a place; every other one stays as it is.
+    pub fn change_at<R, C: Change<S, R>>(&mut self, place: Place, change: C) -> R
+        requires is_place { IsPlace self.old place }
+        requires suits { C.suits change self.old.config.role }
+        ensures { (name : List ℕ) (p : ℤ) → IsPlaceOf self.old name p place
+            → ChangesAt (C.changes change self.old.config.role result) self.old name p self.new }
+    {
+        self.topics[place.topic].change_partition(place.partition, change)
+    }
+
     /// Appends a batch to the partition at a place, which the broker leads.
     ///
     /// # Errors
     ///
     /// The first fault of the batch; nothing changes.
-    pub fn append_at(
+    pub fn append_at<'a>(
         &mut self,
         place: Place,
-        batch: &BatchView<'_>,
+        batch: &'a BatchView<'a>,
     ) -> Result<Appended, AppendError>
         requires is_place { IsPlace self.old place }
         requires leads { self.old.config.role ≡ Leader }
         ensures { (name : List ℕ) (p : ℤ) → IsPlaceOf self.old name p place
             → AppendsAt self.old name p batch.now result self.new }
     {
-        know_writable(batch);
-        self.topics[place.topic].extend_partition(place.partition, batch)
+        self.change_at(place, Append { batch })
     }
 
     /// The broker's number.

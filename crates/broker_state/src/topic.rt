@@ -3,14 +3,15 @@
 ghost use Rattle.std.specs.Prelude.{◌≡◌, ◌<◌, pos, IfOk, IfSome, IfNone, Some, None, replicate, length, position, bytes_eq};
 ghost use Rattle.content.specs.Content.{empty};
 ghost use Rattle.broker_state.specs.State.{partition_of};
-ghost use Rattle.broker_state.specs.Appending.{AppendsIn};
-ghost use Rattle.broker_state.specs.declared.config.Role.TheVariants.{Leader};
+ghost use Rattle.broker_state.specs.declared.config.Role.{Role};
+ghost use Rattle.broker_state.specs.Changes.{ChangesIn};
 ghost use Rattle.broker_state.specs.Parts.{new_parts, topic_contents, topic_shape, HasRole};
+ghost use Rattle.broker_state.specs.Sound.{HoldsContents};
 
+use crate::change::Change;
 use crate::config::Role;
 use crate::partition::Partition;
-use batch_codec::BatchView;
-use partition_log::{AppendError, Appended, PartitionLog};
+use partition_log::PartitionLog;
 use segment::BatchStore;
 use std::alloc::AllocError;
 use std::marker::Model;
@@ -87,24 +88,19 @@ impl<S: BatchStore> TopicLogs<S> {
         self.partitions[index].copy()
     }
 
-    /// Extends the log of the partition of an index by a batch.
-    ///
-    /// # Errors
-    ///
-    /// The first fault of the batch; nothing changes.
-    pub(crate) fn extend_partition(
-        &mut self,
-        index: usize,
-        batch: &BatchView<'_>,
-    ) -> Result<Appended, AppendError>
+    /// Does something to the partition of an index.
+    pub(crate) fn change_partition<R, C: Change<S, R>>(&mut self, index: usize, change: C) -> R
         requires is_there { index < length self.old.partitions }
-        requires leads { HasRole Leader self.old }
-        ensures appends { AppendsIn (topic_contents self.old) (pos index) batch.now result
+        requires suits { (role : Role) × HasRole role self.old × C.suits change role }
+        ensures changes { (role : Role) → HasRole role self.old
+            → ChangesIn (C.changes change role result) (topic_contents self.old) (pos index)
             (topic_contents self.new) }
         ensures shape { topic_shape self.new ≡ topic_shape self.old }
-        ensures roles { HasRole Leader self.new }
+        ensures roles { (role : Role) → HasRole role self.old → HasRole role self.new }
+        ensures contents { HoldsContents (topic_contents self.old)
+            → HoldsContents (topic_contents self.new) }
     {
-        self.partitions[index].extend(batch)
+        self.partitions[index].change(change)
     }
 
     /// The topic's name.

@@ -1,3 +1,4 @@
+pub mod ApiTable
 pub mod WholeFrames
 pub mod OneOutcome
 mod FetchLimit

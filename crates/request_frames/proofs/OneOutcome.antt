@@ -1,10 +1,9 @@
 -- A frame is one request, or has one refusal.
-use Rattle.std.proofs.Common.{◌≡◌, ℕ, ◌<◌, ◌≤◌, Bool, false, cond, ltb, ℤ, pos, List, [], ◌∷◌, length, Result, Ok, Err, refl, ap, sym, ◌∙◌, arith}
+use Rattle.std.proofs.Common.{◌≡◌, ◌≢◌, ℕ, ◌<◌, ◌≤◌, Bool, false, cond, ltb, ℤ, List, [], ◌∷◌, length, Option, None, Some, Result, Ok, Err, refl, ap, sym, ◌∙◌, arith}
 use Rattle.std.specs.Ordering.{int_eq}
 use Rattle.std.proofs.lemmas.Int.{ints}
 use Rattle.std.proofs.lemmas.Bool.{le-ltb, lt-ltb}
 use Rattle.request_frames.specs.declared.api.Api.{Api}
-use Rattle.request_frames.specs.declared.api.Api.TheVariants.{Produce, Fetch, ListOffsets, Metadata}
 use Rattle.frame_fields.specs.declared.error.FieldFault.{FieldFault}
 use Rattle.frame_fields.specs.declared.error.FieldFault.TheVariants as field
 use Rattle.frame_fields.specs.declared.error.FrameError.{FrameError}
@@ -13,19 +12,20 @@ use Rattle.frame_fields.specs.Fields.{Value}
 use Rattle.frame_fields.specs.Reading.{At, read_fields}
 use Rattle.request_frames.specs.Apis.{api_version, IsApi, IsNoApi}
 use Rattle.request_frames.specs.Requests.{RequestValue, body_fields, body_value, body_of, key_of, version_of, correlation_of, IsOf, IsRequest, HasFault, IsRefused}
+use Rattle.request_frames.proofs.ApiTable.{api_of_key, key_finds, no_key}
 use Rattle.frame_fields.proofs.FieldLaws.{encodes_read, breaks_read}
 
 -- ---- the outcome as a function
 
-abbrev at_version : ℤ → Api → Result Api FrameError
-at_version version api = cond (int_eq version (api_version api)) (Ok api) (Err frame.BadVersion)
+abbrev at_version : (version read : ℤ) → Api → Result Api FrameError
+at_version version read api = cond (int_eq version read) (Ok api) (Err frame.BadVersion)
+
+abbrev of_known : ℤ → Option Api → Result Api FrameError
+of_known version None = Err frame.UnknownApi
+of_known version (Some api) = at_version version (api_version api) api
 
 abbrev find_api : (key version : ℤ) → Result Api FrameError
-find_api key version =
-    cond (int_eq key (pos 0)) (at_version version Produce)
-    (cond (int_eq key (pos 1)) (at_version version Fetch)
-    (cond (int_eq key (pos 2)) (at_version version ListOffsets)
-    (cond (int_eq key (pos 3)) (at_version version Metadata) (Err frame.UnknownApi))))
+find_api key version = of_known version (api_of_key key)
 
 abbrev of_field : FieldFault → FrameError
 of_field field.ShortBody = frame.ShortBody
@@ -48,18 +48,20 @@ outcome bytes = cond (ltb (length bytes) 8) (Err frame.ShortHeader) (from_api by
 
 -- ---- the table
 
+right_version : (version read : ℤ) (api : Api) → version ≡ read → at_version version read api ≡ Ok api
+right_version version read api is = grind (arith, ints)
+
+wrong_version : (version read : ℤ) (api : Api) → version ≢ read → at_version version read api ≡ Err frame.BadVersion
+wrong_version version read api is = grind (arith, ints)
+
 found_api : (key version : ℤ) (api : Api) → IsApi key version api → find_api key version ≡ Ok api
-found_api key version Produce is = rw (is.0, is.1) refl
-found_api key version Fetch is = rw (is.0, is.1) refl
-found_api key version ListOffsets is = rw (is.0, is.1) refl
-found_api key version Metadata is = rw (is.0, is.1) refl
+found_api key version api is =
+    ap (of_known version) (ap api_of_key is.0 ∙ key_finds api) ∙ right_version version (api_version api) api is.1
 
 no_api : (key version : ℤ) (e : FrameError) → IsNoApi key version e → find_api key version ≡ Err e
-no_api key version frame.UnknownApi h = grind (arith, ints, h Produce, h Fetch, h ListOffsets, h Metadata)
-no_api key version frame.BadVersion (Produce, k, h) = grind (arith, ints, h Produce)
-no_api key version frame.BadVersion (Fetch, k, h) = grind (arith, ints, h Fetch)
-no_api key version frame.BadVersion (ListOffsets, k, h) = grind (arith, ints, h ListOffsets)
-no_api key version frame.BadVersion (Metadata, k, h) = grind (arith, ints, h Metadata)
+no_api key version frame.UnknownApi h = ap (of_known version) (no_key key h)
+no_api key version frame.BadVersion (known, k, h) =
+    ap (of_known version) (ap api_of_key k ∙ key_finds known) ∙ wrong_version version (api_version known) known (h known k)
 no_api key version frame.NegativeSize h = absurd h
 no_api key version frame.TooLarge h = absurd h
 no_api key version frame.ShortHeader h = absurd h

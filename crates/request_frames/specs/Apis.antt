@@ -1,7 +1,8 @@
--- The table of requests by key and version. Kafka's documentation, "Protocol Guide", section "Protocol API Keys".
+-- The table of requests by key and version. Kafka's documentation, "Protocol Guide", section "Protocol API Keys"; the
+-- keys from 20000 on are this project's own.
 use Rattle.std.specs.Prelude.{◌≡◌, ◌≢◌, ℤ, pos}
 use Rattle.request_frames.specs.declared.api.Api.{Api}
-use Rattle.request_frames.specs.declared.api.Api.TheVariants.{Produce, Fetch, ListOffsets, Metadata}
+use Rattle.request_frames.specs.declared.api.Api.TheVariants.{Produce, Fetch, ListOffsets, Metadata, OffsetCommit, OffsetFetch, Deliver, Clean, Export, Import, Get, Cover, ForgetGroup}
 use Rattle.frame_fields.specs.declared.error.FrameError.{FrameError}
 use Rattle.frame_fields.specs.declared.error.FrameError.TheVariants.{UnknownApi, BadVersion}
 
@@ -10,12 +11,30 @@ api_key Produce = pos 0
 api_key Fetch = pos 1
 api_key ListOffsets = pos 2
 api_key Metadata = pos 3
+api_key OffsetCommit = pos 8
+api_key OffsetFetch = pos 9
+api_key Deliver = pos 20000
+api_key Clean = pos 20001
+api_key Export = pos 20002
+api_key Import = pos 20003
+api_key Get = pos 20004
+api_key Cover = pos 20005
+api_key ForgetGroup = pos 20006
 
 abbrev pub api_version : Api → ℤ
 api_version Produce = pos 3
 api_version Fetch = pos 4
 api_version ListOffsets = pos 1
 api_version Metadata = pos 1
+api_version OffsetCommit = pos 2
+api_version OffsetFetch = pos 1
+api_version Deliver = pos 0
+api_version Clean = pos 0
+api_version Export = pos 0
+api_version Import = pos 0
+api_version Get = pos 0
+api_version Cover = pos 0
+api_version ForgetGroup = pos 0
 
 abbrev pub IsApi : (key version : ℤ) → Api → Type 0
 IsApi key version api = (key ≡ api_key api) × (version ≡ api_version api)

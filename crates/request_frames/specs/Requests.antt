@@ -2,7 +2,7 @@
 -- "Protocol Guide", sections "Request Header" and "The Messages".
 use Rattle.std.specs.Prelude.{◌≡◌, ℕ, ◌<◌, ◌≤◌, ℤ, List, [], length, drop, Option}
 use Rattle.request_frames.specs.declared.api.Api.{Api}
-use Rattle.request_frames.specs.declared.api.Api.TheVariants.{Produce, Fetch, ListOffsets, Metadata}
+use Rattle.request_frames.specs.declared.api.Api.TheVariants.{Produce, Fetch, ListOffsets, Metadata, OffsetCommit, OffsetFetch, Deliver, Clean, Export, Import, Get, Cover, ForgetGroup}
 use Rattle.frame_fields.specs.declared.error.FieldFault.{FieldFault}
 use Rattle.frame_fields.specs.declared.error.FieldFault.TheVariants as field
 use Rattle.frame_fields.specs.declared.error.FrameError.{FrameError}
@@ -14,6 +14,15 @@ use Rattle.request_frames.specs.Produce.{ProduceValue, produce_fields, produce_r
 use Rattle.request_frames.specs.Fetch.{FetchValue, fetch_fields, fetch_request}
 use Rattle.request_frames.specs.ListOffsets.{ListOffsetsPartitionValue, list_offsets_fields, list_offsets_request}
 use Rattle.request_frames.specs.Metadata.{metadata_fields, metadata_request}
+use Rattle.request_frames.specs.OffsetCommit.{OffsetCommitValue, offset_commit_fields, offset_commit_request}
+use Rattle.request_frames.specs.OffsetFetch.{OffsetFetchValue, offset_fetch_fields, offset_fetch_request}
+use Rattle.request_frames.specs.Deliver.{DeliverValue, deliver_fields, deliver_request}
+use Rattle.request_frames.specs.Clean.{CleanValue, clean_fields, clean_request}
+use Rattle.request_frames.specs.Export.{ExportValue, export_fields, export_request}
+use Rattle.request_frames.specs.Import.{ImportValue, import_fields, import_request}
+use Rattle.request_frames.specs.Get.{GetValue, get_fields, get_request}
+use Rattle.request_frames.specs.Cover.{CoverValue, cover_fields, cover_request}
+use Rattle.request_frames.specs.ForgetGroup.{forget_group_fields, forget_group_request}
 
 -- ---- the fields
 
@@ -23,6 +32,15 @@ fields_of Produce = produce_fields
 fields_of Fetch = fetch_fields
 fields_of ListOffsets = list_offsets_fields
 fields_of Metadata = metadata_fields
+fields_of OffsetCommit = offset_commit_fields
+fields_of OffsetFetch = offset_fetch_fields
+fields_of Deliver = deliver_fields
+fields_of Clean = clean_fields
+fields_of Export = export_fields
+fields_of Import = import_fields
+fields_of Get = get_fields
+fields_of Cover = cover_fields
+fields_of ForgetGroup = forget_group_fields
 
 -- ---- what requests say
 
@@ -31,6 +49,15 @@ pub data BodyValue : Type 0 where
   fetch : FetchValue → BodyValue
   list_offsets : List (TopicOf ListOffsetsPartitionValue) → BodyValue
   metadata : Option (List (List ℕ)) → BodyValue
+  offset_commit : OffsetCommitValue → BodyValue
+  offset_fetch : OffsetFetchValue → BodyValue
+  deliver : DeliverValue → BodyValue
+  clean : CleanValue → BodyValue
+  export : ExportValue → BodyValue
+  import : ImportValue → BodyValue
+  get : GetValue → BodyValue
+  cover : CoverValue → BodyValue
+  forget_group : List ℕ → BodyValue
 
 pub record RequestValue : Type 0 where
   pub correlation : ℤ
@@ -41,6 +68,15 @@ body_value Produce v = produce (produce_request v)
 body_value Fetch v = fetch (fetch_request v)
 body_value ListOffsets v = list_offsets (list_offsets_request v)
 body_value Metadata v = metadata (metadata_request v)
+body_value OffsetCommit v = offset_commit (offset_commit_request v)
+body_value OffsetFetch v = offset_fetch (offset_fetch_request v)
+body_value Deliver v = deliver (deliver_request v)
+body_value Clean v = clean (clean_request v)
+body_value Export v = export (export_request v)
+body_value Import v = import (import_request v)
+body_value Get v = get (get_request v)
+body_value Cover v = cover (cover_request v)
+body_value ForgetGroup v = forget_group (forget_group_request v)
 
 -- ---- frames
 

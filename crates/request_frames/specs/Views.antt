@@ -8,7 +8,16 @@ use Rattle.request_frames.specs.Produce.{produce_view}
 use Rattle.request_frames.specs.Fetch.{fetch_view}
 use Rattle.request_frames.specs.ListOffsets.{list_offsets_view}
 use Rattle.request_frames.specs.Metadata.{metadata_view}
-use Rattle.request_frames.specs.Requests.BodyValue.{produce, fetch, list_offsets, metadata}
+use Rattle.request_frames.specs.OffsetCommit.{offset_commit_view}
+use Rattle.request_frames.specs.OffsetFetch.{offset_fetch_view}
+use Rattle.request_frames.specs.Deliver.{deliver_view}
+use Rattle.request_frames.specs.Clean.{clean_view}
+use Rattle.request_frames.specs.Export.{export_view}
+use Rattle.request_frames.specs.Import.{import_view}
+use Rattle.request_frames.specs.Get.{get_view}
+use Rattle.request_frames.specs.Cover.{cover_view}
+use Rattle.request_frames.specs.ForgetGroup.{forget_group_view}
+use Rattle.request_frames.specs.Requests.BodyValue.{produce, fetch, list_offsets, metadata, offset_commit, offset_fetch, deliver, clean, export, import, get, cover, forget_group}
 use Rattle.request_frames.specs.Requests.{BodyValue, RequestValue, key_of, version_of, correlation_of}
 
 abbrev pub request_body : RequestBody → BodyValue
@@ -16,6 +25,15 @@ request_body (variants.Produce r) = produce (produce_view r)
 request_body (variants.Fetch r) = fetch (fetch_view r)
 request_body (variants.ListOffsets r) = list_offsets (list_offsets_view r)
 request_body (variants.Metadata r) = metadata (metadata_view r)
+request_body (variants.OffsetCommit r) = offset_commit (offset_commit_view r)
+request_body (variants.OffsetFetch r) = offset_fetch (offset_fetch_view r)
+request_body (variants.Deliver r) = deliver (deliver_view r)
+request_body (variants.Clean r) = clean (clean_view r)
+request_body (variants.Export r) = export (export_view r)
+request_body (variants.Import r) = import (import_view r)
+request_body (variants.Get r) = get (get_view r)
+request_body (variants.Cover r) = cover (cover_view r)
+request_body (variants.ForgetGroup r) = forget_group (forget_group_view r)
 
 abbrev pub request_value : Request → RequestValue
 request_value q = record { correlation = q.correlation; body = request_body q.body }

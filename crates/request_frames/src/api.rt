@@ -1,11 +1,11 @@
 //! Which request a frame is.
 
-ghost use Rattle.std.specs.Prelude.{◌≡◌, IfOk, IfErr};
+ghost use Rattle.std.specs.Prelude.{◌≡◌, ◌≢◌, IfSome, IfNone, IfOk, IfErr};
 ghost use Rattle.request_frames.specs.Apis.{api_key, api_version, IsApi, IsNoApi};
 
 use frame_fields::FrameError;
 
-/// A kind of request that is read, in its one version.
+/// A kind of request that is read, in its one version. From Deliver on they are this project's own.
 #[derive(Clone, Copy, Debug)]
 pub enum Api {
     /// Produce, version 3.
@@ -16,6 +16,24 @@ pub enum Api {
     ListOffsets,
     /// Metadata, version 1.
     Metadata,
+    /// OffsetCommit, version 2.
+    OffsetCommit,
+    /// OffsetFetch, version 1.
+    OffsetFetch,
+    /// Deliver, version 0.
+    Deliver,
+    /// Clean, version 0.
+    Clean,
+    /// Export, version 0.
+    Export,
+    /// Import, version 0.
+    Import,
+    /// Get, version 0.
+    Get,
+    /// Cover, version 0.
+    Cover,
+    /// ForgetGroup, version 0.
+    ForgetGroup,
 }
 
 impl Api {
@@ -28,6 +46,15 @@ impl Api {
             Api::Fetch => 1,
             Api::ListOffsets => 2,
             Api::Metadata => 3,
+            Api::OffsetCommit => 8,
+            Api::OffsetFetch => 9,
+            Api::Deliver => 20_000,
+            Api::Clean => 20_001,
+            Api::Export => 20_002,
+            Api::Import => 20_003,
+            Api::Get => 20_004,
+            Api::Cover => 20_005,
+            Api::ForgetGroup => 20_006,
         }
     }
 
@@ -40,6 +67,38 @@ impl Api {
             Api::Fetch => 4,
             Api::ListOffsets => 1,
             Api::Metadata => 1,
+            Api::OffsetCommit => 2,
+            Api::OffsetFetch => 1,
+            Api::Deliver => 0,
+            Api::Clean => 0,
+            Api::Export => 0,
+            Api::Import => 0,
+            Api::Get => 0,
+            Api::Cover => 0,
+            Api::ForgetGroup => 0,
+        }
+    }
+
+    /// The request of this key, `None` where none has it.
+    fn of_key(key: i16) -> Option<Api>
+        ensures found { IfSome result (λ api. key ≡ api_key api) }
+        ensures none { IfNone result ((api : Api) → key ≢ api_key api) }
+    {
+        match key {
+            0 => Some(Api::Produce),
+            1 => Some(Api::Fetch),
+            2 => Some(Api::ListOffsets),
+            3 => Some(Api::Metadata),
+            8 => Some(Api::OffsetCommit),
+            9 => Some(Api::OffsetFetch),
+            20_000 => Some(Api::Deliver),
+            20_001 => Some(Api::Clean),
+            20_002 => Some(Api::Export),
+            20_003 => Some(Api::Import),
+            20_004 => Some(Api::Get),
+            20_005 => Some(Api::Cover),
+            20_006 => Some(Api::ForgetGroup),
+            _ => None,
         }
     }
 
@@ -49,12 +108,8 @@ impl Api {
         ensures found { IfOk result (λ api. IsApi key version api) }
         ensures refused { IfErr result (IsNoApi key version) }
     {
-        let api = match key {
-            0 => Api::Produce,
-            1 => Api::Fetch,
-            2 => Api::ListOffsets,
-            3 => Api::Metadata,
-            _ => return Err(FrameError::UnknownApi),
+        let Some(api) = Api::of_key(key) else {
+            return Err(FrameError::UnknownApi);
         };
         if version == api.version() {
             Ok(api)

@@ -3,22 +3,40 @@
 #![tactic(auto)]
 
 mod api;
+mod clean;
+mod cover;
+mod deliver;
+mod export;
 mod fetch;
+mod forget_group;
+mod get;
+mod import;
 mod laws;
 mod list_offsets;
 mod metadata;
+mod offset_commit;
+mod offset_fetch;
 mod parsing;
 mod produce;
 
 pub use api::Api;
+pub use clean::CleanRequest;
+pub use cover::CoverRequest;
+pub use deliver::DeliverRequest;
+pub use export::ExportRequest;
 pub use fetch::{FetchPartition, FetchRequest};
+pub use forget_group::ForgetGroupRequest;
 pub use frame_fields::{
     Array, Element, FieldFault, FrameError, MAX_FRAME, MAX_TOPIC_NAME, Name, Topic, Topics,
     fields_once, frames_once, is_topic_name, take_frame,
 };
+pub use get::GetRequest;
+pub use import::ImportRequest;
 pub use laws::one_outcome;
 pub use list_offsets::{ListOffsetsPartition, ListOffsetsRequest};
 pub use metadata::MetadataRequest;
+pub use offset_commit::{OffsetCommitPartition, OffsetCommitRequest};
+pub use offset_fetch::{OffsetFetchPartition, OffsetFetchRequest};
 pub use parsing::{Request, RequestBody, parse};
 pub use produce::{ProducePartition, ProduceRequest};
 pub use responses as response;

@@ -7,9 +7,18 @@ ghost use Rattle.request_frames.specs.Requests.{fields_of, body_fields, body_val
 ghost use Rattle.request_frames.specs.Views.{request_body, request_value, IsHeaderOf};
 
 use crate::api::Api;
+use crate::clean::{CleanRequest, clean_at};
+use crate::cover::{CoverRequest, cover_at};
+use crate::deliver::{DeliverRequest, deliver_at};
+use crate::export::{ExportRequest, export_at};
 use crate::fetch::{FetchRequest, fetch_at};
+use crate::forget_group::{ForgetGroupRequest, forget_group_at};
+use crate::get::{GetRequest, get_at};
+use crate::import::{ImportRequest, import_at};
 use crate::list_offsets::{ListOffsetsRequest, list_offsets_at};
 use crate::metadata::{MetadataRequest, metadata_at};
+use crate::offset_commit::{OffsetCommitRequest, offset_commit_at};
+use crate::offset_fetch::{OffsetFetchRequest, offset_fetch_at};
 use crate::produce::{ProduceRequest, produce_at};
 use frame_fields::fields::nullable_string;
 use frame_fields::{FieldFault, FrameError};
@@ -34,6 +43,24 @@ pub enum RequestBody<'a> {
     ListOffsets(ListOffsetsRequest<'a>),
     /// The topics and their partitions are listed.
     Metadata(MetadataRequest<'a>),
+    /// Offsets that a group has reached are to be kept.
+    OffsetCommit(OffsetCommitRequest<'a>),
+    /// The offsets that a group has committed are wanted.
+    OffsetFetch(OffsetFetchRequest<'a>),
+    /// A record batch is to be put into a copy.
+    Deliver(DeliverRequest<'a>),
+    /// A copy is to be compacted.
+    Clean(CleanRequest<'a>),
+    /// The image of a copy is wanted.
+    Export(ExportRequest<'a>),
+    /// An image is to be taken into a copy.
+    Import(ImportRequest<'a>),
+    /// The value of a key is wanted.
+    Get(GetRequest<'a>),
+    /// The offsets that a copy has seen are wanted.
+    Cover(CoverRequest<'a>),
+    /// The offsets that a group has committed are to be forgotten.
+    ForgetGroup(ForgetGroupRequest<'a>),
 }
 
 /// The fixed fields that each request begins with.
@@ -66,6 +93,15 @@ fn body_at(api: Api, bytes: &[u8]) -> Result<(RequestBody<'_>, &[u8]), FieldFaul
         Api::Fetch => fetch_at(bytes),
         Api::ListOffsets => list_offsets_at(bytes),
         Api::Metadata => metadata_at(bytes),
+        Api::OffsetCommit => offset_commit_at(bytes),
+        Api::OffsetFetch => offset_fetch_at(bytes),
+        Api::Deliver => deliver_at(bytes),
+        Api::Clean => clean_at(bytes),
+        Api::Export => export_at(bytes),
+        Api::Import => import_at(bytes),
+        Api::Get => get_at(bytes),
+        Api::Cover => cover_at(bytes),
+        Api::ForgetGroup => forget_group_at(bytes),
     }
 }
 

@@ -3,3 +3,12 @@ pub mod Produce
 pub mod Fetch
 pub mod ListOffsets
 pub mod Metadata
+pub mod OffsetCommit
+pub mod OffsetFetch
+pub mod Deliver
+pub mod Clean
+pub mod Export
+pub mod Import
+pub mod Get
+pub mod Cover
+pub mod ForgetGroup

@@ -1,6 +1,6 @@
 -- What all responses have: the frame, and the heads of topics. Kafka's documentation, "Protocol Guide", sections
 -- "Response Header" and "The Messages".
-use Rattle.std.specs.Prelude.{ℕ, ℤ, pos, List, ◌++◌, length, map}
+use Rattle.std.specs.Prelude.{ℕ, ℤ, pos, negsuc, List, ◌++◌, length, map, Option, Some, None}
 use Rattle.std.specs.List.{flat_map}
 use Rattle.frame_fields.specs.Fields.{size32, Fields, end, Value, be, encoded}
 use Rattle.frame_fields.specs.Frames.{framed}
@@ -26,3 +26,10 @@ topic_head name count = encoded (string ⨾ int32 ⨾ end) (name, (pos count, tt
 
 abbrev pub topic_bytes : {Entry : Type 0} → (Entry → List ℕ) → TopicOf Entry → List ℕ
 topic_bytes f t = topic_head t.name (length t.entries) ++ flat_map f t.entries
+
+-- ---- bytes that may be null
+
+-- the length that stands before them, -1 for null
+abbrev pub length_or_null : Option (List ℕ) → ℤ
+length_or_null None = negsuc 0
+length_or_null (Some bytes) = pos (length bytes)

@@ -4,9 +4,12 @@
 ghost use Rattle.std.specs.Prelude.{◌≤◌, ◌↔◌, ℕ};
 ghost use Rattle.frame_fields.specs.Fields.{size16, size32, FitsLength};
 
+pub use crate::cover::cover_parts;
 pub use crate::fetch::fetch_parts;
 pub use crate::list_offsets::list_offsets_parts;
 pub use crate::metadata::metadata_parts;
+pub use crate::offset_commit::offset_commit_parts;
+pub use crate::offset_fetch::offset_fetch_parts;
 use crate::parts::{MAX_BODY_BYTES, MAX_COUNT, MAX_STRING_BYTES};
 pub use crate::produce::produce_parts;
 

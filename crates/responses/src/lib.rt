@@ -12,14 +12,26 @@
 //! finish_response(&mut out, start);
 //! ```
 //!
+//! What answers a request of one entry is an array: all bytes of its fields, or those before the last
+//! field, where that is bytes or a list.
+//!
 //! A part is the encoding of its fields whatever they are. What is written of a count, a name or a
 //! body above the limits below has a length that can't be read again.
 #![tactic(auto)]
 
+pub mod clean;
+pub mod cover;
+pub mod deliver;
+pub mod export;
 pub mod fetch;
+pub mod forget_group;
+pub mod get;
+pub mod import;
 pub mod laws;
 pub mod list_offsets;
 pub mod metadata;
+pub mod offset_commit;
+pub mod offset_fetch;
 mod parts;
 pub mod produce;
 

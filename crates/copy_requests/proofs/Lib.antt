@@ -1,0 +1,4 @@
+pub mod Counts
+pub mod Deliveries
+pub mod Imported
+pub mod Entries

@@ -1,0 +1,35 @@
+use Rattle.std.proofs.Common.{◌++◌, Ok, to_z, of_z, None, ap, subst, ◌∙◌, FitsSigned, rules}
+use Rattle.std.specs.Int.{w16, w32}
+use Rattle.std.proofs.lemmas.Int.{to_z-of_z}
+use Rattle.answering.specs.Codes.{code_number}
+use Rattle.answering.specs.Doing.{FailsWork, DoesWork}
+use Rattle.answering.proofs.Begun.{on_ok}
+use Rattle.copy_requests.specs.Get.{get_work, get_sent}
+use Rattle.copy_requests.proofs.Entries.{get_answer, done_answers, failed_answers, written}
+use Rattle.copy_requests.proofs.get.reply_to_get.Goals as goal
+
+pub returns-in-Ok-clause-responds : goal.returns-in-Ok-clause-responds
+returns-in-Ok-clause-responds g c =
+    let s = c.args.state.now in
+    let q = c.args.request.now in
+    let fits : FitsSigned w32 q.partition = search rules in
+    let result = get_answer in
+    let did = subst (λ p. DoesWork (get_work s (record { topic = q.topic.now; partition = p; key = q.key.now })) result (Ok c.in-Ok.value) s s) (to_z-of_z w32 q.partition fits) c.in-Ok.ensures in
+    on_ok c.put_answer.result
+    (written get_sent (get_work s (record { topic = q.topic.now; partition = q.partition; key = q.key.now })) s s (result c.in-Ok.value) c.args.correlation _ c.args.out.now.items c.put_answer.new.out.items (to_z-of_z w32 c.args.correlation c.ranges.correlation)
+    (done_answers (get_work s (record { topic = q.topic.now; partition = q.partition; key = q.key.now })) result c.in-Ok.value s s did))
+    c.put_answer.ensures.appends
+
+pub returns-in-Err-clause-responds : goal.returns-in-Err-clause-responds
+returns-in-Err-clause-responds g c =
+    let s = c.args.state.now in
+    let q = c.args.request.now in
+    let n = c.args.correlation in
+    let fits : FitsSigned w32 q.partition = search rules in
+    let number : FitsSigned w16 c.number.result = search rules in
+    let did = subst (λ p. FailsWork (get_work s (record { topic = q.topic.now; partition = p; key = q.key.now })) c.in-Err.fault s s) (to_z-of_z w32 q.partition fits) c.in-Err.ensures in
+    on_ok c.put_answer-in-Err.result
+    (λ e. written get_sent (get_work s (record { topic = q.topic.now; partition = q.partition; key = q.key.now })) s s (record { code = code_number c.in-Err.fault; value = None }) n (to_z w32 (of_z w32 n)) c.args.out.now.items c.put_answer-in-Err.new.out.items (to_z-of_z w32 n c.ranges.correlation)
+    (failed_answers (get_work s (record { topic = q.topic.now; partition = q.partition; key = q.key.now })) c.in-Err.fault s s did)
+    (e ∙ ap (λ code. c.args.out.now.items ++ get_sent (to_z w32 (of_z w32 n)) (record { code = code; value = None })) (to_z-of_z w16 c.number.result number ∙ c.number.ensures)))
+    c.put_answer-in-Err.ensures.appends

@@ -1,0 +1,21 @@
+-- The code that answers each refusal of a delivery and of an image. Which code answers which refusal is this project's own; their numbers
+-- are those of Kafka's documentation, "Protocol Guide", section "Error Codes".
+use Rattle.content.specs.declared.delivery.DeliverError.{DeliverError}
+use Rattle.content.specs.declared.delivery.DeliverError.TheVariants.{NotWhole, NoKey, BadOffset, Overlap, OutOfMemory}
+use Rattle.copy_images.specs.declared.error.ImageError.{ImageError}
+use Rattle.copy_images.specs.declared.error.ImageError.TheVariants as image
+use Rattle.answering.specs.declared.codes.ErrorCode.{ErrorCode}
+use Rattle.answering.specs.declared.codes.ErrorCode.TheVariants.{CorruptMessage, InvalidRecord, OffsetOutOfRange, InvalidRequest, StorageError}
+
+-- of a batch that a copy does not take
+abbrev pub deliver_code : DeliverError → ErrorCode
+deliver_code NotWhole = InvalidRecord
+deliver_code NoKey = InvalidRecord
+deliver_code BadOffset = OffsetOutOfRange
+deliver_code Overlap = InvalidRequest
+deliver_code OutOfMemory = StorageError
+
+-- of bytes that are no image
+abbrev pub image_code : ImageError → ErrorCode
+image_code image.OutOfMemory = StorageError
+image_code e = CorruptMessage

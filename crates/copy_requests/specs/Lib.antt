@@ -1,0 +1,9 @@
+-- Read in this order; each module uses only those above it.
+pub mod Codes
+pub mod Deliver
+pub mod Clean
+pub mod Export
+pub mod Import
+pub mod Get
+pub mod Cover
+pub mod Outcomes

@@ -1,0 +1,37 @@
+//! The error codes that answer each refusal of a delivery and of an image.
+
+ghost use Rattle.std.specs.Prelude.{◌≡◌};
+ghost use Rattle.copy_requests.specs.Codes.{deliver_code, image_code};
+
+use answering::ErrorCode;
+use copy_images::ImageError;
+use partition_log::DeliverError;
+
+/// The code that answers a batch that a copy does not take.
+pub(crate) fn deliver_code(fault: DeliverError) -> ErrorCode
+    ensures { result ≡ deliver_code fault }
+{
+    match fault {
+        DeliverError::NotWhole | DeliverError::NoKey => ErrorCode::InvalidRecord,
+        DeliverError::BadOffset => ErrorCode::OffsetOutOfRange,
+        DeliverError::Overlap => ErrorCode::InvalidRequest,
+        DeliverError::OutOfMemory => ErrorCode::StorageError,
+    }
+}
+
+/// The code that answers bytes that are no image.
+pub(crate) fn image_code(fault: ImageError) -> ErrorCode
+    ensures { result ≡ image_code fault }
+{
+    match fault {
+        ImageError::Short
+        | ImageError::BadMark
+        | ImageError::BadVersion
+        | ImageError::BadCrc
+        | ImageError::BadCover
+        | ImageError::BadBatch(_)
+        | ImageError::Outside
+        | ImageError::Extra => ErrorCode::CorruptMessage,
+        ImageError::OutOfMemory => ErrorCode::StorageError,
+    }
+}

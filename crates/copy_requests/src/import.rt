@@ -1,0 +1,178 @@
+//! Import: a copy that comes as an image.
+
+ghost use Rattle.std.specs.Prelude.{◌≡◌, OnOk, OnErr};
+ghost use Rattle.request_frames.specs.Import.{import_view};
+ghost use Rattle.answering.specs.Work.{MayAnswer};
+ghost use Rattle.answering.specs.Doing.{DoesWork};
+ghost use Rattle.answering.specs.Once.{WritesOnce};
+ghost use Rattle.broker_state.specs.declared.config.Role.TheVariants.{Leader, Follower};
+ghost use Rattle.copy_requests.specs.Import.{has_begun, imported_answer, import_work, import_sent};
+ghost use Rattle.copy_requests.specs.Import.Images.{IsReadAs, IsPlaceToImport};
+ghost use Rattle.copy_requests.specs.Outcomes.{Imports};
+
+use crate::codes::image_code;
+use answering::{ErrorCode, respond_once};
+use broker_state::{BrokerState, Change, Place, Role};
+use copy_images::read_image;
+use copy_merge::{MergeError, merge_into};
+use partition_log::{Gapped, LeaderLog, PartitionLog};
+use request_frames::ImportRequest;
+use responses::RESPONSE_HEAD_BYTES;
+use responses::import::{IMPORT_ANSWER_BYTES, ImportAnswer, import_answer_bytes};
+use segment::BatchStore;
+use std::alloc::{AllocError, Allocator};
+
+/// A copy that comes.
+#[derive(Drop)]
+struct Importing<S: BatchStore> {
+    copy: PartitionLog<S>,
+}
+
+/// Makes a copy the log that is led.
+fn lead<S: BatchStore>(log: &mut LeaderLog<S>, copy: PartitionLog<S>) -> Result<(), ErrorCode>
+    ensures { Imports Leader copy result log.old log.new }
+{
+    let _ = copy.end();
+    match LeaderLog::from_copy(copy) {
+        Ok(led) => {
+            *log = led;
+            Ok(())
+        }
+        Err(Gapped { .. }) => Err(ErrorCode::InvalidRequest),
+    }
+}
+
+/// Merges a copy into the one that follows.
+fn merge_copy<S: BatchStore>(
+    here: &mut PartitionLog<S>,
+    copy: &PartitionLog<S>,
+) -> Result<(), ErrorCode>
+    ensures { Imports Follower copy.now result here.old here.new }
+{
+    let _ = (here.end(), copy.end());
+    match merge_into(here, copy) {
+        Ok(()) => Ok(()),
+        Err(MergeError::Disagree { .. }) => Err(ErrorCode::InvalidRequest),
+        Err(MergeError::OutOfMemory) => Err(ErrorCode::StorageError),
+    }
+}
+
+impl<S: BatchStore> Change<S, Result<(), ErrorCode>> for Importing<S> {
+    ghost use Rattle.std.specs.Prelude.{⊤};
+    ghost use Rattle.copy_requests.specs.Outcomes.{Imports};
+
+    ghost suits = { λ importing role. ⊤ };
+
+    ghost changes = { λ importing role result here after.
+        Imports role importing.copy result here after };
+
+    fn change_log(self, log: &mut LeaderLog<S>) -> Result<(), ErrorCode> {
+        lead(log, self.copy)
+    }
+
+    fn change_copy(self, copy: &mut PartitionLog<S>) -> Result<(), ErrorCode> {
+        merge_copy(copy, &self.copy)
+    }
+}
+
+/// Whether offsets of a log were given out already.
+fn has_begun<S: BatchStore>(copy: &PartitionLog<S>) -> bool
+    ensures { result ≡ has_begun copy.now }
+{
+    !copy.cover().ranges().is_empty() || copy.start() != 0
+}
+
+/// The copy that bytes are the image of.
+fn read_copy<S: BatchStore>(alloc: S::Alloc, image: &[u8]) -> Result<PartitionLog<S>, ErrorCode>
+    ensures { IsReadAs image.now result }
+{
+    match read_image(alloc, image) {
+        Ok(copy) => Ok(copy),
+        Err(fault) => Err(image_code(fault)),
+    }
+}
+
+/// The place of a partition that takes a copy.
+fn place_to_import<S: BatchStore>(
+    state: &BrokerState<S>,
+    topic: &[u8],
+    partition: i32,
+) -> Result<Place, ErrorCode>
+    ensures { IsPlaceToImport state.now topic.now partition result }
+{
+    let Some(place) = state.place_of(topic, partition) else {
+        return Err(ErrorCode::UnknownTopicOrPartition);
+    };
+    match state.role() {
+        Role::Leader if has_begun(state.copy_at(place)) => Err(ErrorCode::InvalidRequest),
+        _ => Ok(place),
+    }
+}
+
+/// Does what an Import request asks for, or finds its first fault.
+fn try_import<S: BatchStore>(
+    state: &mut BrokerState<S>,
+    topic: &[u8],
+    partition: i32,
+    image: &[u8],
+) -> Result<(), ErrorCode>
+    ensures { DoesWork (import_work state.old
+        (record { topic = topic.now; partition = partition; image = image.now }))
+        imported_answer result state.old state.new }
+{
+    let place = match place_to_import(state, topic, partition) {
+        Ok(place) => place,
+        Err(fault) => return Err(fault),
+    };
+    let alloc = state.copy_at(place).allocator();
+    match read_copy(alloc, image) {
+        Ok(copy) => state.change_at(place, Importing { copy }),
+        Err(fault) => Err(fault),
+    }
+}
+
+/// What is answered to an Import request, whose copy is then taken or refused.
+fn import_entry<S: BatchStore>(
+    state: &mut BrokerState<S>,
+    request: &ImportRequest<'_>,
+) -> ImportAnswer
+    ensures { MayAnswer (import_work state.old (import_view request.now))
+        state.old result state.new }
+{
+    match try_import(state, request.topic, request.partition, request.image) {
+        Ok(()) => ImportAnswer { code: 0 },
+        Err(fault) => ImportAnswer {
+            code: fault.number(),
+        },
+    }
+}
+
+/// Takes the copy of an Import request into a partition, and appends the response to the output. Its
+/// room is taken before anything changes.
+///
+/// Where there is no memory for the copy the partition is as it was, and the answer is the error code
+/// of a storage error.
+///
+/// # Errors
+///
+/// `AllocError` where there is no memory for the response; then nothing was imported, and the output is
+/// as before.
+pub fn reply_to_import<S: BatchStore, A: Allocator + Copy>(
+    state: &mut BrokerState<S>,
+    correlation: i32,
+    request: &ImportRequest<'_>,
+    out: &mut Vec<u8, A>,
+) -> Result<(), AllocError>
+    ensures responds { OnOk result (WritesOnce (import_sent correlation)
+        (import_work state.old (import_view request.now)) state.old
+        out.old.items out.new.items state.new) }
+    ensures unchanged_on_error { OnErr result
+        ((state.new ≡ state.old) × (out.new.items ≡ out.old.items)) }
+{
+    out.reserve(RESPONSE_HEAD_BYTES + IMPORT_ANSWER_BYTES)?;
+    let answer = import_answer_bytes(import_entry(state, request));
+    let Ok(()) = respond_once(correlation, &[], &[], &answer, out) else {
+        unreachable!()
+    };
+    Ok(())
+}

@@ -1,0 +1,26 @@
+//! Laws of what these requests are judged by, over the definitions alone. The functions do nothing: what
+//! they ensure is the law.
+
+ghost use Rattle.std.specs.Prelude.{◌≡◌, ◌↔◌, true, None};
+ghost use Rattle.batch_codec.specs.Values.{BatchValue};
+ghost use Rattle.content.specs.declared.delivery.DeliverError.{DeliverError};
+ghost use Rattle.content.specs.Content.{Content, IsContent};
+ghost use Rattle.content.specs.Deliveries.{IsAccepted, Refuses};
+ghost use Rattle.partition_log.specs.Appends.{IsGapless};
+ghost use Rattle.copy_requests.specs.Deliver.{deliver_fault};
+ghost use Rattle.copy_requests.specs.Import.{is_gapless};
+ghost use Rattle.copy_requests.specs.Outcomes.{IsDeliverFault};
+
+/// The fault for which a copy refuses a batch is the one that the checks of a reply find. They find none in
+/// a batch that it takes.
+pub fn deliver_faults()
+    ensures refusal_is_fault { (c : Content) (b : BatchValue) (e : DeliverError) → IsContent c
+        → Refuses c b e → IsDeliverFault e (deliver_fault c b) }
+    ensures accepted_has_no_fault { (c : Content) (b : BatchValue) → IsContent c
+        → IsAccepted c b → deliver_fault c b ≡ None }
+{}
+
+/// Whether a copy has no gap can be found out by its runs.
+pub fn gaps_are_decided()
+    ensures { (c : Content) → IsContent c → (is_gapless c ≡ true) ↔ IsGapless c }
+{}

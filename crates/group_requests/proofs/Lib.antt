@@ -1,0 +1,5 @@
+pub mod ForgottenKeys
+pub mod GroupAppends
+pub mod OffsetCommitEntries
+pub mod OffsetCommitReplies
+pub mod OffsetFetchReplies

@@ -1,0 +1,12 @@
+use Rattle.std.proofs.Common.{pos}
+use Rattle.broker_state.specs.State.{group_topic}
+use Rattle.group_requests.proofs.GroupAppends.{is_appended, is_not_appended}
+use Rattle.group_requests.proofs.group_partition.append_view.Goals as goal
+
+pub returns-in-Ok : goal.returns-in-Ok
+returns-in-Ok g c =
+    is_appended c.args.state.now c.append_at.new.self c.args.batch.now _ (c.in-Ok.ensures group_topic (pos 0) c.group_place-place.ensures)
+
+pub returns-in-Err : goal.returns-in-Err
+returns-in-Err g c =
+    is_not_appended c.args.state.now c.append_at.new.self c.args.batch.now c.in-Err.fault c.append_code.result c.append_code.ensures (c.in-Err.ensures group_topic (pos 0) c.group_place-place.ensures)

@@ -1,0 +1,23 @@
+//! The response to Import, version 0.
+
+ghost use Rattle.std.specs.Prelude.{◌≡◌};
+ghost use Rattle.frame_fields.specs.Fields.{encoded};
+ghost use Rattle.responses.specs.Import.{import_response, import_value};
+
+/// The number of bytes of the fields.
+pub const IMPORT_ANSWER_BYTES: usize = 2;
+
+/// The answer to an import.
+#[derive(Clone, Copy)]
+pub struct ImportAnswer {
+    /// The error code, 0 for none.
+    pub code: i16,
+}
+
+/// The bytes of the fields.
+#[tactic(auto, unfolding(frame_fields::specs::Fields::encoded))]
+pub fn import_answer_bytes(answer: ImportAnswer) -> [u8; IMPORT_ANSWER_BYTES]
+    ensures { result ≡ encoded import_response (import_value answer) }
+{
+    answer.code.to_be_bytes()
+}
