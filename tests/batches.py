@@ -1,4 +1,5 @@
-"""Record batches by Kafka's public documentation of the format ("Record Batch", magic 2).
+"""Record batches by Kafka's public documentation of the format ("Record Batch", magic 2), and those of group records by
+docs/FORMATS.md.
 
 It shares nothing with the program that is tested on them.
 """
@@ -92,8 +93,34 @@ def nullable(text):
     return None if text == "null" else unescaped(text)
 
 
-def record_of(word, delta):
-    """Returns an encoded record and its offset delta, from KEY=VALUE and then ;FIELD:VALUE or ;header:NAME=VALUE."""
+def pair_of(words):
+    """A key and a value, from KEY=VALUE."""
+    key, value = words.split("=")
+    return nullable(key), nullable(value)
+
+
+def name_of(words):
+    """A text behind its size, an int16, which is -1 for `null`."""
+    held = nullable(words)
+    return struct.pack(">h", -1) if held is None else struct.pack(">h", len(held)) + held
+
+
+def position_of(words):
+    """The key and the value of a group record, from GROUP/TOPIC/PARTITION=OFFSET[/METADATA], or with the value as `null` or
+    hex:HH.."""
+    key, value = words.split("=")
+    group, topic, partition = key.split("/")
+    key = struct.pack(">h", 1) + name_of(group) + name_of(topic) + struct.pack(">i", int(partition))
+    if value == "null":
+        return key, None
+    if value.startswith("hex:"):
+        return key, bytes.fromhex(value[4:])
+    offset, _, metadata = value.partition("/")
+    return key, struct.pack(">hq", 0, int(offset)) + name_of(metadata)
+
+
+def record_of(word, delta, read):
+    """Returns an encoded record and its offset delta, from what `read` takes, and ;FIELD:VALUE or ;header:NAME=VALUE."""
     if word.startswith("hex:"):
         return bytes.fromhex(word[4:]), delta
     pair, *more = word.split(";")
@@ -105,19 +132,27 @@ def record_of(word, delta):
         else:
             fields[name] = int(value, 0)
     delta = fields.get("delta", delta)
-    key, value = pair.split("=")
-    return record(delta, nullable(key), nullable(value), headers, fields), delta
+    return record(delta, *read(pair), headers, fields), delta
 
 
-def batch_of(words):
-    """The batch of words that are FIELD:VALUE or records; an offset delta is one above that of the record before."""
-    fields, records, delta = {}, [], -1
-    for word in words:
+def each_of(word):
+    """The words of each:N:WORD, with 0 to N - 1 for its `#`, and any other word by itself."""
+    if not word.startswith("each:"):
+        return [word]
+    _, count, word = word.split(":", 2)
+    return [word.replace("#", str(n)) for n in range(int(count))]
+
+
+def batch_of(words, read, fields):
+    """The batch of words that are FIELD:VALUE or records; an offset delta is one above that of the record before. `read`
+    gives a record's key and value."""
+    records, delta = [], -1
+    for word in (it for each in words for it in each_of(each)):
         name, colon, value = word.partition(":")
         if colon and name in FIELDS:
             fields[name] = int(value, 0)
         else:
-            made, delta = record_of(word, delta + 1)
+            made, delta = record_of(word, delta + 1, read)
             records.append(made)
     return batch(records, fields)
 
@@ -135,7 +170,9 @@ def input_of(words, root):
             data = file.read()
         return data[: int(size)] if size else data
     if kind == "batch":
-        return batch_of(rest.split())
+        return batch_of(rest.split(), pair_of, {})
+    if kind == "positions":
+        return batch_of(rest.split(), position_of, {"time": -1, "maxtime": -1})
     if kind == "each":
         count, _, form = rest.partition(" ")
         return b"".join(input_of(form.replace("#", str(n)), root) for n in range(int(count)))

@@ -1,4 +1,5 @@
-"""Images of copies as docs/FORMATS.md has them, and lines of scripts.
+"""Images of copies, and requests about copies and groups that Kafka has none for, as docs/FORMATS.md has them; and lines of
+scripts.
 
 It shares nothing with the program that is tested on them.
 """
@@ -28,12 +29,15 @@ def image(ranges, kept, fields):
 
 
 def ranges_of(words):
-    """FIRST-LAST with commas between, or `none`, or `even:N`, the first N even offsets."""
-    if words == "none":
-        return []
-    if words.startswith("even:"):
-        return [(2 * n, 2 * n) for n in range(int(words.removeprefix("even:")))]
-    return [tuple(int(it) for it in re.fullmatch(r"(-?\d+)-(-?\d+)", each).groups()) for each in words.split(",")]
+    """`none`, or with commas between FIRST-LAST and `even:N`, N even offsets from 0, or `even:N:FROM`."""
+    found = []
+    for it in words.split(",") if words != "none" else []:
+        if it.startswith("even:"):
+            count, _, first = it.removeprefix("even:").partition(":")
+            found += [(offset, offset) for offset in range(int(first or 0), int(first or 0) + 2 * int(count), 2)]
+        else:
+            found.append(tuple(int(each) for each in re.fullmatch(r"(-?\d+)-(-?\d+)", it).groups()))
+    return found
 
 
 def image_of(words, root):
@@ -46,6 +50,103 @@ def image_of(words, root):
         name, colon, rest = words.partition(":")
     ranges, _, forms = words.partition(" ")
     return image(ranges_of(ranges), [input_of(it, root) for it in forms.split(" + ") if it], fields)
+
+
+# ---- requests about a partition's copy, and the one that forgets a group
+
+
+def of_copy(key, words, encode):
+    """The request with this key for `TOPIC:PARTITION REST`; `encode` gives the bytes behind the partition."""
+    name, partition, rest = frames.place_of(words)
+    return frames.request(key, 0, frames.text(name) + partition + encode(rest))
+
+
+def sent_of(words, root):
+    """BYTES of inputs with ` + ` between, or of none."""
+    return frames.data(b"".join(input_of(it, root) for it in words.split(" + ") if it))
+
+
+def deliver(words, root):
+    return of_copy(20000, words, lambda it: sent_of(it, root))
+
+
+def clean(words, root):
+    return of_copy(20001, words, lambda it: struct.pack(">qq", *(int(each) for each in it.split())))
+
+
+def export(words, root):
+    return of_copy(20002, words, lambda _: b"")
+
+
+def import_(words, root):
+    return of_copy(20003, words, lambda it: frames.data(input_of(it, root) if it else b""))
+
+
+def get(words, root):
+    return of_copy(20004, words, lambda it: frames.data(batches.unescaped(it)))
+
+
+def cover(words, root):
+    return of_copy(20005, words, lambda _: b"")
+
+
+def forget(words, root):
+    return frames.request(20006, 0, frames.text(batches.unescaped(words)))
+
+
+REQUESTS = {
+    "deliver": deliver,
+    "clean": clean,
+    "export": export,
+    "import": import_,
+    "get": get,
+    "cover": cover,
+    "forget": forget,
+}
+
+
+def delivered(words, root):
+    return frames.response(struct.pack(">hb", *(int(it) for it in words.split())))
+
+
+def cleaned(words, root):
+    return frames.response(struct.pack(">hqqq", *(int(it) for it in words.split())))
+
+
+def exported(words, root):
+    code, _, form = words.partition(" ")
+    return frames.response(struct.pack(">h", int(code)) + frames.data(input_of(form, root) if form else b""))
+
+
+def imported(words, root):
+    return frames.response(struct.pack(">h", int(words)))
+
+
+def got(words, root):
+    code, _, value = words.partition(" ")
+    value = batches.nullable(value)
+    return frames.response(struct.pack(">h", int(code)) + (struct.pack(">i", -1) if value is None else frames.data(value)))
+
+
+def covered(words, root):
+    code, _, ranges = words.partition(" ")
+    ranges = [struct.pack(">qq", first, last) for first, last in ranges_of(ranges)]
+    return frames.response(struct.pack(">h", int(code)) + frames.array(ranges))
+
+
+def forgotten(words, root):
+    return frames.response(struct.pack(">hi", *(int(it) for it in words.split())))
+
+
+RESPONSES = {
+    "delivered": delivered,
+    "cleaned": cleaned,
+    "exported": exported,
+    "imported": imported,
+    "got": got,
+    "covered": covered,
+    "forgotten": forgotten,
+}
 
 
 def flipped(data, at):
@@ -78,6 +179,8 @@ def input_of(words, root):
     if kind in ("cut", "flip"):
         number, _, form = rest.partition(" ")
         return CHANGES[kind](input_of(form, root), int(number))
+    if kind in REQUESTS:
+        return REQUESTS[kind](rest, root)
     return frames.input_of(words, root)
 
 
@@ -89,4 +192,6 @@ def reply_of(words, root):
         return b"".join(reply_of(form.replace("#", str(n)), root) for n in range(int(count)))
     if kind in ("line", "image"):
         return input_of(words, root)
+    if kind in RESPONSES:
+        return RESPONSES[kind](rest, root)
     return frames.reply_of(words, root)

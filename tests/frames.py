@@ -29,13 +29,28 @@ def topics(entries):
     return array([text(name) + array(held) for name, held in grouped])
 
 
+def each_of(words):
+    """The entries of `each N ENTRY`, with 0 to N - 1 for its `#`, and any other entry by itself."""
+    kind, _, rest = words.partition(" ")
+    if kind != "each":
+        return [words]
+    count, _, entry = rest.partition(" ")
+    return [entry.replace("#", str(n)) for n in range(int(count))]
+
+
+def place_of(words):
+    """The name and the partition of `TOPIC:PARTITION REST`, and the rest."""
+    place, _, rest = words.partition(" ")
+    name, _, partition = place.rpartition(":")
+    return batches.unescaped(name), struct.pack(">i", int(partition)), rest
+
+
 def entries_of(words, encode):
     """Entries `TOPIC:PARTITION REST`, with ` | ` between; `encode` gives the bytes behind the partition."""
     made = []
-    for it in words.split(" | "):
-        place, _, rest = it.strip().partition(" ")
-        name, _, partition = place.rpartition(":")
-        made.append((batches.unescaped(name), struct.pack(">i", int(partition)) + encode(rest)))
+    for it in (it for each in words.split(" | ") for it in each_of(each.strip())):
+        name, partition, rest = place_of(it)
+        made.append((name, partition + encode(rest)))
     return topics(made)
 
 
@@ -86,7 +101,31 @@ def metadata(words, root):
     return request(3, 1, array([text(batches.unescaped(it)) for it in words.split(",") if words != "none"]))
 
 
-REQUESTS = {"produce": produce, "fetch": fetch, "listoffsets": listoffsets, "metadata": metadata}
+def commit(words, root):
+    """Without a member, and with retention -1."""
+    given, words = options(words, ("group", "generation"))
+    group, generation = batches.unescaped(given.get("group", "g")), int(given.get("generation", -1))
+
+    def entry(rest):
+        offset, _, metadata = rest.partition(" ")
+        return struct.pack(">q", int(offset)) + batches.name_of(metadata)
+
+    return request(8, 2, text(group) + struct.pack(">ihq", generation, 0, -1) + entries_of(words, entry))
+
+
+def offsets(words, root):
+    given, words = options(words, ("group",))
+    return request(9, 1, text(batches.unescaped(given.get("group", "g"))) + entries_of(words, lambda _: b""))
+
+
+REQUESTS = {
+    "produce": produce,
+    "fetch": fetch,
+    "listoffsets": listoffsets,
+    "metadata": metadata,
+    "commit": commit,
+    "offsets": offsets,
+}
 
 
 def sent_of(words, root):
@@ -156,7 +195,30 @@ def described(words, root):
     return response(array([broker]) + struct.pack(">i", 1 if leads else -1) + array(made))
 
 
-RESPONSES = {"produced": produced, "fetched": fetched, "listed": listed, "described": described}
+def committed(words, root):
+    """Of each entry its code."""
+    return response(entries_of(words, lambda it: struct.pack(">h", int(it))))
+
+
+def found(words, root):
+    """Of each entry its code, its offset and its metadata."""
+
+    def entry(rest):
+        code, _, rest = rest.partition(" ")
+        offset, _, metadata = rest.partition(" ")
+        return struct.pack(">q", int(offset)) + batches.name_of(metadata) + struct.pack(">h", int(code))
+
+    return response(entries_of(words, entry))
+
+
+RESPONSES = {
+    "produced": produced,
+    "fetched": fetched,
+    "listed": listed,
+    "described": described,
+    "committed": committed,
+    "found": found,
+}
 
 
 def reply_of(words, root):

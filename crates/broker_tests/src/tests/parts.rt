@@ -1,6 +1,13 @@
 //! The values that the tests write.
 
+use request_frames::response::clean::{CleanAnswer, clean_answer_bytes};
+use request_frames::response::cover::{cover_head, put_run};
+use request_frames::response::deliver::{DeliverAnswer, deliver_answer_bytes};
+use request_frames::response::export::export_head;
 use request_frames::response::fetch::{FetchedPartition, begin_fetch, begin_fetched_partition};
+use request_frames::response::forget_group::{ForgetGroupAnswer, forget_group_answer_bytes};
+use request_frames::response::get::get_head;
+use request_frames::response::import::{ImportAnswer, import_answer_bytes};
 use request_frames::response::list_offsets::{
     ListedPartition, begin_list_offsets, put_listed_partition,
 };
@@ -8,6 +15,10 @@ use request_frames::response::metadata::{
     MetadataBroker, MetadataPartition, MetadataTopic, begin_metadata, begin_metadata_topic,
     put_metadata_partition,
 };
+use request_frames::response::offset_commit::{
+    CommittedPartition, begin_offset_commit, put_committed_partition,
+};
+use request_frames::response::offset_fetch::{begin_offset_fetch, put_fetched_offset};
 use request_frames::response::produce::{
     ProducedPartition, begin_produce, end_produce, put_produced_partition,
 };
@@ -57,8 +68,52 @@ const LEADERLESS: MetadataPartition = MetadataPartition {
     leader: None,
 };
 
+const TOO_LARGE: CommittedPartition = CommittedPartition { index: 1, code: 12 };
+
+const CLEANED: CleanAnswer = CleanAnswer {
+    code: 0,
+    records: 3,
+    tombstones: 2,
+    batches: 1,
+};
+
+const REPEATED: DeliverAnswer = DeliverAnswer {
+    code: 0,
+    repeat: true,
+};
+
+const CORRUPT: ImportAnswer = ImportAnswer { code: 2 };
+
+const FORGOTTEN: ForgetGroupAnswer = ForgetGroupAnswer {
+    code: 0,
+    count: 258,
+};
+
 /// The number of parts that `put_part` knows.
-pub(crate) const PARTS: usize = 13;
+pub(crate) const PARTS: usize = 27;
+
+/// Appends the part of that number from 13 on.
+fn put_later_part<A: Allocator + Copy>(
+    out: &mut Vec<u8, A>,
+    part: usize,
+) -> Result<(), AllocError> {
+    match part {
+        13 => begin_offset_commit(out, 2),
+        14 => put_committed_partition(out, TOO_LARGE),
+        15 => begin_offset_fetch(out, 2),
+        16 => put_fetched_offset(out, 1, 258, Some(b"ab"), 0),
+        17 => put_fetched_offset(out, 1, 258, None, 0),
+        18 => out.extend_from_slice(&deliver_answer_bytes(REPEATED)),
+        19 => out.extend_from_slice(&clean_answer_bytes(CLEANED)),
+        20 => out.extend_from_slice(&export_head(0, 258)),
+        21 => out.extend_from_slice(&import_answer_bytes(CORRUPT)),
+        22 => out.extend_from_slice(&get_head(0, Some(b"ab"))),
+        23 => out.extend_from_slice(&get_head(3, None)),
+        24 => out.extend_from_slice(&cover_head(0, 2)),
+        25 => put_run(out, 1, 258),
+        _ => out.extend_from_slice(&forget_group_answer_bytes(FORGOTTEN)),
+    }
+}
 
 /// Appends the part of that number.
 pub(crate) fn put_part<A: Allocator + Copy>(
@@ -78,6 +133,7 @@ pub(crate) fn put_part<A: Allocator + Copy>(
         9 => begin_metadata(out, BROKER, 1, 2),
         10 => begin_metadata_topic(out, INTERNAL, 2),
         11 => put_metadata_partition(out, LED),
-        _ => put_metadata_partition(out, LEADERLESS),
+        12 => put_metadata_partition(out, LEADERLESS),
+        _ => put_later_part(out, part),
     }
 }

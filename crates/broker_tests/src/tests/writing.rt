@@ -1,5 +1,6 @@
 //! Each part of a response, under a failing allocation: the output stays as it was, and with memory the
-//! part stands behind it. The parts' bytes are worked out from Kafka's protocol guide.
+//! part stands behind it. The parts' bytes are worked out from Kafka's protocol guide, and of
+//! own requests from docs/FORMATS.md.
 
 use crate::tests::one::put_one;
 use crate::tests::parts::{PARTS, STORED, put_part};
@@ -23,6 +24,20 @@ static WANTED: [&[u8]; PARTS] = [
     b"\0\0\0\x02ab\x01\0\0\0\x02",
     b"\0\0\0\0\0\0\0\0\0\x01\0\0\0\x01\0\0\0\x01\0\0\0\x01\0\0\0\x01",
     b"\0\x05\0\0\0\x01\xff\xff\xff\xff\0\0\0\0\0\0\0\0",
+    b"\0\0\0\x02",
+    b"\0\0\0\x01\0\x0c",
+    b"\0\0\0\x02",
+    b"\0\0\0\x01\0\0\0\0\0\0\x01\x02\0\x02ab\0\0",
+    b"\0\0\0\x01\0\0\0\0\0\0\x01\x02\xff\xff\0\0",
+    b"\0\0\x01",
+    b"\0\0\0\0\0\0\0\0\0\x03\0\0\0\0\0\0\0\x02\0\0\0\0\0\0\0\x01",
+    b"\0\0\0\0\x01\x02",
+    b"\0\x02",
+    b"\0\0\0\0\0\x02",
+    b"\0\x03\xff\xff\xff\xff",
+    b"\0\0\0\0\0\x02",
+    b"\0\0\0\0\0\0\0\x01\0\0\0\0\0\0\x01\x02",
+    b"\0\0\0\0\x01\x02",
 ];
 
 /// Whether the part can't be put where the next allocation fails, all stays as it was, and the part

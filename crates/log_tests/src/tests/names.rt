@@ -1,4 +1,5 @@
 //! The names that refusals are printed by.
+use group_offsets::GroupError;
 use partition_log::{AppendError, OutOfRange};
 use std::alloc::Allocator;
 use std::fmt::Display;
@@ -27,5 +28,13 @@ fn refusals_print_their_names(rt: HostRuntime) -> Result<(), Fail> {
         assert!(rt; is_printed(rt.alloc(), &error, name), "{name}");
     }
     assert!(rt; is_printed(rt.alloc(), &OutOfRange, "OutOfRange"));
+    let rows = [
+        (GroupError::NameTooLong, "NameTooLong"),
+        (GroupError::BadValue, "BadValue"),
+        (GroupError::OutOfMemory, "OutOfMemory"),
+    ];
+    for (error, name) in rows {
+        assert!(rt; is_printed(rt.alloc(), &error, name), "{name}");
+    }
     Ok(())
 }

@@ -1,0 +1,222 @@
+//! Requests about groups and copies in memory of which one allocation fails: one of them isn't answered, or is answered
+//! with a storage error, and changes nothing; made again it is answered as it should be.
+
+use crate::tests::brokers::new_node;
+use crate::tests::exchanges::{
+    CLEAN, COMMIT, DELIVER, Exchange, FORGET, IMAGE, MERGE, POSITION, SEEN, STORE, TAKE, VALUE,
+};
+use broker_core::{GROUP_TOPIC, Node, Role};
+use refusing_alloc::Refusing;
+use request_frames::parse;
+use segment::{BatchStore, VecStore};
+use std::alloc::{AllocError, Allocator};
+
+/// What a broker is asked, in this order, and the ends of partition 0 of `t`, of `u` and of the topic of groups then.
+struct Run {
+    role: Role,
+    exchanges: &'static [Exchange],
+    ends: (i64, i64, i64),
+}
+
+static OF_A_LEADER: Run = Run {
+    role: Role::Leader,
+    exchanges: &[
+        STORE, COMMIT, POSITION, VALUE, SEEN, IMAGE, CLEAN, FORGET, TAKE,
+    ],
+    ends: (1, 1, 2),
+};
+
+static OF_A_FOLLOWER: Run = Run {
+    role: Role::Follower,
+    exchanges: &[DELIVER, MERGE],
+    ends: (2, 0, 0),
+};
+
+/// More allocations than all requests ask for.
+const MOST: u64 = 200;
+
+/// Appends ranges of offsets.
+fn put_ranges<B: Allocator + Copy>(
+    out: &mut Vec<u8, B>,
+    ranges: &[(i64, i64)],
+) -> Result<(), AllocError> {
+    for (first, last) in ranges {
+        out.extend_from_slice(&first.to_be_bytes())?;
+        out.extend_from_slice(&last.to_be_bytes())?;
+    }
+    Ok(())
+}
+
+/// Appends the number of batches that partition 0 of a topic keeps, these, and the ranges of the offsets seen.
+fn put_partition<S: BatchStore, B: Allocator + Copy>(
+    out: &mut Vec<u8, B>,
+    node: &Node<S>,
+    topic: &[u8],
+) -> Result<(), AllocError> {
+    let Some(log) = node.log(topic, 0) else {
+        return Ok(());
+    };
+    out.extend_from_slice(&log.len().to_be_bytes())?;
+    for i in 0..log.len() {
+        out.extend_from_slice(log.bytes_of(i))?;
+    }
+    put_ranges(out, log.cover().ranges())
+}
+
+/// What the partitions hold that the requests name, as bytes.
+fn kept<S: BatchStore, B: Allocator + Copy>(
+    alloc: B,
+    node: &Node<S>,
+) -> Result<Vec<u8, B>, AllocError> {
+    let mut out = Vec::new(alloc);
+    put_partition(&mut out, node, b"t")?;
+    put_partition(&mut out, node, b"u")?;
+    put_partition(&mut out, node, GROUP_TOPIC)?;
+    Ok(out)
+}
+
+/// Whether they hold the same.
+fn keeps<S: BatchStore, B: Allocator + Copy>(alloc: B, node: &Node<S>, wanted: &[u8]) -> bool {
+    match kept(alloc, node) {
+        Ok(bytes) => bytes.as_slice() == wanted,
+        Err(_) => false,
+    }
+}
+
+/// Whether a request is answered, with what stands behind the output.
+fn is_answered<S: BatchStore, A: Allocator + Copy>(
+    node: &mut Node<S>,
+    frame: &[u8],
+    out: &mut Vec<u8, A>,
+) -> bool {
+    match parse(frame.get(4..).unwrap_or(b"")) {
+        Ok(request) => node.handle(&request, out).is_ok(),
+        Err(_) => false,
+    }
+}
+
+/// What came of a request.
+#[derive(Clone, Copy, PartialEq, Eq)]
+enum Came {
+    /// Its response.
+    Answered,
+    /// Nothing, for lack of memory.
+    Unanswered,
+    /// A storage error.
+    Failed,
+    /// Something else.
+    Wrong,
+}
+
+/// Sends a request once.
+fn once<S: BatchStore, A: Allocator + Copy>(
+    heap: A,
+    node: &mut Node<S>,
+    exchange: &Exchange,
+) -> Came {
+    let mut out = Vec::new(heap);
+    let answered = is_answered(node, exchange.request, &mut out);
+    if answered && out.as_slice() == exchange.response {
+        Came::Answered
+    } else if !answered && out.is_empty() {
+        Came::Unanswered
+    } else if answered && exchange.failed == Some(out.as_slice()) {
+        Came::Failed
+    } else {
+        Came::Wrong
+    }
+}
+
+/// Sends a request, and again where memory lacked, which must have changed nothing.
+fn sent<S: BatchStore, A: Allocator + Copy, B: Allocator + Copy>(
+    heap: A,
+    alloc: B,
+    node: &mut Node<S>,
+    exchange: &Exchange,
+) -> Came {
+    let Ok(before) = kept(alloc, node) else {
+        return Came::Wrong;
+    };
+    let came = once(heap, node, exchange);
+    if came == Came::Answered || came == Came::Wrong {
+        return came;
+    }
+    let is_same = keeps(alloc, node, &before);
+    let again = once(heap, node, exchange);
+    if is_same && again == Came::Answered {
+        came
+    } else {
+        Came::Wrong
+    }
+}
+
+/// The bit of a request that lacked memory: of its response, or of its work. 0 where it didn't.
+fn bit(came: Came, index: u32) -> Option<u32> {
+    match came {
+        Came::Answered => Some(0),
+        Came::Unanswered => 1_u32.checked_shl(2 * (index % 16)),
+        Came::Failed => 2_u32.checked_shl(2 * (index % 16)),
+        Came::Wrong => None,
+    }
+}
+
+/// The end of partition 0 of a topic.
+fn end<S: BatchStore>(node: &Node<S>, topic: &[u8]) -> i64 {
+    node.log(topic, 0).map_or(-1, |log| log.end())
+}
+
+/// The bits of the requests that lack memory; none where something else comes of one, or the partitions end elsewhere.
+fn lacking_of<S: BatchStore, A: Allocator + Copy, B: Allocator + Copy>(
+    heap: A,
+    alloc: B,
+    node: &mut Node<S>,
+    run: &Run,
+) -> Option<u32> {
+    let mut bits = 0_u32;
+    let mut index = 0_u32;
+    for exchange in run.exchanges {
+        bits |= bit(sent(heap, alloc, node, exchange), index)?;
+        index = index.saturating_add(1);
+    }
+    let ends = (end(node, b"t"), end(node, b"u"), end(node, GROUP_TOPIC));
+    if ends == run.ends { Some(bits) } else { None }
+}
+
+/// The same of a new broker in this heap.
+fn lacking<S: BatchStore, B: Allocator + Copy>(heap: S::Alloc, alloc: B, run: &Run) -> Option<u32> {
+    match new_node::<S>(heap, run.role, 3, "t", 1) {
+        Ok(mut node) => lacking_of(heap, alloc, &mut node, run),
+        // the broker itself lacks memory
+        Err(_) => Some(0),
+    }
+}
+
+/// The same where this allocation fails, and whether it is asked for.
+fn lacking_without<A: Allocator + Copy>(inner: A, refused: u64, run: &Run) -> (Option<u32>, bool) {
+    let heap = Refusing::new(inner, refused);
+    let bits = lacking::<VecStore<_>, _>(&heap, inner, run);
+    (bits, heap.calls() >= refused)
+}
+
+/// The bits of all requests that lack memory where one allocation fails, whichever that is; none where something else
+/// comes of one, or memory lacks though no allocation fails.
+fn all_lacking<A: Allocator + Copy>(inner: A, run: &Run) -> Option<u32> {
+    let mut all = 0_u32;
+    for refused in 1..MOST {
+        let (bits, is_asked) = lacking_without(inner, refused, run);
+        all |= bits?;
+        if !is_asked {
+            return if bits == Some(0) { Some(all) } else { None };
+        }
+    }
+    None
+}
+
+#[test]
+fn each_request_lacks_memory_once(rt: HostRuntime) {
+    let leads = all_lacking(rt.alloc(), &OF_A_LEADER);
+    let follows = all_lacking(rt.alloc(), &OF_A_FOLLOWER);
+    // both bits of each, but for Get and Cover, the fourth and the fifth, whose work takes none
+    assert_eq!(rt; leads, Some(0b11_11_11_11_01_01_11_11_11));
+    assert_eq!(rt; follows, Some(0b11_11));
+}

@@ -1,0 +1,247 @@
+"""Generated sessions of `kbroker session`: a leader's, and that of a follower which gets its batches and images.
+
+The replies that must come are those of tests/broker.py.
+"""
+
+import batches
+import broker
+from generated import KEYS, NOBODY, Numbers, VALUES
+
+TOPICS = [(b"t", 2), (b"u", 1)]
+NAMES = [b"t", b"t", b"t", b"u", broker.GROUP_TOPIC]
+GROUPS = [b"g", b"g", b"gg", b"h t", b"\xff", b""]
+METADATA = [None, b"", b"m", b"read \x00", bytes(4_096), bytes(4_097)]
+TIMES = [0, 0, 10, 20, -5]
+PLACES = [(name, index) for name, count in [*TOPICS, (broker.GROUP_TOPIC, 1)] for index in range(count)]
+
+
+def rarely(numbers, value, other):
+    return other if numbers.below(12) == 0 else value
+
+
+def place(numbers):
+    """A partition; now and then one that is unknown."""
+    name = rarely(numbers, numbers.one_of(NAMES), numbers.one_of([b"v", b""]))
+    return name, rarely(numbers, numbers.below(2 if name == b"t" else 1), numbers.one_of([-1, 1, 2]))
+
+
+def sender_of(numbers, copy):
+    """A producer, with an epoch and a sequence number that are right, or sent again, or wrong."""
+    producer = numbers.below(3)
+    newest = broker.window(copy.batches(), producer)
+    if numbers.below(3) == 0:
+        return NOBODY
+    if not newest or numbers.below(8) == 0:
+        return producer, numbers.below(3), numbers.one_of([0, 0, 7, broker.SEQUENCES - 1])
+    epoch, sequence = newest[-1].epoch, (newest[-1].sequence + newest[-1].last + 1) % broker.SEQUENCES
+    return numbers.one_of(
+        [
+            (producer, epoch, sequence),
+            (producer, epoch, sequence),
+            (producer, epoch, numbers.one_of(newest).sequence),
+            (producer, epoch, (sequence + 1) % broker.SEQUENCES),
+            (producer, epoch + 1, numbers.below(2)),
+            (rarely(numbers, -1, -2), epoch, rarely(numbers, sequence, -1)),
+        ]
+    )
+
+
+def batch_of(numbers, base, sender):
+    """A batch as bytes; now and then one with a gap or a null key."""
+    made, delta = [], 0
+    for _ in range(1 + numbers.below(4)):
+        key = rarely(numbers, numbers.one_of(KEYS), numbers.one_of([b"k", None]))
+        headers = [(b"h", numbers.one_of(VALUES))] * (numbers.below(4) == 0)
+        made.append(batches.record(delta, key, numbers.one_of(VALUES), headers, {"time": numbers.one_of(TIMES)}))
+        delta += 1 if numbers.below(40) else 2
+    producer, epoch, sequence = sender
+    head = {"base": base, "time": numbers.one_of(TIMES), "maxtime": numbers.below(30), "last": delta - 1}
+    head |= {"leader": rarely(numbers, 0, 5), "attributes": rarely(numbers, 0, 1 << numbers.below(9))}
+    return batches.batch(made, {**head, "producer": producer, "epoch": epoch, "sequence": sequence})
+
+
+def damaged(numbers, data):
+    """Bytes; now and then with one that is another, cut, or with more behind them."""
+    if numbers.below(10) or not data:
+        return data
+    at = numbers.below(len(data))
+    return numbers.one_of([data[:at], data[:at] + bytes([data[at] ^ 1 << numbers.below(8)]) + data[at + 1 :], data + b"\0"])
+
+
+class Exchange:
+    """Two brokers, what was sent to each and what it must answer, and the batches and images that have left them."""
+
+    def __init__(self, start):
+        self.numbers = Numbers(start)
+        self.sides = [(broker.Broker(leads, TOPICS), [], []) for leads in (True, False)]
+        self.batches = {it: [] for it in PLACES}
+        self.images = {it: [] for it in PLACES}
+
+    def send(self, side, key, values):
+        node, given, wanted = side
+        client = self.numbers.one_of([None, b"", b"me"])
+        head = [key, broker.REQUESTS[key][0], self.numbers.below(2**15), client]
+        frame = broker.written(["h", "h", "i", "S", *broker.REQUESTS[key][1]], [*head, *values])
+        given.append(broker.framed(frame))
+        wanted.append(node.reply(frame))
+        if node.leads:
+            self.note(node)
+
+    def note(self, leader):
+        """Keeps the batches that the leader has appended."""
+        for name, index in PLACES:
+            known = self.batches[name, index]
+            behind = known[-1].base if known else -1
+            known += [it for it in leader.topics[name][index].batches() if it.base > behind]
+
+    def topics(self, entry):
+        """Topics of one to three entries, each a partition and what `entry` says of it."""
+        found = []
+        for _ in range(1 + self.numbers.below(3)):
+            name, index = place(self.numbers)
+            if not found or found[-1][0] != name:
+                found.append([name, []])
+            found[-1][1].append([index, *entry(name, index)])
+        return found
+
+    def step(self, side):
+        key = self.numbers.one_of(KINDS[side[0].leads])
+        self.send(side, key, DRAWS[key](self, side[0]))
+
+    # -- the values of each request
+
+    def copy(self, node, name, index):
+        """A partition's copy, and an empty one of an unknown partition."""
+        try:
+            return node.copy(name, index)
+        except broker.Refused:
+            return broker.Copy()
+
+    def offset(self, node, name, index):
+        return self.numbers.below(self.copy(node, name, index).end() % 2**20 + 4) - 1
+
+    def produce(self, node):
+        numbers = self.numbers
+
+        def entry(name, index):
+            sender = sender_of(numbers, self.copy(node, name, index))
+            return [damaged(numbers, rarely(numbers, batch_of(numbers, numbers.below(9), sender), b""))]
+
+        acks = numbers.one_of([1, 1, 1, -1, 0, rarely(numbers, 1, 2)])
+        return [rarely(numbers, None, numbers.one_of([None, None, b"x"])), acks, 1000, self.topics(entry)]
+
+    def fetch(self, node):
+        numbers = self.numbers
+        limits = [0, 69, 70, 150, 400, 1 << 20, -1]
+        entries = self.topics(lambda name, index: [self.offset(node, name, index), numbers.one_of(limits)])
+        return [-1, 500, 1, numbers.one_of(limits), 0, entries]
+
+    def listoffsets(self, node):
+        times = [-1, -2, -1, -2, -3, 0, 5, 10, 15, 20, 30, 40, 41]
+        return [-1, self.topics(lambda name, index: [self.numbers.one_of(times)])]
+
+    def metadata(self, node):
+        drawn = [[place(self.numbers)[0]] for _ in range(self.numbers.below(5))]
+        return [self.numbers.one_of([None, drawn, drawn])]
+
+    def commit(self, node):
+        numbers = self.numbers
+        generation = rarely(numbers, -1, numbers.one_of([-1, 0, 5]))
+        entries = self.topics(lambda name, index: [rarely(numbers, numbers.below(50), -1), numbers.one_of(METADATA)])
+        return [numbers.one_of(GROUPS), generation, numbers.one_of([b"", b"me"]), numbers.below(9) - 1, entries]
+
+    def offsets(self, node):
+        return [self.numbers.one_of(GROUPS), self.topics(lambda name, index: [])]
+
+    def forget(self, node):
+        return [self.numbers.one_of(GROUPS)]
+
+    def deliver(self, node):
+        """Mostly a batch of the leader's log; else one of another partition, or of no log."""
+        numbers = self.numbers
+        where = place(numbers)
+        known = self.batches.get(rarely(numbers, where, numbers.one_of(PLACES)), [])
+        if known and numbers.below(15):
+            return [*where, damaged(numbers, numbers.one_of(known).encoded())]
+        base = numbers.one_of([-1, 0, 3, 40, broker.OFFSETS - 2, broker.OFFSETS])
+        return [*where, damaged(numbers, batch_of(numbers, base, (numbers.below(3), numbers.below(2), numbers.below(9))))]
+
+    def clean(self, node):
+        where = place(self.numbers)
+        return [*where, self.offset(node, *where), self.offset(node, *where)]
+
+    def export(self, node):
+        where = place(self.numbers)
+        if where in PLACES:
+            self.images[where].append(node.copy(*where).image())
+        return [*where]
+
+    def import_(self, node):
+        """Mostly an image of the same partition; else of another one, or with a value that is no position."""
+        numbers = self.numbers
+        where = place(numbers)
+        known = self.images.get(rarely(numbers, where, numbers.one_of(PLACES)), [])
+        if known and numbers.below(15):
+            return [*where, damaged(numbers, numbers.one_of(known))]
+        key = broker.group_key(numbers.one_of(GROUPS), b"t", numbers.below(2))
+        batch = batches.batch([batches.record(0, key, numbers.one_of(VALUES), [], {})], {"base": 900})
+        return [*where, damaged(numbers, broker.Copy([(900, 900)], [broker.view(batch)[0]]).image())]
+
+    def get(self, node):
+        return [*place(self.numbers), self.numbers.one_of([*KEYS, b"k"])]
+
+    def cover(self, node):
+        return [*place(self.numbers)]
+
+    def looks(self):
+        """Asks each side for an image of each partition."""
+        for side in self.sides:
+            for where in PLACES:
+                self.send(side, 20002, [*where])
+
+    def begin(self, before):
+        """Gives the leader images of another exchange, of each partition until one is taken."""
+        for where in PLACES:
+            while before.images[where] and not self.copy(self.sides[0][0], *where).cover and self.numbers.below(4):
+                self.send(self.sides[0], 20003, [*where, self.numbers.one_of(before.images[where])])
+
+
+DRAWS = {
+    0: Exchange.produce,
+    1: Exchange.fetch,
+    2: Exchange.listoffsets,
+    3: Exchange.metadata,
+    8: Exchange.commit,
+    9: Exchange.offsets,
+    20000: Exchange.deliver,
+    20001: Exchange.clean,
+    20002: Exchange.export,
+    20003: Exchange.import_,
+    20004: Exchange.get,
+    20005: Exchange.cover,
+    20006: Exchange.forget,
+}
+
+# of a leader and of a follower, each request as often as it is drawn among the others
+OFTEN = {True: {0: 5, 1: 3, 8: 4, 9: 3, 20001: 2, 20002: 2}, False: {20000: 8, 20001: 2, 20002: 2, 20003: 6, 9: 3}}
+KINDS = {leads: [key for key in DRAWS for _ in range(often.get(key, 1))] for leads, often in OFTEN.items()}
+
+
+def sessions(count=20, requests=200):
+    """So many sessions of each role, each with so many requests, and with looks after every fifty: its arguments, its
+    input and its output, as bytes."""
+    made, before = [], None
+    for start in range(1, count + 1):
+        exchange = Exchange(start)
+        if before and start % 3 == 0:
+            exchange.begin(before)
+        before = exchange
+        for step in range(1, requests + 1):
+            for side in exchange.sides:
+                exchange.step(side)
+            if step % 50 == 0:
+                exchange.looks()
+        for role, (_, given, wanted) in zip((b"leader", b"follower"), exchange.sides):
+            topics = [name + b":" + str(many).encode() for name, many in TOPICS]
+            made.append(([b"session", b"--role", role, *topics], b"".join(given), b"".join(wanted)))
+    return made
