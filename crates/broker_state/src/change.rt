@@ -10,20 +10,15 @@ pub trait Change<S: BatchStore, R>: Sized {
     ghost use Rattle.broker_state.specs.declared.config.Role.{Role};
     ghost use Rattle.broker_state.specs.declared.config.Role.TheVariants.{Leader, Follower};
 
-    /// To which partitions it may be done, by what the broker is to them.
-    ghost suits: { Self → Role → Type 0 };
-
     /// What comes of it: what the broker is to the partition, the answer, the content before, and the
     /// content after.
     ghost changes: { Self → Role → R → Content → Content → Type 0 };
 
     /// Does it to a log that the broker leads.
     fn change_log(self, log: &mut LeaderLog<S>) -> R
-        requires { suits self Leader }
         ensures { changes self Leader result log.old log.new };
 
     /// Does it to a copy that follows.
     fn change_copy(self, copy: &mut PartitionLog<S>) -> R
-        requires { suits self Follower }
         ensures { changes self Follower result copy.old copy.new };
 }

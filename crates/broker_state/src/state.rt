@@ -168,7 +168,6 @@ impl<S: BatchStore> BrokerState<S> {
     /// Does something to the partition at a place; every other one stays as it is.
     pub fn change_at<R, C: Change<S, R>>(&mut self, place: Place, change: C) -> R
         requires is_place { IsPlace self.old place }
-        requires suits { C.suits change self.old.config.role }
         ensures { (name : List ℕ) (p : ℤ) → IsPlaceOf self.old name p place
             → ChangesAt (C.changes change self.old.config.role result) self.old name p self.new }
     {

@@ -90,8 +90,7 @@ impl<S: BatchStore> TopicLogs<S> {
 
     /// Does something to the partition of an index.
     pub(crate) fn change_partition<R, C: Change<S, R>>(&mut self, index: usize, change: C) -> R
-        requires is_there { index < length self.old.partitions }
-        requires suits { (role : Role) × HasRole role self.old × C.suits change role }
+        requires { index < length self.old.partitions }
         ensures changes { (role : Role) → HasRole role self.old
             → ChangesIn (C.changes change role result) (topic_contents self.old) (pos index)
             (topic_contents self.new) }

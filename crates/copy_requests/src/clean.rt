@@ -47,10 +47,7 @@ fn clean_copy<S: BatchStore>(
 }
 
 impl<S: BatchStore> Change<S, Result<CleanReport, AllocError>> for Cleaning {
-    ghost use Rattle.std.specs.Prelude.{⊤};
     ghost use Rattle.copy_requests.specs.Outcomes.{Cleans};
-
-    ghost suits = { λ bounds role. ⊤ };
 
     ghost changes = { λ bounds role result c after.
         Cleans bounds.upto bounds.tomb_before result c after };

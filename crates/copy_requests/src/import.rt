@@ -58,10 +58,7 @@ fn merge_copy<S: BatchStore>(
 }
 
 impl<S: BatchStore> Change<S, Result<(), ErrorCode>> for Importing<S> {
-    ghost use Rattle.std.specs.Prelude.{⊤};
     ghost use Rattle.copy_requests.specs.Outcomes.{Imports};
-
-    ghost suits = { λ importing role. ⊤ };
 
     ghost changes = { λ importing role result here after.
         Imports role importing.copy result here after };

@@ -10,18 +10,9 @@ index_mut-requires g c =
     let long : vec_len c.self.inside.topics ≡ length c.self.inside.topics.items = search rules in
     subst (λ (n : ℕ). c.args.place.topic < n) (sym long) (topic_below c.self.inside.topics.items (config_value c.self.inside.config) c.args.self.now c.requires.is_place.0 c.requires.is_place.1 c.args.place c.self.view_is c.requires.is_place.2)
 
-pub change_partition-requires-clause-is_there : goal.change_partition-requires-clause-is_there
-change_partition-requires-clause-is_there g c =
+pub change_partition-requires : goal.change_partition-requires
+change_partition-requires g c =
     partition_below c.self.inside.topics.items (config_value c.self.inside.config) c.args.self.now c.requires.is_place.0 c.requires.is_place.1 c.args.place c.self.view_is c.requires.is_place.2 c.index_mut.result.now c.index_mut.ensures.value
-
-pub change_partition-requires-clause-suits : goal.change_partition-requires-clause-suits
-change_partition-requires-clause-suits g c =
-    let config = config_value c.self.inside.config in (
-      c.args.self.now.config.role,
-      subst (λ role. HasRole role c.index_mut.result.now) (ap (λ s. s.config.role) c.self.view_is)
-          (holds_at_place c.self.inside.topics.items config c.args.self.now c.requires.is_place.0 c.requires.is_place.1 c.args.place c.self.view_is c.requires.is_place.2 (HasRole config.role) c.index_mut.result.now c.index_mut.ensures.value c.self.invariant.1.roles),
-      c.requires.suits,
-    )
 
 pub invariant_of-self : goal.invariant_of-self
 invariant_of-self g c =

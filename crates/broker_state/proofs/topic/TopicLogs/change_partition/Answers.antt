@@ -1,25 +1,20 @@
-use Rattle.std.proofs.Common.{sym, subst}
+use Rattle.std.proofs.Common.{subst}
 use Rattle.broker_state.proofs.PlacedTopics.{change_in_topic, role_here, roles_stay, shape_stays, contents_stay}
 use Rattle.broker_state.proofs.topic.TopicLogs.change_partition.Goals as goal
 
-pub change-requires : goal.change-requires
-change-requires g c =
-    let r = c.requires.suits in
-    record { suits = subst (g.C.Change.suits c.args.change) (sym (role_here c.self.inside.name.items c.self.inside.partitions.items c.args.self.now c.args.index c.index_mut.result.now c.self.view_is c.requires.is_there c.index_mut.ensures.value r.0 r.1)) r.2 }
-
 pub returns-clause-changes : goal.returns-clause-changes
 returns-clause-changes g c role has =
-    change_in_topic (g.C.Change.changes c.args.change role c.change.result) c.self.inside.name.items c.self.inside.partitions.items c.args.self.now c.args.index c.index_mut.result.now c.change.new.self c.self.view_is c.requires.is_there c.index_mut.ensures.value
-    (subst (λ r. g.C.Change.changes c.args.change r c.change.result c.index_mut.result.now.content c.change.new.self.content) (role_here c.self.inside.name.items c.self.inside.partitions.items c.args.self.now c.args.index c.index_mut.result.now c.self.view_is c.requires.is_there c.index_mut.ensures.value role has) c.change.ensures.changes)
+    change_in_topic (g.C.Change.changes c.args.change role c.change.result) c.self.inside.name.items c.self.inside.partitions.items c.args.self.now c.args.index c.index_mut.result.now c.change.new.self c.self.view_is c.requires c.index_mut.ensures.value
+    (subst (λ r. g.C.Change.changes c.args.change r c.change.result c.index_mut.result.now.content c.change.new.self.content) (role_here c.self.inside.name.items c.self.inside.partitions.items c.args.self.now c.args.index c.index_mut.result.now c.self.view_is c.requires c.index_mut.ensures.value role has) c.change.ensures.changes)
 
 pub returns-clause-shape : goal.returns-clause-shape
 returns-clause-shape g c =
-    shape_stays c.self.inside.name.items c.self.inside.partitions.items c.args.self.now c.args.index c.index_mut.result.now c.self.view_is c.requires.is_there c.index_mut.ensures.value c.change.new.self
+    shape_stays c.self.inside.name.items c.self.inside.partitions.items c.args.self.now c.args.index c.index_mut.result.now c.self.view_is c.requires c.index_mut.ensures.value c.change.new.self
 
 pub returns-clause-roles : goal.returns-clause-roles
 returns-clause-roles g c role has =
-    roles_stay c.self.inside.name.items c.self.inside.partitions.items c.args.self.now c.args.index c.index_mut.result.now c.self.view_is c.requires.is_there c.index_mut.ensures.value role c.change.new.self c.change.ensures.role has
+    roles_stay c.self.inside.name.items c.self.inside.partitions.items c.args.self.now c.args.index c.index_mut.result.now c.self.view_is c.requires c.index_mut.ensures.value role c.change.new.self c.change.ensures.role has
 
 pub returns-clause-contents : goal.returns-clause-contents
 returns-clause-contents g c all =
-    contents_stay c.self.inside.name.items c.self.inside.partitions.items c.args.self.now c.args.index c.index_mut.result.now c.self.view_is c.requires.is_there c.index_mut.ensures.value c.change.new.self c.change.ensures.is_content all
+    contents_stay c.self.inside.name.items c.self.inside.partitions.items c.args.self.now c.args.index c.index_mut.result.now c.self.view_is c.requires c.index_mut.ensures.value c.change.new.self c.change.ensures.is_content all
