@@ -15,10 +15,8 @@ use request_frames::response::metadata::{
     MetadataBroker, MetadataPartition, MetadataTopic, begin_metadata, begin_metadata_topic,
     put_metadata_partition,
 };
-use request_frames::response::offset_commit::{
-    CommittedPartition, begin_offset_commit, put_committed_partition,
-};
-use request_frames::response::offset_fetch::{begin_offset_fetch, put_fetched_offset};
+use request_frames::response::offset_commit::{CommittedPartition, put_committed_partition};
+use request_frames::response::offset_fetch::put_fetched_offset;
 use request_frames::response::produce::{
     ProducedPartition, begin_produce, end_produce, put_produced_partition,
 };
@@ -90,7 +88,7 @@ const FORGOTTEN: ForgetGroupAnswer = ForgetGroupAnswer {
 };
 
 /// The number of parts that `put_part` knows.
-pub(crate) const PARTS: usize = 27;
+pub(crate) const PARTS: usize = 25;
 
 /// Appends the part of that number from 13 on.
 fn put_later_part<A: Allocator + Copy>(
@@ -98,19 +96,17 @@ fn put_later_part<A: Allocator + Copy>(
     part: usize,
 ) -> Result<(), AllocError> {
     match part {
-        13 => begin_offset_commit(out, 2),
-        14 => put_committed_partition(out, TOO_LARGE),
-        15 => begin_offset_fetch(out, 2),
-        16 => put_fetched_offset(out, 1, 258, Some(b"ab"), 0),
-        17 => put_fetched_offset(out, 1, 258, None, 0),
-        18 => out.extend_from_slice(&deliver_answer_bytes(REPEATED)),
-        19 => out.extend_from_slice(&clean_answer_bytes(CLEANED)),
-        20 => out.extend_from_slice(&export_head(0, 258)),
-        21 => out.extend_from_slice(&import_answer_bytes(CORRUPT)),
-        22 => out.extend_from_slice(&get_head(0, Some(b"ab"))),
-        23 => out.extend_from_slice(&get_head(3, None)),
-        24 => out.extend_from_slice(&cover_head(0, 2)),
-        25 => put_run(out, 1, 258),
+        13 => put_committed_partition(out, TOO_LARGE),
+        14 => put_fetched_offset(out, 1, 258, Some(b"ab"), 0),
+        15 => put_fetched_offset(out, 1, 258, None, 0),
+        16 => out.extend_from_slice(&deliver_answer_bytes(REPEATED)),
+        17 => out.extend_from_slice(&clean_answer_bytes(CLEANED)),
+        18 => out.extend_from_slice(&export_head(0, 258)),
+        19 => out.extend_from_slice(&import_answer_bytes(CORRUPT)),
+        20 => out.extend_from_slice(&get_head(0, Some(b"ab"))),
+        21 => out.extend_from_slice(&get_head(3, None)),
+        22 => out.extend_from_slice(&cover_head(0, 2)),
+        23 => put_run(out, 1, 258),
         _ => out.extend_from_slice(&forget_group_answer_bytes(FORGOTTEN)),
     }
 }
