@@ -4,6 +4,7 @@ mod brokers;
 mod command_lines;
 mod copying;
 mod cutting;
+mod entry_memory;
 mod exchanges;
 mod failing_streams;
 mod frames;

@@ -1,6 +1,7 @@
 -- OffsetFetch: what a group committed last for each partition. Kafka's documentation, "Protocol Guide", section "The
 -- Messages", and "Consumer Offset Tracking". A follower answers from its copy; the limit, and the order of the checks, are
 -- this project's own.
+pub mod Walks
 pub mod Entries
 use Rattle.std.specs.Prelude.{ℕ, ℤ, ◌+◌, negsuc, Bool, true, nat_lt, List, [], ◌∷◌, length, Option, Some, None, Result, Ok, Err}
 use Rattle.content.specs.Content.{shown_table}

@@ -1,16 +1,23 @@
 //! OffsetFetch: the offsets that a group committed last.
 
-ghost use Rattle.std.specs.Prelude.{◌≡◌, nat_lt, OnOk, OnErr};
+ghost use Rattle.std.specs.Prelude.{◌≡◌, nat_lt, IfOk, OnOk, OnErr};
+ghost use Rattle.content.specs.Content.{shown_table};
 ghost use Rattle.request_frames.specs.OffsetFetch.{offset_fetch_view};
 ghost use Rattle.answering.specs.Responding.{RespondsBy};
+ghost use Rattle.group_requests.specs.GroupPartition.{group_content};
 ghost use Rattle.group_requests.specs.OffsetFetch.{partition_count, offset_fetch_plan};
+ghost use Rattle.group_requests.specs.OffsetFetch.Walks.{HasNone, Knows};
 
 mod entry;
+mod walk;
 
-use crate::offset_fetch::entry::fetch_entry;
+use crate::group_partition::group_copy;
+use crate::offset_fetch::entry::Fetching;
+use crate::offset_fetch::walk::Walk;
 use answering::{Answers, respond};
 use broker_state::BrokerState;
-use frame_fields::Topics;
+use frame_fields::{Topic, Topics};
+use group_offsets::{GroupError, put_key};
 use request_frames::{OffsetFetchPartition, OffsetFetchRequest};
 use responses::offset_fetch::put_fetched_offset;
 use segment::BatchStore;
@@ -19,27 +26,23 @@ use std::alloc::{AllocError, Allocator};
 /// The most partitions that a request may name, in all, and still be answered with offsets.
 pub const MAX_FETCHED_OFFSETS: usize = 8_192;
 
-/// What a broker holds, and a group whose offsets are asked for.
-#[derive(Drop)]
-struct Fetching<'n, 'q, S: BatchStore> {
-    state: &'n BrokerState<S>,
-    group: &'q [u8],
-    /// Whether the request names more than `MAX_FETCHED_OFFSETS` partitions.
-    too_many: bool,
-}
+/// The bytes of a group's key behind those of the group, where the topic has no name: the name's length,
+/// and the partition.
+const KEY_END_BYTES: usize = 6;
 
 impl<'n, 'q, S: BatchStore> Answers<OffsetFetchPartition, ()> for Fetching<'n, 'q, S> {
     ghost use Rattle.std.specs.Prelude.{None};
     ghost use Rattle.responses.specs.OffsetFetch.{FetchedOffset, fetched_offset_bytes};
     ghost use Rattle.answering.specs.Work.{MayAnswer};
     ghost use Rattle.group_requests.specs.OffsetFetch.{offset_fetch_work};
+    ghost use Rattle.group_requests.specs.OffsetFetch.Entries.{HasWalked};
 
     ghost Answered = { FetchedOffset };
 
     ghost bytes = { fetched_offset_bytes };
 
-    ghost answers = { λ asked unit name e r after. MayAnswer (offset_fetch_work asked.state.now
-        asked.group.now asked.too_many name (record { partition = e.partition }))
+    ghost answers = { λ asked unit name e r after. HasWalked asked → MayAnswer (offset_fetch_work
+        asked.state.now asked.group.now asked.too_many name (record { partition = e.partition }))
         asked.state.now r asked.state.now };
 
     ghost size = { None };
@@ -52,30 +55,101 @@ impl<'n, 'q, S: BatchStore> Answers<OffsetFetchPartition, ()> for Fetching<'n, '
         out: &mut Vec<u8, A>,
     ) -> Result<(), AllocError> {
         let partition = entry.partition;
-        let found = fetch_entry(self.state, self.group, self.too_many, topic, partition);
+        let found = self.fetch(topic, partition);
         put_fetched_offset(out, partition, found.offset, found.metadata, found.code)
     }
 }
 
-/// Whether a request names more than `MAX_FETCHED_OFFSETS` partitions, in all.
-fn names_too_many(request: &OffsetFetchRequest<'_>) -> bool
-    ensures { result ≡ nat_lt MAX_FETCHED_OFFSETS
-        (partition_count (offset_fetch_view request.now).topics) }
+/// Whether a request names more than `most` partitions, in all.
+fn names_more_than(request: &OffsetFetchRequest<'_>, most: usize) -> bool
+    ensures { result ≡ nat_lt most (partition_count (offset_fetch_view request.now).topics) }
 {
     let mut count = 0;
     for topic in Topics::of(&request.topics) {
-        count += topic.partitions.len() as usize;
-        if count > MAX_FETCHED_OFFSETS {
+        let more = topic.partitions.len() as usize;
+        if more > most - count {
             return true;
         }
+        count += more;
     }
     false
 }
 
+/// A key as bytes; none where a name is too long.
+fn key_of<A: Allocator + Copy>(
+    alloc: A,
+    group: &[u8],
+    topic: &[u8],
+    partition: i32,
+) -> Result<Vec<u8, A>, AllocError> {
+    match put_key(alloc, group, topic, partition) {
+        Ok(key) => Ok(key),
+        Err(GroupError::OutOfMemory) => Err(AllocError),
+        Err(GroupError::NameTooLong | GroupError::BadValue) => Ok(Vec::new(alloc)),
+    }
+}
+
+/// Looks for the offsets of a topic's partitions too, of those that the broker has.
+fn want_topic<'n, S: BatchStore>(
+    walk: &mut Walk<'n, S::Alloc>,
+    state: &BrokerState<S>,
+    group: &[u8],
+    topic: Topic<'_, OffsetFetchPartition>,
+) -> Result<(), AllocError>
+    ensures { OnOk result (HasNone walk.old → HasNone walk.new) }
+{
+    let alloc = group_copy(state).allocator();
+    for entry in topic.partitions {
+        if state.place_of(topic.name, entry.partition).is_some() {
+            walk.want(&key_of(alloc, group, topic.name, entry.partition)?)?;
+        }
+    }
+    Ok(())
+}
+
+/// The bytes with which a group's keys begin.
+fn key_front<A: Allocator + Copy>(alloc: A, group: &[u8]) -> Result<Vec<u8, A>, AllocError> {
+    let mut key = key_of(alloc, group, &[], 0)?;
+    key.truncate(key.len().saturating_sub(KEY_END_BYTES));
+    Ok(key)
+}
+
+/// A walk for the offsets of all partitions that a request names, and that the broker has.
+fn walk_for<'n, S: BatchStore>(
+    state: &'n BrokerState<S>,
+    request: &OffsetFetchRequest<'_>,
+) -> Result<Walk<'n, S::Alloc>, AllocError>
+    ensures { IfOk result (Knows (shown_table (group_content state.now))) }
+{
+    let copy = group_copy(state);
+    let front = key_front(copy.allocator(), request.group)?;
+    let mut walk = Walk::new(copy.allocator(), front);
+    for topic in Topics::of(&request.topics) {
+        want_topic(&mut walk, state, request.group, topic)?;
+    }
+    walk.run(copy);
+    Ok(walk)
+}
+
+/// A walk for the partitions of a request, where it names some that are looked for together.
+fn walk_if_many<'n, S: BatchStore>(
+    state: &'n BrokerState<S>,
+    request: &OffsetFetchRequest<'_>,
+    too_many: bool,
+) -> Result<Walk<'n, S::Alloc>, AllocError>
+    ensures { IfOk result (Knows (shown_table (group_content state.now))) }
+{
+    if !too_many && names_more_than(request, 1) {
+        return walk_for(state, request);
+    }
+    let alloc = group_copy(state).allocator();
+    Ok(Walk::new(alloc, Vec::new(alloc)))
+}
+
 /// Appends the response to an OffsetFetch request. It changes nothing else.
 ///
-/// Where there is no memory for a look-up, the partition's own answer is the error code of a storage
-/// error.
+/// The offsets of all partitions are looked for in one walk over the group partition. Where there is no
+/// memory for it, or for a look-up, the partition's own answer is the error code of a storage error.
 ///
 /// # Errors
 ///
@@ -91,10 +165,12 @@ pub fn reply_to_offset_fetch<S: BatchStore, A: Allocator + Copy>(
         out.old.items out.new.items state.now) }
     ensures unchanged_on_error { OnErr result (out.new.items ≡ out.old.items) }
 {
+    let too_many = names_more_than(request, MAX_FETCHED_OFFSETS);
     let asked = Fetching {
         state,
         group: request.group,
-        too_many: names_too_many(request),
+        too_many,
+        walk: walk_if_many(state, request, too_many),
     };
     respond(&asked, &mut (), correlation, &[], &request.topics, &[], out)
 }

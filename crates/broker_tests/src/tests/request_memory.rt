@@ -84,7 +84,7 @@ fn keeps<S: BatchStore, B: Allocator + Copy>(alloc: B, node: &Node<S>, wanted: &
 }
 
 /// Whether a request is answered, with what stands behind the output.
-fn is_answered<S: BatchStore, A: Allocator + Copy>(
+pub(crate) fn is_answered<S: BatchStore, A: Allocator + Copy>(
     node: &mut Node<S>,
     frame: &[u8],
     out: &mut Vec<u8, A>,

@@ -15,6 +15,6 @@ returns-clause-responds g c =
     let q = offset_fetch_view c.args.request.now in
     let n = c.args.correlation in
     on_ok c.respond.result
-    (λ e. plan_responded (offset_fetch_plan s n q) offset_fetch_partition _ offset_fetch_partition_value (λ (shared : Unit {0}). s) (offset_fetch_may s q c.names_too_many.result c.names_too_many.ensures) fetched_offset_bytes n _ _ _ _ _ _ _ _ _ s
+    (λ e. plan_responded (offset_fetch_plan s n q) offset_fetch_partition _ offset_fetch_partition_value (λ (shared : Unit {0}). s) (offset_fetch_may (record { knows = c.walk_if_many.ensures }) s q c.names_more_than-too_many.result c.names_more_than-too_many.ensures) fetched_offset_bytes n _ _ _ _ _ _ _ _ _ s
     refl refl refl (offset_fetch_sends n) (to_z-of_z w32 n c.ranges.correlation) refl e)
     c.respond.ensures.responds
