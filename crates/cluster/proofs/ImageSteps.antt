@@ -10,7 +10,7 @@ use Rattle.content.specs.Logs.{IsPlainLog}
 use Rattle.content.specs.Copies.{IsCopy}
 use Rattle.copy_images.specs.Images.{image_of, IsImage}
 use Rattle.copy_images.specs.declared.layout.TheConstants.{MAX_COUNT}
-use Rattle.cluster.specs.Worlds.{World, copy_at, with_copy}
+use Rattle.cluster.specs.Worlds.{World, with_copy}
 use Rattle.cluster.specs.Headline.{IsCopyOf, IsConsistent}
 use Rattle.cluster.specs.Events.{IsFollower, Sends, Merges}
 use Rattle.cluster.specs.Parts.{WritesImage, KeepsImage, MergesImage}

@@ -1,6 +1,5 @@
 -- Each event leads from a consistent world to one, so the headline holds after each front of a list of events.
-use Rattle.std.proofs.Common.{◌≡◌, ℕ, zero, suc, ◌<◌, ℤ, Result, Ok, Err, List, [], ◌∷◌, take, drop, Some, refl, sym, subst, arith, true, false}
-use Rattle.batch_codec.specs.Values.{BatchValue}
+use Rattle.std.proofs.Common.{◌≡◌, ℕ, zero, suc, ℤ, Result, Ok, Err, List, [], ◌∷◌, Some, refl, sym, subst, arith, true, false}
 use Rattle.content.specs.Content.{Content}
 use Rattle.content.specs.Cleaning.{clean}
 use Rattle.cluster.specs.declared.event.Event.{Event}

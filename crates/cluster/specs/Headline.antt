@@ -1,5 +1,5 @@
 -- What holds of the copies of one partition, whatever happened to them: each shows the log's own table over the offsets
--- that it has seen, and any two can be merged in any order.
+-- that it has seen, so it answers look-ups of group offsets as that table does, and any two can be merged in any order.
 use Rattle.std.specs.Prelude.{ℕ, ℤ, pos, ◌≡◌, ◌⊎◌, ◌≤ℤ◌, ◌∷◌, List, take, drop, Some, Result, slice_get}
 use Rattle.std.specs.List.{AllByRecursion}
 use Rattle.batch_codec.specs.Values.{BatchValue}
@@ -13,6 +13,8 @@ use Rattle.content.specs.Logs.{IsPlainLog}
 use Rattle.content.specs.Copies.{IsCopy}
 use Rattle.content.specs.LegalLogs.{IsLeaderCopy}
 use Rattle.copy_images.specs.Images.{IsImage}
+use Rattle.group_offsets.specs.Keys.{GroupKeyValue}
+use Rattle.group_offsets.specs.Lookups.{lookup_in}
 use Rattle.cluster.specs.declared.event.Event.{Event}
 use Rattle.cluster.specs.declared.event.Outcome.{Outcome}
 use Rattle.cluster.specs.declared.event.EventError.{EventError}
@@ -44,11 +46,19 @@ IsHeld w c =
 abbrev pub ShowsLog : List BatchValue → Content → Type 0
 ShowsLog log c = shown_table c ≡ table_within (covers c.cover) (log_records log)
 
--- two copies can be merged, in either order; if they have seen the same offsets they show the same table
+-- what a look-up of a group's offset answers from a copy's table, it answers from that pass over the log
+abbrev pub LooksUpLog : List BatchValue → Content → Type 0
+LooksUpLog log c =
+    (k : GroupKeyValue)
+    → lookup_in (shown_table c) k ≡ lookup_in (table_within (covers c.cover) (log_records log)) k
+
+-- two copies can be merged, in either order; if they have seen the same offsets they show the same table, and so answer
+-- each look-up of a group's offset alike
 pub record MergeAlike (a b : Content) : Type 0 where
   pub agree : Agree a b
   pub commute : join a b ≡ join b a
   pub same_table : a.cover ≡ b.cover → shown_table a ≡ shown_table b
+  pub same_look_ups : a.cover ≡ b.cover → (k : GroupKeyValue) → lookup_in (shown_table a) k ≡ lookup_in (shown_table b) k
 
 pub record Headline (w : World) : Type 0 where
   pub consistent : IsConsistent w
@@ -57,6 +67,8 @@ pub record Headline (w : World) : Type 0 where
   -- whatever is held is a copy of the log, and shows the log's own table over what it has seen
   pub copies : (c : Content) → IsHeld w c → IsCopyOf w.log c
   pub tables : (c : Content) → IsHeld w c → ShowsLog w.log c
+  -- so it answers each look-up of a group's offset as that table of the log does
+  pub look_ups : (c : Content) → IsHeld w c → LooksUpLog w.log c
   -- merging
   pub idempotent : (a : Content) → IsHeld w a → join a a ≡ a
   pub alike : (a b : Content) → IsHeld w a → IsHeld w b → MergeAlike a b

@@ -4,10 +4,15 @@ ghost use Rattle.std.specs.Prelude.{◌≡◌, ◌≤◌, ◌↔◌, ℕ, true, 
 ghost use Rattle.std.specs.List.{Contains};
 ghost use Rattle.std.specs.FinMap as finite;
 ghost use Rattle.frame_fields.specs.Frames.{IsBytes};
+ghost use Rattle.batch_codec.specs.Values.{BatchValue};
 ghost use Rattle.batch_codec.specs.Grammar.{Writable, IsValidBatch};
+ghost use Rattle.cover_ranges.specs.Runs.{covers};
 ghost use Rattle.partition_log.specs.Appends.{IsSendable};
-ghost use Rattle.content.specs.Table.{Table};
-ghost use Rattle.content.specs.Content.{Content, shown_table};
+ghost use Rattle.content.specs.Records.{log_records};
+ghost use Rattle.content.specs.Table.{Table, table_within};
+ghost use Rattle.content.specs.Content.{Content, IsContent, shown_table};
+ghost use Rattle.content.specs.Logs.{IsPlainLog};
+ghost use Rattle.content.specs.Copies.{IsCopy};
 ghost use Rattle.group_offsets.specs.declared.forget.TheConstants.{MAX_FORGOTTEN};
 ghost use Rattle.group_offsets.specs.Keys.{GroupKeyValue, GroupKeyFits, group_key_bytes, group_key_at};
 ghost use Rattle.group_offsets.specs.CommittedValues.{CommittedValue, CommittedFits, committed_bytes, committed_at};
@@ -39,6 +44,19 @@ pub fn one_value_encoding()
 pub fn found_offsets_fit()
     ensures { (t : Table) (k : GroupKeyValue) (v : CommittedValue)
         → lookup_in t k ≡ Ok (Some v) → CommittedFits v }
+{}
+
+/// What a look-up answers from the table of the records that a copy holds is what it answers from the
+/// pass over the log's own records at the offsets that the copy has seen. So two copies of one log that
+/// have seen the same offsets answer each look-up alike, of any group, topic and partition.
+pub fn look_ups_are_the_logs()
+    ensures answers_as_the_log { (c : Content) (log : List BatchValue) (k : GroupKeyValue)
+        → IsContent c → IsPlainLog log → IsCopy c log
+        → lookup_in (shown_table c) k
+        ≡ lookup_in (table_within (covers c.cover) (log_records log)) k }
+    ensures same_look_up { (a b : Content) (log : List BatchValue) (k : GroupKeyValue)
+        → IsContent a → IsContent b → IsPlainLog log → IsCopy a log → IsCopy b log
+        → a.cover ≡ b.cover → lookup_in (shown_table a) k ≡ lookup_in (shown_table b) k }
 {}
 
 /// The batches may be appended: they are whole, each record has a key, and there is no producer. One

@@ -26,8 +26,8 @@ pub use forget::{MAX_FORGOTTEN, forget_batch};
 pub use groups::group_keys;
 pub use keys::{GroupKey, put_key, read_key};
 pub use laws::{
-    batches_are_sendable, examples, found_offsets_fit, one_key_encoding, one_value_encoding,
-    shown_keys_are_the_tables,
+    batches_are_sendable, examples, found_offsets_fit, look_ups_are_the_logs, one_key_encoding,
+    one_value_encoding, shown_keys_are_the_tables,
 };
 pub use layout::MAX_NAME_BYTES;
 pub use lookups::lookup;
