@@ -1,0 +1,41 @@
+-- Requests within the logs are within longer ones.
+use Rattle.std.proofs.Common.{◌≡◌, ℤ, List, ◌++◌, Option, Some, ap, ◌∙◌}
+use Rattle.std.specs.Ordering.{int_eq}
+use Rattle.std.specs.Option.{option_or}
+use Rattle.std.proofs.lemmas.List.Folds.{find-append}
+use Rattle.batch_codec.specs.Values.{BatchValue}
+use Rattle.batch_codec.specs.Reading.{batch_of}
+use Rattle.batch_codec.specs.Offsets.{first_offset}
+use Rattle.content.specs.ByOffset.{look_up}
+use Rattle.request_frames.specs.Requests.BodyValue.{produce, fetch, list_offsets, metadata, offset_commit, offset_fetch, deliver, clean, export, import, get, cover, forget_group}
+use Rattle.request_frames.specs.Requests.{BodyValue}
+use Rattle.request_frames.specs.Deliver.{DeliverValue}
+use Rattle.broker_state.specs.declared.config.Role.{Role}
+use Rattle.broker_state.specs.declared.config.Role.TheVariants.{Leader, Follower}
+use Rattle.cleaning_laws.specs.Logs.{Logs, Grows}
+use Rattle.cleaning_laws.specs.Settled.{IsOfLog, IsWithin}
+
+found_longer : (o : ℤ) (b : BatchValue) (log longer more : List BatchValue) → longer ≡ log ++ more → look_up first_offset o log ≡ Some b → look_up first_offset o longer ≡ Some b
+found_longer o b log longer more grows found =
+    ap (look_up first_offset o) grows ∙ find-append (λ x. int_eq (first_offset x) o) log more ∙ ap (λ (f : Option BatchValue). option_or f (look_up first_offset o more)) found
+
+of_longer : (role : Role) (logs longer : Logs) (q : DeliverValue) → Grows logs longer → IsOfLog role logs q → IsOfLog role longer q
+of_longer Leader logs longer q grows is = tt
+of_longer Follower logs longer q grows is = λ encodes valid.
+    let more = grows q.topic q.partition in
+    found_longer (first_offset (batch_of q.batch)) (batch_of q.batch) (logs q.topic q.partition) (longer q.topic q.partition) more.0 more.1 (is encodes valid)
+
+pub within_longer : (role : Role) (logs longer : Logs) (body : BodyValue) → Grows logs longer → IsWithin role logs body → IsWithin role longer body
+within_longer role logs longer (deliver q) grows is = (is.0, of_longer role logs longer q grows is.1)
+within_longer role logs longer (produce q) grows is = is
+within_longer role logs longer (fetch q) grows is = is
+within_longer role logs longer (list_offsets ts) grows is = is
+within_longer role logs longer (metadata names) grows is = is
+within_longer role logs longer (offset_commit q) grows is = is
+within_longer role logs longer (offset_fetch q) grows is = is
+within_longer role logs longer (clean q) grows is = is
+within_longer role logs longer (export q) grows is = is
+within_longer role logs longer (import q) grows is = is
+within_longer role logs longer (get q) grows is = is
+within_longer role logs longer (cover q) grows is = is
+within_longer role logs longer (forget_group group) grows is = is

@@ -1,0 +1,78 @@
+-- Which requests are within the logs, and which replies no cleaning changes. Kafka's documentation, "Protocol Guide",
+-- section "The Messages".
+use Rattle.std.specs.Prelude.{◌≡◌, ℕ, pos, Bool, true, false, ⊤, int_lt, List, Some}
+use Rattle.std.specs.List.{AllByRecursion, list_all}
+use Rattle.frame_fields.specs.Frames.{IsBytes}
+use Rattle.frame_fields.specs.Types.{TopicOf}
+use Rattle.batch_codec.specs.Reading.{batch_of, IsEncoding}
+use Rattle.batch_codec.specs.Offsets.{first_offset}
+use Rattle.content.specs.ByOffset.{look_up}
+use Rattle.content.specs.Content.{IsLogBatch}
+use Rattle.request_frames.specs.Requests.BodyValue.{produce, fetch, list_offsets, offset_commit, deliver, clean, export, import}
+use Rattle.request_frames.specs.Requests.{BodyValue, RequestValue}
+use Rattle.request_frames.specs.ListOffsets.{ListOffsetsPartitionValue}
+use Rattle.request_frames.specs.OffsetCommit.{OffsetCommitPartitionValue}
+use Rattle.request_frames.specs.Deliver.{DeliverValue}
+use Rattle.group_offsets.specs.Keys.{GroupKeyFits}
+use Rattle.group_offsets.specs.CommittedValues.{CommittedFits}
+use Rattle.broker_state.specs.declared.config.Role.{Role}
+use Rattle.broker_state.specs.declared.config.Role.TheVariants.{Leader, Follower}
+use Rattle.broker_state.specs.State.{State}
+use Rattle.broker_node.specs.Replies.{reply}
+use Rattle.cleaning_laws.specs.Logs.{Logs}
+use Rattle.cleaning_laws.specs.Alike.{StayAlike}
+
+-- ---- requests within the logs
+
+-- each entry of each topic
+abbrev pub EachEntry : {E : Type 0} → (List ℕ → E → Type 0) → List (TopicOf E) → Type 0
+EachEntry P ts = AllByRecursion (λ t. AllByRecursion (P t.name) t.entries) ts
+
+-- a log batch that is delivered to a follower, as bytes that are its encoding, is the log's
+abbrev pub IsOfLog : Role → Logs → DeliverValue → Type 0
+IsOfLog Leader logs q = ⊤
+IsOfLog Follower logs q =
+    let b = batch_of q.batch in
+    IsEncoding q.batch → IsLogBatch b → look_up first_offset (first_offset b) (logs q.topic q.partition) ≡ Some b
+
+-- a STRING holds each name of a commit and its metadata, and its numbers are of their types
+abbrev pub CommitFits : (group name : List ℕ) → OffsetCommitPartitionValue → Type 0
+CommitFits group name e =
+    GroupKeyFits (record { group = group; topic = name; partition = e.partition })
+    × CommittedFits (record { offset = e.offset; metadata = e.metadata })
+
+-- what a request brings is what its fields can hold
+abbrev pub HoldsFields : BodyValue → Type 0
+HoldsFields (produce q) = EachEntry (λ name e. IsBytes e.records) q.topics
+HoldsFields (offset_commit q) = EachEntry (CommitFits q.group) q.topics
+HoldsFields (deliver q) = IsBytes q.batch
+HoldsFields _ = ⊤
+
+-- what a request brings is of the logs
+abbrev pub IsFromLogs : Role → Logs → BodyValue → Type 0
+IsFromLogs role logs (deliver q) = IsOfLog role logs q
+IsFromLogs role logs (import q) = ⊥
+IsFromLogs role logs _ = ⊤
+
+abbrev pub IsWithin : Role → Logs → BodyValue → Type 0
+IsWithin role logs body = HoldsFields body × IsFromLogs role logs body
+
+-- ---- replies that are settled
+
+-- A time below 0 is none: -1 asks for the end, -2 for the start, and others are refused.
+abbrev pub is_no_time : ListOffsetsPartitionValue → Bool
+is_no_time e = int_lt e.time (pos 0)
+
+-- all replies but those that are read of which records are kept
+abbrev pub is_settled : BodyValue → Bool
+is_settled (fetch q) = false
+is_settled (export q) = false
+is_settled (clean q) = false
+is_settled (import q) = false
+is_settled (list_offsets topics) = list_all (λ t. list_all is_no_time t.entries) topics
+is_settled _ = true
+
+-- two brokers answer a request alike
+pub record AnswerAlike (logs : Logs) (s z : State) (q : RequestValue) : Type 0 where
+  pub states : StayAlike logs (reply s q).1 (reply z q).1
+  pub replies : is_settled q.body ≡ true → (reply s q).0 ≡ (reply z q).0

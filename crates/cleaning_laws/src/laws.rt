@@ -1,0 +1,96 @@
+//! Laws about the definitions alone. The functions do nothing: what they ensure is the law.
+
+ghost use Rattle.std.specs.Prelude.{◌≡◌, ℕ, ℤ, true, List, ◌++◌, Option};
+ghost use Rattle.content.specs.Logs.{IsPlainLog};
+ghost use Rattle.request_frames.specs.Clean.{CleanValue};
+ghost use Rattle.request_frames.specs.Requests.{RequestValue};
+ghost use Rattle.request_frames.specs.Requests.BodyValue.{clean};
+ghost use Rattle.broker_state.specs.declared.config.Role.TheVariants.{Follower};
+ghost use Rattle.broker_state.specs.State.{ConfigValue, State, new_state};
+ghost use Rattle.answering.specs.Lists.{map_accum};
+ghost use Rattle.answering.specs.Responding.{sent};
+ghost use Rattle.broker_node.specs.declared.handling.Answer.{Answer};
+ghost use Rattle.broker_node.specs.Replies.{reply, Replies};
+ghost use Rattle.broker_node.specs.Handling.{answer_of, Handles};
+ghost use Rattle.broker_node.specs.Streams.{AreAnswered};
+ghost use Rattle.cleaning_laws.specs.Logs.{Logs, no_logs, IsLegalFromSome, IsStateOf};
+ghost use Rattle.cleaning_laws.specs.Alike.{seen_topics, AreAlike};
+ghost use Rattle.cleaning_laws.specs.Settled.{IsWithin, AnswerAlike};
+ghost use Rattle.cleaning_laws.specs.Cleans.{is_no_clean, without_cleans, AreWithin, AnswerAllAlike};
+ghost use Rattle.cleaning_laws.specs.WithMemory.{AnsweredWithMemory};
+ghost use Rattle.cleaning_laws.specs.AnsweredFrames.{AnsweredFrame, frames_of, requests_of, responses_of, sent_for, AreAnsweredWithMemory, AreFramesWithin, AreAnsweredAlike};
+
+/// A new broker holds copies of empty logs. A new follower holds copies of any logs that a leader may
+/// have written, since it has seen nothing of them.
+pub fn a_new_broker_holds_copies_of_the_logs()
+    ensures of_empty_logs { (g : ConfigValue) → AreAlike no_logs (new_state g) (new_state g) }
+    ensures follower_of_any_logs { (g : ConfigValue) (logs : Logs) → g.role ≡ Follower
+        → ((name : List ℕ) (p : ℤ) → IsPlainLog (logs name p) × IsLegalFromSome (logs name p))
+        → AreAlike logs (new_state g) (new_state g) }
+{}
+
+/// A Clean, of any topic, partition and bounds, leaves the logs, and of each partition the start and
+/// the offsets that were seen.
+pub fn cleaning_keeps_the_logs()
+    ensures logs { (logs : Logs) (s : State) (q : RequestValue) (c : CleanValue) → q.body ≡ clean c
+        → IsStateOf logs s → IsStateOf logs (reply s q).1 }
+    ensures seen { (s : State) (q : RequestValue) (c : CleanValue) → q.body ≡ clean c
+        → seen_topics (reply s q).1 ≡ seen_topics s }
+    ensures config { (s : State) (q : RequestValue) (c : CleanValue) → q.body ≡ clean c
+        → (reply s q).1.config ≡ s.config }
+{}
+
+/// Two brokers that differ only in what they keep of the same logs answer each request within the logs,
+/// but for a Clean, alike: the states after are again two such, of logs that may have grown, and the
+/// replies are the same, but for those that are read of which records are kept. No request changes the
+/// configuration.
+pub fn brokers_of_the_same_logs_answer_alike()
+    ensures alike { (logs : Logs) (s z : State) (q : RequestValue) → AreAlike logs s z
+        → IsWithin s.config.role logs q.body → is_no_clean q ≡ true → AnswerAlike logs s z q }
+    ensures config { (s : State) (q : RequestValue) → (reply s q).1.config ≡ s.config }
+{}
+
+/// Two brokers that are alike, as two new ones are, get two lists of requests within the logs, which are
+/// the same once their Cleans are left out. Then each other request gets the same reply from both, but for
+/// those that are read of which records are kept, and the brokers after are again alike. So cleaning changes
+/// no such reply, whenever and with whatever bounds it is done.
+pub fn cleaning_changes_no_reply()
+    ensures alike { (logs : Logs) (s z : State) (qs ps : List RequestValue) → AreAlike logs s z
+        → AreWithin s.config.role logs qs → without_cleans qs ≡ without_cleans ps
+        → AnswerAllAlike logs s z qs ps }
+    ensures from_the_start { (g : ConfigValue) (qs ps : List RequestValue) → AreWithin g.role no_logs qs
+        → without_cleans qs ≡ without_cleans ps
+        → AnswerAllAlike no_logs (new_state g) (new_state g) qs ps }
+    ensures follower_from_the_start { (g : ConfigValue) (logs : Logs) (qs ps : List RequestValue)
+        → g.role ≡ Follower
+        → ((name : List ℕ) (p : ℤ) → IsPlainLog (logs name p) × IsLegalFromSome (logs name p))
+        → AreWithin g.role logs qs → without_cleans qs ≡ without_cleans ps
+        → AnswerAllAlike logs (new_state g) (new_state g) qs ps }
+{}
+
+/// The same over frames that came in and what went out for them, where no entry's result is a lack of
+/// memory.
+pub fn cleaning_changes_no_answer()
+    ensures { (logs : Logs) (s z after after' : State) (answered others : List AnsweredFrame)
+        → AreAlike logs s z → AreFramesWithin s.config.role logs answered
+        → AreAnsweredWithMemory s answered after → AreAnsweredWithMemory z others after'
+        → without_cleans (requests_of answered) ≡ without_cleans (requests_of others)
+        → AreAnsweredAlike logs after after' answered others }
+{}
+
+/// Where no entry's result is a lack of memory, what may be replied is the reply itself: to one request,
+/// as it is handled, and to frames one after the other.
+pub fn an_answer_with_memory_is_the_reply()
+    ensures reply { (s after : State) (q : RequestValue) (out : Option (List ℕ))
+        → Replies AnsweredWithMemory s q out after → (out, after) ≡ reply s q }
+    ensures handled { (s after : State) (q : RequestValue) (held held' : List ℕ) (answer : Answer)
+        (handles : Handles s q held held' answer after)
+        → Replies AnsweredWithMemory s q handles.response after
+        → (held' ≡ held ++ sent (reply s q).0) × (answer ≡ answer_of (reply s q).0)
+        × (after ≡ (reply s q).1) }
+    ensures frames { (s after : State) (answered : List AnsweredFrame)
+        → AreAnsweredWithMemory s answered after
+        → (responses_of answered, after) ≡ map_accum reply s (requests_of answered) }
+    ensures answers { (s after : State) (answered : List AnsweredFrame)
+        → AreAnsweredWithMemory s answered after → AreAnswered s (frames_of answered) (sent_for answered) after }
+{}
