@@ -46,11 +46,11 @@ def sender_of(numbers, copy):
     )
 
 
-def batch_of(numbers, base, sender):
+def batch_of(numbers, base, sender, keys=KEYS):
     """A batch as bytes; now and then one with a gap or a null key."""
     made, delta = [], 0
     for _ in range(1 + numbers.below(4)):
-        key = rarely(numbers, numbers.one_of(KEYS), numbers.one_of([b"k", None]))
+        key = rarely(numbers, numbers.one_of(keys), numbers.one_of([b"k", None]))
         headers = [(b"h", numbers.one_of(VALUES))] * (numbers.below(4) == 0)
         made.append(batches.record(delta, key, numbers.one_of(VALUES), headers, {"time": numbers.one_of(TIMES)}))
         delta += 1 if numbers.below(40) else 2
@@ -70,6 +70,8 @@ def damaged(numbers, data):
 
 class Exchange:
     """Two brokers, what was sent to each and what it must answer, and the batches and images that have left them."""
+
+    groups, metadata_texts = GROUPS, METADATA  # of which each commit has one
 
     def __init__(self, start):
         self.numbers = Numbers(start)
@@ -94,10 +96,10 @@ class Exchange:
             behind = known[-1].base if known else -1
             known += [it for it in leader.topics[name][index].batches() if it.base > behind]
 
-    def topics(self, entry):
-        """Topics of one to three entries, each a partition and what `entry` says of it."""
+    def topics(self, entry, most=3):
+        """Topics of one to so many entries, each a partition and what `entry` says of it."""
         found = []
-        for _ in range(1 + self.numbers.below(3)):
+        for _ in range(1 + self.numbers.below(most)):
             name, index = place(self.numbers)
             if not found or found[-1][0] != name:
                 found.append([name, []])
@@ -147,14 +149,14 @@ class Exchange:
     def commit(self, node):
         numbers = self.numbers
         generation = rarely(numbers, -1, numbers.one_of([-1, 0, 5]))
-        entries = self.topics(lambda name, index: [rarely(numbers, numbers.below(50), -1), numbers.one_of(METADATA)])
-        return [numbers.one_of(GROUPS), generation, numbers.one_of([b"", b"me"]), numbers.below(9) - 1, entries]
+        entries = self.topics(lambda name, index: [rarely(numbers, numbers.below(50), -1), numbers.one_of(self.metadata_texts)])
+        return [numbers.one_of(self.groups), generation, numbers.one_of([b"", b"me"]), numbers.below(9) - 1, entries]
 
     def offsets(self, node):
-        return [self.numbers.one_of(GROUPS), self.topics(lambda name, index: [])]
+        return [self.numbers.one_of(self.groups), self.topics(lambda name, index: [])]
 
     def forget(self, node):
-        return [self.numbers.one_of(GROUPS)]
+        return [self.numbers.one_of(self.groups)]
 
     def deliver(self, node):
         """Mostly a batch of the leader's log; else one of another partition, or of no log."""
