@@ -3,7 +3,7 @@
 //! are worked out from docs/FORMATS.md.
 
 use crate::tests::brokers::new_node;
-use crate::tests::exchanges::STORE;
+use crate::tests::exchanges::STORE_REQUEST;
 use crate::tests::request_memory::is_answered;
 use broker_core::{GROUP_TOPIC, Node, Role};
 use refusing_alloc::Refusing;
@@ -14,13 +14,16 @@ use std::alloc::Allocator;
 const OLD: &[u8] = b"old";
 
 /// An OffsetCommit request of group `g`: offset 10 of partition 0 of `t`, and 11 of partition 1.
-const COMMITS: &[u8] = b"\0\0\0B\0\x08\0\x02\0\0\0\x07\xff\xff\0\x01g\xff\xff\xff\xff\0\0\xff\xff\xff\xff\xff\xff\xff\xff\0\0\0\x01\0\x01t\0\0\0\x02\0\0\0\0\0\0\0\0\0\0\0\x0a\0\0\0\0\0\x01\0\0\0\0\0\0\0\x0b\0\0";
+const COMMITS: &[u8] =
+    b"\0\0\0B\0\x08\0\x02\0\0\0\x07\xff\xff\0\x01g\xff\xff\xff\xff\0\0\xff\xff\xff\xff\xff\xff\xff\xff\0\0\0\x01\0\x01t\0\0\0\x02\0\0\0\0\0\0\0\0\0\0\0\x0a\0\0\0\0\0\x01\0\0\0\0\0\0\0\x0b\0\0";
 
 /// An OffsetFetch request for both.
-const POSITIONS: &[u8] = b"\0\0\0\x20\0\x09\0\x01\0\0\0\x07\xff\xff\0\x01g\0\0\0\x01\0\x01t\0\0\0\x02\0\0\0\0\0\0\0\x01";
+const POSITIONS: &[u8] =
+    b"\0\0\0\x20\0\x09\0\x01\0\0\0\x07\xff\xff\0\x01g\0\0\0\x01\0\x01t\0\0\0\x02\0\0\0\0\0\0\0\x01";
 
 /// A Clean request for partition 0 of `t`, for the offsets below 2.
-const CLEAN: &[u8] = b"\0\0\0!N!\0\0\0\0\0\x07\xff\xff\0\x01t\0\0\0\0\0\0\0\0\0\0\0\x02\0\0\0\0\0\0\0\0";
+const CLEAN: &[u8] =
+    b"\0\0\0!N!\0\0\0\0\0\x07\xff\xff\0\x01t\0\0\0\0\0\0\0\0\0\0\0\x02\0\0\0\0\0\0\0\0";
 
 /// Requests that are answered before, a request, and what may come of it: the bytes that it appends, and how many
 /// batches partition 0 of `t` and the topic of groups keep then.
@@ -36,9 +39,21 @@ static CASES: [Case; 3] = [
         request: COMMITS,
         outcomes: &[
             (b"", 0, 0),
-            (b"\0\0\0\x1b\0\0\0\x07\0\0\0\x01\0\x01t\0\0\0\x02\0\0\0\0\08\0\0\0\x01\0\0", 0, 1),
-            (b"\0\0\0\x1b\0\0\0\x07\0\0\0\x01\0\x01t\0\0\0\x02\0\0\0\0\0\0\0\0\0\x01\08", 0, 1),
-            (b"\0\0\0\x1b\0\0\0\x07\0\0\0\x01\0\x01t\0\0\0\x02\0\0\0\0\0\0\0\0\0\x01\0\0", 0, 2),
+            (
+                b"\0\0\0\x1b\0\0\0\x07\0\0\0\x01\0\x01t\0\0\0\x02\0\0\0\0\08\0\0\0\x01\0\0",
+                0,
+                1,
+            ),
+            (
+                b"\0\0\0\x1b\0\0\0\x07\0\0\0\x01\0\x01t\0\0\0\x02\0\0\0\0\0\0\0\0\0\x01\08",
+                0,
+                1,
+            ),
+            (
+                b"\0\0\0\x1b\0\0\0\x07\0\0\0\x01\0\x01t\0\0\0\x02\0\0\0\0\0\0\0\0\0\x01\0\0",
+                0,
+                2,
+            ),
         ],
     },
     Case {
@@ -46,17 +61,33 @@ static CASES: [Case; 3] = [
         request: POSITIONS,
         outcomes: &[
             (b"", 0, 2),
-            (b"\0\0\0/\0\0\0\x07\0\0\0\x01\0\x01t\0\0\0\x02\0\0\0\0\xff\xff\xff\xff\xff\xff\xff\xff\0\0\08\0\0\0\x01\xff\xff\xff\xff\xff\xff\xff\xff\0\0\08", 0, 2),
-            (b"\0\0\0/\0\0\0\x07\0\0\0\x01\0\x01t\0\0\0\x02\0\0\0\0\0\0\0\0\0\0\0\x0a\0\0\0\0\0\0\0\x01\0\0\0\0\0\0\0\x0b\0\0\0\0", 0, 2),
+            (
+                b"\0\0\0/\0\0\0\x07\0\0\0\x01\0\x01t\0\0\0\x02\0\0\0\0\xff\xff\xff\xff\xff\xff\xff\xff\0\0\08\0\0\0\x01\xff\xff\xff\xff\xff\xff\xff\xff\0\0\08",
+                0,
+                2,
+            ),
+            (
+                b"\0\0\0/\0\0\0\x07\0\0\0\x01\0\x01t\0\0\0\x02\0\0\0\0\0\0\0\0\0\0\0\x0a\0\0\0\0\0\0\0\x01\0\0\0\0\0\0\0\x0b\0\0\0\0",
+                0,
+                2,
+            ),
         ],
     },
     Case {
-        before: &[STORE.request, STORE.request],
+        before: &[STORE_REQUEST, STORE_REQUEST],
         request: CLEAN,
         outcomes: &[
             (b"", 2, 0),
-            (b"\0\0\0\x1e\0\0\0\x07\08\0\0\0\0\0\0\0\0\0\0\0\0\0\0\0\0\0\0\0\0\0\0\0\0", 2, 0),
-            (b"\0\0\0\x1e\0\0\0\x07\0\0\0\0\0\0\0\0\0\x01\0\0\0\0\0\0\0\0\0\0\0\0\0\0\0\x01", 1, 0),
+            (
+                b"\0\0\0\x1e\0\0\0\x07\08\0\0\0\0\0\0\0\0\0\0\0\0\0\0\0\0\0\0\0\0\0\0\0\0",
+                2,
+                0,
+            ),
+            (
+                b"\0\0\0\x1e\0\0\0\x07\0\0\0\0\0\0\0\0\0\x01\0\0\0\0\0\0\0\0\0\0\0\0\0\0\0\x01",
+                1,
+                0,
+            ),
         ],
     },
 ];

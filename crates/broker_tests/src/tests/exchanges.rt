@@ -9,8 +9,12 @@ pub(crate) struct Exchange {
 }
 
 /// A Produce request for partition 0 of `t`: `a` = 1.
+pub(crate) const STORE_REQUEST: &[u8] =
+    b"\0\0\0k\0\0\0\x03\0\0\0\x07\xff\xff\xff\xff\0\x01\0\0\x03\xe8\0\0\0\x01\0\x01t\0\0\0\x01\0\0\0\0\0\0\0F\0\0\0\0\0\0\0\0\0\0\0:\0\0\0\0\x022\xc83\x8d\0\0\0\0\0\0\0\0\0\0\0\0\0\0\0\0\0\0\0\0\0\0\xff\xff\xff\xff\xff\xff\xff\xff\xff\xff\xff\xff\xff\xff\0\0\0\x01\x10\0\0\0\x02a\x021\0";
+
+/// The same, answered.
 pub(crate) const STORE: Exchange = Exchange {
-    request: b"\0\0\0k\0\0\0\x03\0\0\0\x07\xff\xff\xff\xff\0\x01\0\0\x03\xe8\0\0\0\x01\0\x01t\0\0\0\x01\0\0\0\0\0\0\0F\0\0\0\0\0\0\0\0\0\0\0:\0\0\0\0\x022\xc83\x8d\0\0\0\0\0\0\0\0\0\0\0\0\0\0\0\0\0\0\0\0\0\0\xff\xff\xff\xff\xff\xff\xff\xff\xff\xff\xff\xff\xff\xff\0\0\0\x01\x10\0\0\0\x02a\x021\0",
+    request: STORE_REQUEST,
     response: b"\0\0\0)\0\0\0\x07\0\0\0\x01\0\x01t\0\0\0\x01\0\0\0\0\0\0\0\0\0\0\0\0\0\0\xff\xff\xff\xff\xff\xff\xff\xff\0\0\0\0",
     failed: Some(
         b"\0\0\0)\0\0\0\x07\0\0\0\x01\0\x01t\0\0\0\x01\0\0\0\0\08\xff\xff\xff\xff\xff\xff\xff\xff\xff\xff\xff\xff\xff\xff\xff\xff\0\0\0\0",
