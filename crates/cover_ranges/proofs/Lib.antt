@@ -4,3 +4,4 @@ pub mod Law
 pub mod RunsFrom
 pub mod RunSets
 pub mod RunEnds
+pub mod Cutting

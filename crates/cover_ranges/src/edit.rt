@@ -2,7 +2,7 @@
 ghost use Rattle.std.specs.Prelude.{◌≡◌, ◌<◌, ◌≤◌, ◌+◌, ◌-◌, ◌^◌, ◌++◌, ◌∷◌, length, take, drop, ℤ, pos, ◌<ℤ◌, ◌≤ℤ◌, is_ok, IsOk, if◌then◌else◌, slice_index_or};
 ghost use Rattle.std.specs.Int.{int_min, int_max};
 ghost use Rattle.std.specs.Vec.{vec_len, vec_capacity};
-ghost use Rattle.cover_ranges.specs.Runs.{IsCanonical};
+ghost use Rattle.cover_ranges.specs.Runs.{IsCanonical, cut_below};
 ghost use Rattle.cover_ranges.specs.Insertion.{Reaches};
 
 use crate::OFFSETS_END;
@@ -98,4 +98,19 @@ pub(crate) fn replace<A: Allocator + Copy>(
     ranges[start] = range;
     remove_between(ranges, start + 1, end);
     Ok(())
+}
+
+/// Leaves of the ranges what lies at `start` or later: those that end below it go, and the first one
+/// that is left begins there if it began earlier. It takes no memory.
+pub(crate) fn cut_below<A: Allocator + Copy>(ranges: &mut Vec<(i64, i64), A>, start: i64)
+    requires { IsCanonical ranges.old.items }
+    ensures items { ranges.new.items ≡ cut_below start ranges.old.items }
+    ensures fewer { vec_len ranges.new ≤ vec_len ranges.old }
+    ensures keeps_memory { vec_capacity ranges.new ≡ vec_capacity ranges.old }
+{
+    let at = index_of(ranges, start);
+    remove_between(ranges, 0, at);
+    if !ranges.is_empty() {
+        ranges[0].0 = start.max(ranges[0].0);
+    }
 }

@@ -1,11 +1,11 @@
 //! The set of offsets.
-ghost use Rattle.std.specs.Prelude.{◌≡◌, ◌<◌, ◌≤◌, ◌+◌, ◌^◌, ◌||◌, ◌↔◌, ℤ, pos, ◌<ℤ◌, ◌≤ℤ◌, [], length, slice_index_or, IsTrue, IfOk, IfErr, OnOk, OnErr, IsOk};
-ghost use Rattle.cover_ranges.specs.Runs.{is_within, covers, IsCanonical, with_range, union_of, CoversAll, CoversAny, IsSubset};
+ghost use Rattle.std.specs.Prelude.{◌≡◌, ◌<◌, ◌≤◌, ◌+◌, ◌^◌, ◌||◌, ◌&&◌, ◌↔◌, ℤ, pos, ◌<ℤ◌, ◌≤ℤ◌, int_le, [], length, slice_index_or, IsTrue, IfOk, IfErr, OnOk, OnErr, IsOk};
+ghost use Rattle.cover_ranges.specs.Runs.{is_within, covers, IsCanonical, with_range, union_of, cut_below, CoversAll, CoversAny, IsSubset};
 ghost use Rattle.cover_ranges.specs.CoverValue.{HasRoom};
 ghost use Rattle.cover_ranges.specs.Refusal.{IsRefusal};
 
 use crate::OFFSETS_END;
-use crate::edit::{replace, splice_of};
+use crate::edit::{self, replace, splice_of};
 use crate::error::CoverError;
 use crate::judge::judge;
 use crate::search::{self, comes_next};
@@ -171,6 +171,22 @@ impl<A: Allocator + Copy> Cover<A> {
             }
         }
         Ok(both)
+    }
+
+    /// Removes the offsets below `start`, which may be any i64: with 0 or less all offsets stay, with
+    /// more than the greatest none does. It can't fail: a search and one move, in place.
+    pub fn cut_below(&mut self, start: i64)
+        ensures cuts_runs { self.new.runs ≡ cut_below start self.old.runs }
+        ensures keeps_later_offsets { (o : ℤ)
+            → covers self.new.runs o ≡ (covers self.old.runs o && int_le start o) }
+        ensures canonical { IsCanonical self.new.runs }
+
+        // It takes no memory, and gives none back.
+        ensures keeps_room { self.old.room ≤ self.new.room }
+        ensures keeps_memory { self.new.room + length self.new.runs
+            ≡ self.old.room + length self.old.runs }
+    {
+        edit::cut_below(&mut self.ranges, start);
     }
 
     /// A copy of the set in memory of its own.
