@@ -2,3 +2,4 @@ pub mod Running
 pub mod Edited
 pub mod PutBack
 pub mod Filled
+pub mod Front

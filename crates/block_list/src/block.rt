@@ -96,6 +96,14 @@ impl<T: Drop, A: Allocator + Copy> Block<T, A> {
         Ok(())
     }
 
+    /// Lets go of some of the first elements, but not of all. Takes no memory.
+    pub(crate) fn drop_front(&mut self, count: usize)
+        requires not_all { count < length self.old }
+        ensures { self.new ≡ drop count self.old }
+    {
+        self.items.drain(..count);
+    }
+
     /// Keeps some of the first elements, and answers a block of the others.
     ///
     /// # Errors

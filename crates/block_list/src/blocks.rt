@@ -1,12 +1,12 @@
 //! The blocks, and where each starts.
 
-ghost use Rattle.std.specs.Prelude.{◌≡◌, ◌+◌, ◌<◌, ◌≤◌, ◌^◌, [], ◌∷◌, ◌++◌, length, is_ok, if◌then◌else◌, slice_set, slice_index_or, vec_len, vec_capacity, IfOk, IfSome};
+ghost use Rattle.std.specs.Prelude.{◌≡◌, ◌+◌, ◌<◌, ◌≤◌, ◌^◌, [], ◌∷◌, ◌++◌, length, drop, is_ok, if◌then◌else◌, slice_set, slice_index_or, vec_len, vec_capacity, IfOk, IfSome};
 ghost use Rattle.std.specs.List.{HoldsAt, insert};
 ghost use Rattle.block_list.specs.Blocks.{joined, starts_of, divided, IsIn};
 ghost use Rattle.block_list.specs.declared.block.TheConstants.{LIMIT};
 
 use crate::block::{Block, LIMIT};
-use crate::starts::{block_at, count_one};
+use crate::starts::{block_at, count_fewer, count_one};
 use std::alloc::{AllocError, Allocator};
 use std::marker::Model;
 
@@ -209,5 +209,18 @@ impl<T: Drop, A: Allocator + Copy> Blocks<T, A> {
             block: back,
             index: place.index - keep,
         })
+    }
+
+    /// Lets go of some of the first elements, but not of all: of whole blocks, and of the front of the
+    /// next. Takes no memory.
+    pub(crate) fn drop_front(&mut self, count: usize)
+        requires not_all { count < length (joined self.old) }
+        ensures { joined self.new ≡ drop count (joined self.old) }
+    {
+        let place = self.locate(count);
+        self.blocks.drain(..place.block);
+        self.starts.drain(..place.block);
+        self.blocks[0].drop_front(place.index);
+        count_fewer(&mut self.starts, count);
     }
 }

@@ -1,6 +1,6 @@
 //! The list.
 
-ghost use Rattle.std.specs.Prelude.{◌≡◌, ◌<◌, ◌≤◌, [], ◌∷◌, ◌++◌, length, OnOk, OnErr};
+ghost use Rattle.std.specs.Prelude.{◌≡◌, ◌<◌, ◌≤◌, [], ◌∷◌, ◌++◌, length, drop, OnOk, OnErr};
 ghost use Rattle.std.specs.List.{HoldsAt, insert};
 ghost use Rattle.block_list.specs.Blocks.{joined};
 
@@ -108,5 +108,19 @@ impl<T: Drop, A: Allocator + Copy> BlockList<T, A> {
         self.blocks.insert(place, x)?;
         self.len = len;
         Ok(())
+    }
+
+    /// Lets go of the first `count` elements; of all where there are no more. Whole blocks go as they
+    /// are, and of the block in which the cut lies, the elements behind it are moved to its front: no
+    /// other element is touched. Takes no memory.
+    pub fn drop_front(&mut self, count: usize)
+        ensures drops { self.new ≡ drop count self.old }
+    {
+        if count >= self.len {
+            *self = BlockList::new(self.alloc);
+            return;
+        }
+        self.blocks.drop_front(count);
+        self.len -= count;
     }
 }

@@ -1,6 +1,6 @@
 //! Where the blocks start.
 
-ghost use Rattle.std.specs.Prelude.{◌≡◌, ◌+◌, ◌<◌, ◌≤◌, ◌^◌, ◌++◌, ◌↔◌, IsTrue, length, take, drop, map, slice_index};
+ghost use Rattle.std.specs.Prelude.{◌≡◌, ◌+◌, ◌-◌, ◌<◌, ◌≤◌, ◌^◌, ◌++◌, ◌↔◌, IsTrue, length, take, drop, map, slice_index};
 ghost use Rattle.std.specs.List.{All};
 ghost use Rattle.std.specs.List.Sorted.{IsNonDecreasing};
 
@@ -39,5 +39,14 @@ pub(crate) fn count_one(starts: &mut [usize], from: usize)
 {
     for i in from..starts.len() {
         starts[i] += 1;
+    }
+}
+
+/// Counts some elements fewer before each block, and none before one that starts among them.
+pub(crate) fn count_fewer(starts: &mut [usize], fewer: usize)
+    ensures { starts.new ≡ map (λ start. start - fewer) starts.old }
+{
+    for i in 0..starts.len() {
+        starts[i] = starts[i].saturating_sub(fewer);
     }
 }
