@@ -4,7 +4,7 @@ use Rattle.std.specs.Ordering.{int_eq}
 use Rattle.std.proofs.lemmas.Int.{ints}
 use Rattle.std.proofs.lemmas.Option.{same_Some}
 use Rattle.request_frames.specs.declared.api.Api.{Api}
-use Rattle.request_frames.specs.declared.api.Api.TheVariants.{Produce, Fetch, ListOffsets, Metadata, OffsetCommit, OffsetFetch, Deliver, Clean, Export, Import, Get, Cover, ForgetGroup}
+use Rattle.request_frames.specs.declared.api.Api.TheVariants.{Produce, Fetch, ListOffsets, Metadata, OffsetCommit, OffsetFetch, Deliver, Clean, Export, Import, Get, Cover, ForgetGroup, Trim}
 use Rattle.frame_fields.specs.declared.error.FrameError.TheVariants.{BadVersion}
 use Rattle.request_frames.specs.Apis.{api_key, api_version, IsNoApi}
 
@@ -26,7 +26,8 @@ api_of_key key =
     with_key key Import (
     with_key key Get (
     with_key key Cover (
-    with_key key ForgetGroup None))))))))))))
+    with_key key ForgetGroup (
+    with_key key Trim None)))))))))))))
 
 pub key_finds : (api : Api) → api_of_key (api_key api) ≡ Some api
 key_finds Produce = refl
@@ -42,6 +43,7 @@ key_finds Import = refl
 key_finds Get = refl
 key_finds Cover = refl
 key_finds ForgetGroup = refl
+key_finds Trim = refl
 
 same_api : (a b : Api) (key : ℤ) → key ≡ api_key a → key ≡ api_key b → a ≡ b
 same_api a b key of_a of_b = same_Some a b (sym (key_finds a) ∙ ap api_of_key (sym of_a ∙ of_b) ∙ key_finds b)
@@ -63,7 +65,8 @@ no_key key other =
     not_this key Import _ (other Import) (
     not_this key Get _ (other Get) (
     not_this key Cover _ (other Cover) (
-    not_this key ForgetGroup _ (other ForgetGroup) refl))))))))))))
+    not_this key ForgetGroup _ (other ForgetGroup) (
+    not_this key Trim _ (other Trim) refl)))))))))))))
 
 -- another version of a request
 pub other_version : (key version : ℤ) (known : Api) → key ≡ api_key known → version ≢ api_version known → IsNoApi key version BadVersion

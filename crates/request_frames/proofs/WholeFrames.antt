@@ -6,7 +6,7 @@ use Rattle.std.proofs.lemmas.Bool.{eqb-true}
 use Rattle.std.proofs.lemmas.Int.{to_z-of_z}
 use Rattle.std.proofs.lemmas.List.{nil_from_length}
 use Rattle.request_frames.specs.declared.api.Api.{Api}
-use Rattle.request_frames.specs.declared.api.Api.TheVariants.{Produce, Fetch, ListOffsets, Metadata, OffsetCommit, OffsetFetch, Deliver, Clean, Export, Import, Get, Cover, ForgetGroup}
+use Rattle.request_frames.specs.declared.api.Api.TheVariants.{Produce, Fetch, ListOffsets, Metadata, OffsetCommit, OffsetFetch, Deliver, Clean, Export, Import, Get, Cover, ForgetGroup, Trim}
 use Rattle.frame_fields.specs.declared.error.FieldFault.{FieldFault}
 use Rattle.frame_fields.specs.declared.error.FrameError.{FrameError}
 use Rattle.frame_fields.specs.declared.error.FrameError.TheVariants as frame
@@ -36,6 +36,7 @@ body_is Import bytes = map_read_twice _ _ (read_fields (fields_of Import) bytes)
 body_is Get bytes = map_read_twice _ _ (read_fields (fields_of Get) bytes)
 body_is Cover bytes = map_read_twice _ _ (read_fields (fields_of Cover) bytes)
 body_is ForgetGroup bytes = map_read_twice _ _ (read_fields (fields_of ForgetGroup) bytes)
+body_is Trim bytes = map_read_twice _ _ (read_fields (fields_of Trim) bytes)
 
 behind_client : (api : Api) (r : At (Option (List ℕ))) → (r >>= λ client. read_body api client.1) ≡ map_read (λ v. body_value api v.1) (then_read r (read_fields (fields_of api)))
 behind_client api (Err e) = refl

@@ -2,7 +2,7 @@
 -- keys from 20000 on are this project's own.
 use Rattle.std.specs.Prelude.{◌≡◌, ◌≢◌, ℤ, pos}
 use Rattle.request_frames.specs.declared.api.Api.{Api}
-use Rattle.request_frames.specs.declared.api.Api.TheVariants.{Produce, Fetch, ListOffsets, Metadata, OffsetCommit, OffsetFetch, Deliver, Clean, Export, Import, Get, Cover, ForgetGroup}
+use Rattle.request_frames.specs.declared.api.Api.TheVariants.{Produce, Fetch, ListOffsets, Metadata, OffsetCommit, OffsetFetch, Deliver, Clean, Export, Import, Get, Cover, ForgetGroup, Trim}
 use Rattle.frame_fields.specs.declared.error.FrameError.{FrameError}
 use Rattle.frame_fields.specs.declared.error.FrameError.TheVariants.{UnknownApi, BadVersion}
 
@@ -20,6 +20,7 @@ api_key Import = pos 20003
 api_key Get = pos 20004
 api_key Cover = pos 20005
 api_key ForgetGroup = pos 20006
+api_key Trim = pos 20007
 
 abbrev pub api_version : Api → ℤ
 api_version Produce = pos 3
@@ -35,6 +36,7 @@ api_version Import = pos 0
 api_version Get = pos 0
 api_version Cover = pos 0
 api_version ForgetGroup = pos 0
+api_version Trim = pos 0
 
 abbrev pub IsApi : (key version : ℤ) → Api → Type 0
 IsApi key version api = (key ≡ api_key api) × (version ≡ api_version api)

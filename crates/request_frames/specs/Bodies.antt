@@ -1,10 +1,10 @@
 -- Requests read from left to right, as the code goes; `Requests` says what comes of it.
 use Rattle.std.specs.Prelude.{List, ℕ}
 use Rattle.request_frames.specs.declared.api.Api.{Api}
-use Rattle.request_frames.specs.declared.api.Api.TheVariants.{Produce, Fetch, ListOffsets, Metadata, OffsetCommit, OffsetFetch, Deliver, Clean, Export, Import, Get, Cover, ForgetGroup}
+use Rattle.request_frames.specs.declared.api.Api.TheVariants.{Produce, Fetch, ListOffsets, Metadata, OffsetCommit, OffsetFetch, Deliver, Clean, Export, Import, Get, Cover, ForgetGroup, Trim}
 use Rattle.frame_fields.specs.Types.{nullable_string}
 use Rattle.frame_fields.specs.Reading.{◌>>=◌, At, map_read, read_field, read_fields}
-use Rattle.request_frames.specs.Requests.BodyValue.{produce, fetch, list_offsets, metadata, offset_commit, offset_fetch, deliver, clean, export, import, get, cover, forget_group}
+use Rattle.request_frames.specs.Requests.BodyValue.{produce, fetch, list_offsets, metadata, offset_commit, offset_fetch, deliver, clean, export, import, get, cover, forget_group, trim}
 use Rattle.request_frames.specs.Requests.{BodyValue}
 use Rattle.request_frames.specs.Produce.{produce_fields, produce_request}
 use Rattle.request_frames.specs.Fetch.{fetch_fields, fetch_request}
@@ -19,6 +19,7 @@ use Rattle.request_frames.specs.Import.{import_fields, import_request}
 use Rattle.request_frames.specs.Get.{get_fields, get_request}
 use Rattle.request_frames.specs.Cover.{cover_fields, cover_request}
 use Rattle.request_frames.specs.ForgetGroup.{forget_group_fields, forget_group_request}
+use Rattle.request_frames.specs.Trim.{trim_fields, trim_request}
 
 -- what stands behind the client id
 abbrev pub read_body : Api → List ℕ → At BodyValue
@@ -35,6 +36,7 @@ read_body Import bytes = map_read import (map_read import_request (read_fields i
 read_body Get bytes = map_read get (map_read get_request (read_fields get_fields bytes))
 read_body Cover bytes = map_read cover (map_read cover_request (read_fields cover_fields bytes))
 read_body ForgetGroup bytes = map_read forget_group (map_read forget_group_request (read_fields forget_group_fields bytes))
+read_body Trim bytes = map_read trim (map_read trim_request (read_fields trim_fields bytes))
 
 unfoldable pub read_request : Api → List ℕ → At BodyValue
 read_request api bytes = do

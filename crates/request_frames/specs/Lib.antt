@@ -12,6 +12,7 @@ pub mod Import
 pub mod Get
 pub mod Cover
 pub mod ForgetGroup
+pub mod Trim
 pub mod Requests
 pub mod Bodies
 pub mod Views

@@ -2,7 +2,7 @@
 -- "Protocol Guide", sections "Request Header" and "The Messages".
 use Rattle.std.specs.Prelude.{◌≡◌, ℕ, ◌<◌, ◌≤◌, ℤ, List, [], length, drop, Option}
 use Rattle.request_frames.specs.declared.api.Api.{Api}
-use Rattle.request_frames.specs.declared.api.Api.TheVariants.{Produce, Fetch, ListOffsets, Metadata, OffsetCommit, OffsetFetch, Deliver, Clean, Export, Import, Get, Cover, ForgetGroup}
+use Rattle.request_frames.specs.declared.api.Api.TheVariants.{Produce, Fetch, ListOffsets, Metadata, OffsetCommit, OffsetFetch, Deliver, Clean, Export, Import, Get, Cover, ForgetGroup, Trim}
 use Rattle.frame_fields.specs.declared.error.FieldFault.{FieldFault}
 use Rattle.frame_fields.specs.declared.error.FieldFault.TheVariants as field
 use Rattle.frame_fields.specs.declared.error.FrameError.{FrameError}
@@ -23,6 +23,7 @@ use Rattle.request_frames.specs.Import.{ImportValue, import_fields, import_reque
 use Rattle.request_frames.specs.Get.{GetValue, get_fields, get_request}
 use Rattle.request_frames.specs.Cover.{CoverValue, cover_fields, cover_request}
 use Rattle.request_frames.specs.ForgetGroup.{forget_group_fields, forget_group_request}
+use Rattle.request_frames.specs.Trim.{TrimValue, trim_fields, trim_request}
 
 -- ---- the fields
 
@@ -41,6 +42,7 @@ fields_of Import = import_fields
 fields_of Get = get_fields
 fields_of Cover = cover_fields
 fields_of ForgetGroup = forget_group_fields
+fields_of Trim = trim_fields
 
 -- ---- what requests say
 
@@ -58,6 +60,7 @@ pub data BodyValue : Type 0 where
   get : GetValue → BodyValue
   cover : CoverValue → BodyValue
   forget_group : List ℕ → BodyValue
+  trim : TrimValue → BodyValue
 
 pub record RequestValue : Type 0 where
   pub correlation : ℤ
@@ -77,6 +80,7 @@ body_value Import v = import (import_request v)
 body_value Get v = get (get_request v)
 body_value Cover v = cover (cover_request v)
 body_value ForgetGroup v = forget_group (forget_group_request v)
+body_value Trim v = trim (trim_request v)
 
 -- ---- frames
 

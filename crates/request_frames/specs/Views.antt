@@ -17,7 +17,8 @@ use Rattle.request_frames.specs.Import.{import_view}
 use Rattle.request_frames.specs.Get.{get_view}
 use Rattle.request_frames.specs.Cover.{cover_view}
 use Rattle.request_frames.specs.ForgetGroup.{forget_group_view}
-use Rattle.request_frames.specs.Requests.BodyValue.{produce, fetch, list_offsets, metadata, offset_commit, offset_fetch, deliver, clean, export, import, get, cover, forget_group}
+use Rattle.request_frames.specs.Trim.{trim_view}
+use Rattle.request_frames.specs.Requests.BodyValue.{produce, fetch, list_offsets, metadata, offset_commit, offset_fetch, deliver, clean, export, import, get, cover, forget_group, trim}
 use Rattle.request_frames.specs.Requests.{BodyValue, RequestValue, key_of, version_of, correlation_of}
 
 abbrev pub request_body : RequestBody → BodyValue
@@ -34,6 +35,7 @@ request_body (variants.Import r) = import (import_view r)
 request_body (variants.Get r) = get (get_view r)
 request_body (variants.Cover r) = cover (cover_view r)
 request_body (variants.ForgetGroup r) = forget_group (forget_group_view r)
+request_body (variants.Trim r) = trim (trim_view r)
 
 abbrev pub request_value : Request → RequestValue
 request_value q = record { correlation = q.correlation; body = request_body q.body }

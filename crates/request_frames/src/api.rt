@@ -34,6 +34,8 @@ pub enum Api {
     Cover,
     /// ForgetGroup, version 0.
     ForgetGroup,
+    /// Trim, version 0.
+    Trim,
 }
 
 impl Api {
@@ -55,6 +57,7 @@ impl Api {
             Api::Get => 20_004,
             Api::Cover => 20_005,
             Api::ForgetGroup => 20_006,
+            Api::Trim => 20_007,
         }
     }
 
@@ -76,6 +79,7 @@ impl Api {
             Api::Get => 0,
             Api::Cover => 0,
             Api::ForgetGroup => 0,
+            Api::Trim => 0,
         }
     }
 
@@ -98,6 +102,7 @@ impl Api {
             20_004 => Some(Api::Get),
             20_005 => Some(Api::Cover),
             20_006 => Some(Api::ForgetGroup),
+            20_007 => Some(Api::Trim),
             _ => None,
         }
     }

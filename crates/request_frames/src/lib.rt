@@ -18,6 +18,7 @@ mod offset_commit;
 mod offset_fetch;
 mod parsing;
 mod produce;
+mod trim;
 
 pub use api::Api;
 pub use clean::CleanRequest;
@@ -41,3 +42,4 @@ pub use parsing::{Request, RequestBody, parse};
 pub use produce::{ProducePartition, ProduceRequest};
 pub use responses as response;
 pub use responses::laws as response_laws;
+pub use trim::TrimRequest;

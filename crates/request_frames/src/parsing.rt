@@ -20,6 +20,7 @@ use crate::metadata::{MetadataRequest, metadata_at};
 use crate::offset_commit::{OffsetCommitRequest, offset_commit_at};
 use crate::offset_fetch::{OffsetFetchRequest, offset_fetch_at};
 use crate::produce::{ProduceRequest, produce_at};
+use crate::trim::{TrimRequest, trim_at};
 use frame_fields::fields::nullable_string;
 use frame_fields::{FieldFault, FrameError};
 
@@ -61,6 +62,8 @@ pub enum RequestBody<'a> {
     Cover(CoverRequest<'a>),
     /// The offsets that a group has committed are to be forgotten.
     ForgetGroup(ForgetGroupRequest<'a>),
+    /// The start of a copy is to be moved.
+    Trim(TrimRequest<'a>),
 }
 
 /// The fixed fields that each request begins with.
@@ -102,6 +105,7 @@ fn body_at(api: Api, bytes: &[u8]) -> Result<(RequestBody<'_>, &[u8]), FieldFaul
         Api::Get => get_at(bytes),
         Api::Cover => cover_at(bytes),
         Api::ForgetGroup => forget_group_at(bytes),
+        Api::Trim => trim_at(bytes),
     }
 }
 

@@ -12,3 +12,4 @@ pub mod Import
 pub mod Get
 pub mod Cover
 pub mod ForgetGroup
+pub mod Trim

@@ -34,6 +34,7 @@ pub mod offset_commit;
 pub mod offset_fetch;
 mod parts;
 pub mod produce;
+pub mod trim;
 
 pub use parts::{
     COUNT_BYTES, MAX_BODY_BYTES, MAX_COUNT, MAX_STRING_BYTES, RESPONSE_HEAD_BYTES,
