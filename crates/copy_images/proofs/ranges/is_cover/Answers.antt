@@ -12,13 +12,13 @@ returns-then-first-least c =
     let range = c.range_at-first.result in
     let f : FitsSigned w64 range.0 = search rules in
     let l : FitsSigned w64 range.1 = search rules in
-    one_fails c.args.ranges.now c.loop-bytes.bytes-index c.loop-bytes.least range c.loop-bytes-test.true c.range_at-first.ensures
+    one_fails c.args.start c.args.ranges.now c.loop-bytes.bytes-index c.loop-bytes.least range c.loop-bytes-test.true c.range_at-first.ensures
     (elim c.then-first-least.branch [
       | then-first-least-via-then-first-least w ↦ inl (grind (arith, ints, w.if-first-least.true))
       | then-first-least-via-else-first-least+then-last-first w ↦ inr (inl (grind (arith, ints, w.if-last-first.true)))
       | then-first-least-via-else-first-least+else-last-first+then-last-ge-OFFSETS_END w ↦ inr (inr (grind (arith, ints, w.if-last-ge-OFFSETS_END.true)))
     ])
-    (subst (Passes c.args.ranges.now c.loop-bytes.bytes-index) c.loop-bytes.least-is c.loop-bytes.invariant)
+    (subst (Passes c.args.start c.args.ranges.now c.loop-bytes.bytes-index) c.loop-bytes.least-is c.loop-bytes.invariant)
 
 pub loop-bytes-preserved : goal.loop-bytes-preserved
 loop-bytes-preserved c =
@@ -29,7 +29,7 @@ loop-bytes-preserved c =
     let b : range.0 ≤ℤ range.1 = grind (arith, ints, c.if-last-first.false) in
     let d : range.1 <ℤ OFFSETS_END = grind (arith, ints, c.if-last-ge-OFFSETS_END.false) in
     let same : cast_signed w64 (cast_unsigned w64 (cast_signed w64 (cast_unsigned w64 range.1) +ℤ pos 2)) ≡ range.1 +ℤ pos 2 = omega (arith, ints) in
-    subst (λ x. Passes c.args.ranges.now (c.loop-bytes.bytes-index + 1) x) (sym same) (one_passes c.args.ranges.now c.loop-bytes.bytes-index c.loop-bytes.least range c.loop-bytes-test.true c.range_at-first.ensures a b d (subst (Passes c.args.ranges.now c.loop-bytes.bytes-index) c.loop-bytes.least-is c.loop-bytes.invariant))
+    subst (λ x. Passes c.args.start c.args.ranges.now (c.loop-bytes.bytes-index + 1) x) (sym same) (one_passes c.args.start c.args.ranges.now c.loop-bytes.bytes-index c.loop-bytes.least range c.loop-bytes-test.true c.range_at-first.ensures a b d (subst (Passes c.args.start c.args.ranges.now c.loop-bytes.bytes-index) c.loop-bytes.least-is c.loop-bytes.invariant))
 
 pub returns : goal.returns
-returns c = all_pass c.args.ranges.now c.loop-bytes.bytes-index c.loop-bytes.least c.loop-bytes-test.false (subst (Passes c.args.ranges.now c.loop-bytes.bytes-index) c.loop-bytes.least-is c.loop-bytes.invariant)
+returns c = all_pass c.args.start c.args.ranges.now c.loop-bytes.bytes-index c.loop-bytes.least c.requires c.loop-bytes-test.false (subst (Passes c.args.start c.args.ranges.now c.loop-bytes.bytes-index) c.loop-bytes.least-is c.loop-bytes.invariant)
