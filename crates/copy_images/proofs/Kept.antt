@@ -205,7 +205,7 @@ is_content start ranges runs count bytes store judged is kept =
     let batches : Batches = judged.batches.0 in
     let has = judged.batches.1 in
     let same : batches ≡ store = same_batches batches store has.list.writable kept.list.writable (sym (append-nil (flat_map batch_encoding batches)) ∙ sym has.encoded ∙ kept.encoded) in
-    let content : IsContent (content_from start ranges batches) = kept_content start ranges batches judged.start judged.ranges has.list.disjoint has.keepable has.seen in
+    let content : IsContent (content_from start ranges batches) = kept_content start ranges batches judged.start judged.cover has.list.disjoint has.keepable has.seen in
     let with_store : IsContent (content_from start ranges store) = subst (λ (x : Batches). IsContent (content_from start ranges x)) same content in
     subst (λ (x : Runs). IsContent (content_from start x store)) (sym is) with_store
 

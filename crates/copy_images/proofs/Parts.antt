@@ -1,12 +1,12 @@
 -- The parts of an image, read from bytes that have the mark, a version and the crc.
 use Rattle.std.proofs.Common.{get_or, ◌≡◌, ℕ, zero, suc, ◌+◌, ◌-◌, ◌*◌, ◌≤◌, ◌<◌, ℤ, pos, Bool, true, false, ◌⊎◌, inl, inr, List, [], ◌∷◌, ◌++◌, length, take, drop, refl, sym, ap, subst, ◌∙◌, append_assoc, append-nil, arith}
-use Rattle.std.specs.Prelude.{negsuc, ◌/◌, FitsSigned, unsigned_abs, if◌then◌else◌}
+use Rattle.std.specs.Prelude.{negsuc, ◌/◌, ◌<ℤ◌, ◌↔◌, IsTrue, FitsSigned, unsigned_abs, if◌then◌else◌}
 use Rattle.std.specs.List.{AllByRecursion, flat_map}
 use Rattle.std.specs.Int.{Width, w16, w32, w64, cast_signed, cast_unsigned, FitsUnsignedBits}
 use Rattle.std.specs.Simd.{first_chunks}
 use Rattle.std.proofs.Math.Facts.{sfits_to_z}
 use Rattle.std.proofs.lemmas.Int.{ints, of_z-to_z, to_z-of_z}
-use Rattle.std.proofs.lemmas.List.{length-append, length-take, length-drop, length-map, take-append-drop, take_at, drop-drop}
+use Rattle.std.proofs.lemmas.List.{length-append, length-take, length-drop, length-map, take-append-drop, take_at, take_rest, drop-drop}
 use Rattle.checksum.specs.Crc.{crc_of}
 use Rattle.batch_codec.specs.Grammar.{fields, signed}
 use Rattle.batch_codec.specs.Fields.{unsigned_at, signed_at}
@@ -14,7 +14,7 @@ use Rattle.batch_codec.proofs.Steps.{IsBytes-drop, IsBytes-take}
 use Rattle.batch_codec.proofs.Fixed.{IsWide, wide16, wide32, wide64, fields_back, unsigned-below}
 use Rattle.copy_images.specs.declared.layout.TheConstants.{MARK, VERSION, FIRST_VERSION, MAX_COUNT}
 use Rattle.copy_images.specs.Images.{head_of, first_head, range_encoding, front_of, with_crc}
-use Rattle.copy_images.specs.Refusals.{version_in, IsOwnCrc, HasCrc, has_start, start_in, body_in, range_count, FitsInt64, HasFront}
+use Rattle.copy_images.specs.Refusals.{IsLogStart, HasStart, version_in, IsOwnCrc, HasCrc, has_start, start_in, body_in, range_count, FitsInt64, HasFront}
 use Rattle.copy_images.specs.Judging.{range_at, ranges_of}
 
 abbrev pub IsBytes : List ℕ → Type 0
@@ -174,7 +174,7 @@ body_bytes bytes fits = IsBytes-take _ _ (IsBytes-drop _ bytes fits)
 
 -- ---- as code has it
 
-pub counted_is : (field : ℤ) (n : ℕ) → FitsSigned w32 field → FitsUnsignedBits 64 (cast_signed w32 (cast_unsigned w32 field)) → n ≡ unsigned_abs (cast_signed w32 (cast_unsigned w32 field)) → (field ≡ pos n) × (n ≤ MAX_COUNT)
+counted_is : (field : ℤ) (n : ℕ) → FitsSigned w32 field → FitsUnsignedBits 64 (cast_signed w32 (cast_unsigned w32 field)) → n ≡ unsigned_abs (cast_signed w32 (cast_unsigned w32 field)) → (field ≡ pos n) × (n ≤ MAX_COUNT)
 counted_is field n fits whole is =
     let same = to_z-of_z w32 field fits in
     by field fits (subst (FitsUnsignedBits 64) same whole) (is ∙ ap unsigned_abs same)
@@ -183,7 +183,7 @@ counted_is field n fits whole is =
     by (pos k) fits whole is = (ap pos (sym is), omega (arith, fits.sfits, is))
     by (negsuc k) fits whole is = absurd (omega (arith, ints, whole))
 
-pub chunks_are : (body : List ℕ) (n : ℕ) (parts : List (List ℕ)) → 8 + 16 * n ≤ length body
+chunks_are : (body : List ℕ) (n : ℕ) (parts : List (List ℕ)) → 8 + 16 * n ≤ length body
     → parts ≡ first_chunks 16 (length (take ((4 + 16 * n) - 4) (drop 4 body)) / 16) (take ((4 + 16 * n) - 4) (drop 4 body))
     → parts ≡ first_chunks 16 n (take (16 * n) (drop 4 body))
 chunks_are body n parts long is =
@@ -192,3 +192,22 @@ chunks_are body n parts long is =
     let len : length (take m (drop 4 body)) ≡ 16 * n = omega (arith, length-take m (drop 4 body), length-drop 4 body) in
     let count : length (take m (drop 4 body)) / 16 ≡ n = omega (arith, len) in
     is ∙ (λ i. first_chunks 16 (count i) (take (size i) (drop 4 body)))
+
+pub below_zero : (field : ℤ) → FitsSigned w32 field → (FitsUnsignedBits 64 (cast_signed w32 (cast_unsigned w32 field)) → ⊥) → field <ℤ pos 0
+below_zero (pos k) fits none = absurd (none (subst (FitsUnsignedBits 64) (sym (to_z-of_z w32 (pos k) fits)) (omega (arith, fits.sfits))))
+below_zero (negsuc k) fits none = omega (arith, ints)
+
+pub started : (bytes : List ℕ) (start : ℤ) (may : Bool) → HasCrc bytes → start ≡ start_in bytes → FitsSigned w64 start → (IsTrue may ↔ IsLogStart (cast_signed w64 (cast_unsigned w64 start))) → may ≡ true → HasStart bytes
+started bytes start may has is fits asked yes =
+    let same : cast_signed w64 (cast_unsigned w64 start) ≡ start_in bytes = to_z-of_z w64 start fits ∙ is in
+    (has, subst IsLogStart same (asked.0 yes))
+
+pub front_found : (bytes body : List ℕ) (n : ℕ) (parts : List (List ℕ)) (field count : ℤ) → IsBytes bytes → body ≡ body_in bytes → field ≡ signed_at w32 0 body → FitsSigned w32 field → FitsUnsignedBits 64 (cast_signed w32 (cast_unsigned w32 field)) → n ≡ unsigned_abs (cast_signed w32 (cast_unsigned w32 field))
+    → 8 + 16 * n ≤ length body → parts ≡ first_chunks 16 (length (take ((4 + 16 * n) - 4) (drop 4 body)) / 16) (take ((4 + 16 * n) - 4) (drop 4 body)) → count ≡ signed_at w32 (4 + 16 * n) body → FitsSigned w32 count
+    → HasFront (body_in bytes) (ranges_of parts) (cast_signed w32 (cast_unsigned w32 count)) (take (length body - ((4 + 16 * n) + 4)) (drop ((4 + 16 * n) + 4) body))
+front_found bytes body n parts field count fits is read field_fits whole number long chunks count_is count_fits =
+    let counted = counted_is field n field_fits whole number in
+    let rest_is : take (length body - ((4 + 16 * n) + 4)) (drop ((4 + 16 * n) + 4) body) ≡ drop (8 + 16 * n) body = take_rest body ((4 + 16 * n) + 4) ∙ ap (λ (k : ℕ). drop k body) (omega arith) in
+    subst (λ (x : List ℕ). HasFront x (ranges_of parts) (cast_signed w32 (cast_unsigned w32 count)) (take (length body - ((4 + 16 * n) + 4)) (drop ((4 + 16 * n) + 4) body))) is
+    (body_back body n (cast_signed w32 (cast_unsigned w32 count)) parts (take (length body - ((4 + 16 * n) + 4)) (drop ((4 + 16 * n) + 4) body)) (subst IsBytes (sym is) (body_bytes bytes fits)) (sym read ∙ counted.0) counted.1 long
+    (chunks_are body n parts long chunks) (to_z-of_z w32 count count_fits ∙ count_is) rest_is)

@@ -82,7 +82,7 @@ module _ (bytes : List ℕ) (ranges : Runs) (count : ℤ) (all : List ℕ) (fits
       let has = judged.batches.1 in
       let c : Content = content_from from ranges batches in
       let built : IsBuilt from ranges all c = record {
-        content = kept_content from ranges batches judged.start judged.ranges has.list.disjoint has.keepable has.seen;
+        content = kept_content from ranges batches judged.start judged.cover has.list.disjoint has.keepable has.seen;
         start = refl;
         cover = refl;
         encoded = record { encoded = has.encoded ∙ append-nil (flat_map batch_encoding batches); list = has.list };

@@ -64,9 +64,9 @@ BatchesFault ranges count bytes _ = ⊥
 -- ---- what is built
 
 -- a start, the ranges of a copy with that start, and so many batches of it
-pub record AreJudged (start : ℤ) (ranges : Runs) (count : ℤ) (bytes : List ℕ) : Type 0 where
-  pub start : IsLogStart start
-  pub ranges : IsCoverFrom start ranges
+pub record AreJudged (from : ℤ) (ranges : Runs) (count : ℤ) (bytes : List ℕ) : Type 0 where
+  pub start : IsLogStart from
+  pub cover : IsCoverFrom from ranges
   pub batches : HoldsBatches ranges count bytes
 
 -- the bytes are the encodings of these batches, which a store can keep
@@ -75,8 +75,8 @@ pub record IsEncoded (batches : List BatchValue) (bytes : List ℕ) : Type 0 whe
   pub list : IsBatchList batches
 
 -- a valid content with this start and these ranges, whose batches these bytes encode
-pub record IsBuilt (start : ℤ) (ranges : Runs) (bytes : List ℕ) (c : Content) : Type 0 where
+pub record IsBuilt (from : ℤ) (ranges : Runs) (bytes : List ℕ) (c : Content) : Type 0 where
   pub content : IsContent c
-  pub start : c.start ≡ start
+  pub start : c.start ≡ from
   pub cover : c.cover ≡ ranges
   pub encoded : IsEncoded c.kept bytes
