@@ -1,7 +1,7 @@
 -- Batches that lie in ranges are those of a valid content.
 use Rattle.std.proofs.Common.{◌≡◌, ℕ, ◌<◌, length, ℤ, pos, ◌+ℤ◌, true, Some, List, [], ◌∷◌, get_or, sym, ap, subst, ◌∙◌, arith}
-use Rattle.std.specs.Prelude.{◌≤ℤ◌, ◌<ℤ◌}
-use Rattle.std.specs.List.{All, AllByRecursion}
+use Rattle.std.specs.Prelude.{◌≤ℤ◌}
+use Rattle.std.specs.List.{AllByRecursion}
 use Rattle.std.proofs.lemmas.Int.{ints}
 use Rattle.std.proofs.lemmas.List.Folds.{Any-from_list_any}
 use Rattle.batch_codec.specs.Values.{BatchValue}
@@ -13,7 +13,7 @@ use Rattle.content.specs.ByOffset.{look_up}
 use Rattle.content.specs.Records.{IsKeepable}
 use Rattle.content.specs.Content.{IsContent}
 use Rattle.content_laws.proofs.ByOffset.{all_at, look_up-offset}
-use Rattle.cleaner.specs.Given.{content_from}
+use Rattle.cleaner.specs.Given.{content_of}
 use Rattle.copy_images.specs.Refusals.{IsLogStart, IsCoverFrom}
 
 -- ---- ranges from a start on
@@ -60,7 +60,7 @@ firsts_from start runs (b ∷ bs) h keepable seen =
     (seen_from start runs h (first_offset b) first, firsts_from start runs bs h keepable.1 seen.1)
 
 pub kept_content : (start : ℤ) (ranges : Runs) (bs : List BatchValue) → IsLogStart start → IsCoverFrom start ranges → SpansRise (pos 0) bs → AllByRecursion IsKeepable bs
-    → AllByRecursion (λ b. CoversAll ranges (first_offset b) (last_offset b)) bs → IsContent (content_from start ranges bs)
+    → AllByRecursion (λ b. CoversAll ranges (first_offset b) (last_offset b)) bs → IsContent (content_of start ranges bs)
 kept_content start ranges bs bounds cover rise keepable seen = record {
   in_range = (bounds.0, bounds.1);
   canonical = cover.0;
@@ -82,7 +82,7 @@ spans_lower start [] z h = tt
 spans_lower start (b ∷ bs) z h = let a : start ≤ℤ first_offset b = h.0 in (omega (arith, ints), h.1)
 
 -- its batches rise from 0 on
-pub rise_from_0 : (start : ℤ) (ranges : Runs) (bs : List BatchValue) → IsContent (content_from start ranges bs) → SpansRise (pos 0) bs
+pub rise_from_0 : (start : ℤ) (ranges : Runs) (bs : List BatchValue) → IsContent (content_of start ranges bs) → SpansRise (pos 0) bs
 rise_from_0 start ranges bs content = spans_lower start bs content.in_range.0 content.disjoint
 
 -- a run that begins below the start would hold an offset there
@@ -94,5 +94,5 @@ runs_above start runs canonical above = all_from start runs (runs_from start run
         let some : (get_or runs k d).0 ≤ℤ (get_or runs k d).1 = (canonical.are_runs k d lt).1 in
         covers_at runs k d (get_or runs k d).0 lt (omega (arith, ints)) some
 
-pub content_cover : (start : ℤ) (ranges : Runs) (bs : List BatchValue) → IsContent (content_from start ranges bs) → IsCoverFrom start ranges
+pub content_cover : (start : ℤ) (ranges : Runs) (bs : List BatchValue) → IsContent (content_of start ranges bs) → IsCoverFrom start ranges
 content_cover start ranges bs content = (content.canonical, runs_above start ranges content.canonical content.above)

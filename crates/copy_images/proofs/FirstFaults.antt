@@ -11,7 +11,7 @@ use Rattle.cover_ranges.specs.Runs.{Runs}
 use Rattle.cover_ranges.proofs.RunsFrom.{RunsFrom, canonical_from}
 use Rattle.content.specs.Records.{IsKeepable}
 use Rattle.content.specs.Content.{Content, IsContent}
-use Rattle.cleaner.specs.Given.{content_from}
+use Rattle.cleaner.specs.Given.{content_of}
 use Rattle.copy_images.specs.declared.layout.TheConstants.{MARK, VERSION, FIRST_VERSION, RANGE_SIZE, COUNT_SIZE, COUNTS_SIZE, LEAST_SIZE}
 use Rattle.copy_images.specs.declared.error.ImageError.{ImageError}
 use Rattle.copy_images.specs.declared.error.ImageError.TheVariants.{Short, BadMark, BadVersion, BadCrc, BadCover, BadBatch, Outside, Extra, OutOfMemory}
@@ -209,8 +209,8 @@ image_front bytes c is =
       front = subst (λ (x : List ℕ). HasFront x c.cover (pos (length c.kept)) (flat_map batch_encoding c.kept)) (sym frame.body_is) front;
     }
 
-pub from_start : (bytes : List ℕ) (c : Content) → IsImage bytes c → IsContent (content_from (start_in bytes) c.cover c.kept)
-from_start bytes c is = subst (λ (z : ℤ). IsContent (content_from z c.cover c.kept)) (sym (image_front bytes c is).start_is) is.content
+pub from_start : (bytes : List ℕ) (c : Content) → IsImage bytes c → IsContent (content_of (start_in bytes) c.cover c.kept)
+from_start bytes c is = subst (λ (z : ℤ). IsContent (content_of z c.cover c.kept)) (sym (image_front bytes c is).start_is) is.content
 
 -- ---- each refusal is given
 

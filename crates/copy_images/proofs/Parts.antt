@@ -198,9 +198,9 @@ below_zero (pos k) fits none = absurd (none (subst (FitsUnsignedBits 64) (sym (t
 below_zero (negsuc k) fits none = omega (arith, ints)
 
 pub started : (bytes : List ℕ) (start : ℤ) (may : Bool) → HasCrc bytes → start ≡ start_in bytes → FitsSigned w64 start → (IsTrue may ↔ IsLogStart (cast_signed w64 (cast_unsigned w64 start))) → may ≡ true → HasStart bytes
-started bytes start may has is fits asked yes =
+started bytes start may has is fits asked true_here =
     let same : cast_signed w64 (cast_unsigned w64 start) ≡ start_in bytes = to_z-of_z w64 start fits ∙ is in
-    (has, subst IsLogStart same (asked.0 yes))
+    (has, subst IsLogStart same (asked.0 true_here))
 
 pub front_found : (bytes body : List ℕ) (n : ℕ) (parts : List (List ℕ)) (field count : ℤ) → IsBytes bytes → body ≡ body_in bytes → field ≡ signed_at w32 0 body → FitsSigned w32 field → FitsUnsignedBits 64 (cast_signed w32 (cast_unsigned w32 field)) → n ≡ unsigned_abs (cast_signed w32 (cast_unsigned w32 field))
     → 8 + 16 * n ≤ length body → parts ≡ first_chunks 16 (length (take ((4 + 16 * n) - 4) (drop 4 body)) / 16) (take ((4 + 16 * n) - 4) (drop 4 body)) → count ≡ signed_at w32 (4 + 16 * n) body → FitsSigned w32 count

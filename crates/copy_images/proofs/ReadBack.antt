@@ -29,12 +29,12 @@ use Rattle.cover_ranges.proofs.RunEnds.{has_all_covers, covers_has_all}
 use Rattle.cover_ranges.proofs.RunsFrom.{RunsFrom}
 use Rattle.content.specs.Records.{IsKeepable}
 use Rattle.content.specs.Content.{Content, IsContent}
-use Rattle.cleaner.specs.Given.{content_from}
+use Rattle.cleaner.specs.Given.{content_of}
 use Rattle.copy_images.specs.declared.layout.TheConstants.{MARK, VERSION, FIRST_VERSION, RANGE_SIZE, COUNTS_SIZE, LEAST_SIZE, MAX_COUNT}
 use Rattle.copy_images.specs.Images.{front_of, body_of, IsImage}
 use Rattle.copy_images.specs.Refusals.{HasStart, version_in, start_in, body_in, range_count, HasFront, IsCoverFrom}
 use Rattle.copy_images.specs.Judging.{ranges_of}
-use Rattle.copy_images.specs.Reading.{has_frame, are_runs, ranges_in, batch_count, batch_bytes, is_passed, may_follow, with_batch, sized_batches, batches_at, content_in, content_of_body, image_at}
+use Rattle.copy_images.specs.Reading.{has_frame, are_runs, ranges_in, batch_count, batch_bytes, is_passed, may_follow, with_batch, sized_batches, batches_at, content_in, content_in_body, image_at}
 use Rattle.copy_images.proofs.Parts.{IsBytes, IsFramed, body_back, frame_back, body_bytes, signed_fits}
 use Rattle.copy_images.proofs.PartsAgain.{IsReadAs, front_again}
 use Rattle.copy_images.proofs.Unique.{IsInside, all_inside}
@@ -239,7 +239,7 @@ module _ (bytes : List ℕ) (c : Content) (fits : IsBytes bytes) (has : HasStart
 
   -- the content of so many ranges and batches in the body
   given_read : (n count : ℕ) → range_count body ≡ pos n → batch_count n body ≡ pos count → 8 + 16 * n ≤ length body → are_runs (start_in bytes) (ranges_in n body) ≡ true
-      → (bs : Batches) → batches_at (ranges_in n body) count (pos 0) (batch_bytes n body) ≡ Some bs → IsImage bytes (content_from (start_in bytes) (ranges_in n body) bs)
+      → (bs : Batches) → batches_at (ranges_in n body) count (pos 0) (batch_bytes n body) ≡ Some bs → IsImage bytes (content_of (start_in bytes) (ranges_in n body) bs)
   given_read n count ranged counted long runs bs made =
       let start = start_in bytes in
       let ranges = ranges_in n body in
@@ -249,7 +249,7 @@ module _ (bytes : List ℕ) (c : Content) (fits : IsBytes bytes) (has : HasStart
       (count_small (range_count body) n (signed_fits w32 wide32 0 body here) ranged) long refl (sym counted) refl in
       let read : AreRead ranges (pos 0) count (batch_bytes n body) bs = batches_read ranges count (pos 0) (batch_bytes n body) bs (IsBytes-drop _ body here) made in
       let number : pos count ≡ pos (length bs) = ap pos (sym read.counted) in
-      let same : body ≡ body_of (content_from start ranges bs) = front.encoded ∙ (λ i. front_of ranges (number i) ++ read.encoded i) in
+      let same : body ≡ body_of (content_of start ranges bs) = front.encoded ∙ (λ i. front_of ranges (number i) ++ read.encoded i) in
       record {
         content = kept_content start ranges bs has.1 cover read.rise read.keepable read.seen;
         ranges = front.counted;
@@ -261,9 +261,9 @@ module _ (bytes : List ℕ) (c : Content) (fits : IsBytes bytes) (has : HasStart
   counted_read (pos n) (pos count) ranged counted e =
       let start = start_in bytes in
       let ranges = ranges_in n body in
-      let test = cond_some (nat_le (COUNTS_SIZE + RANGE_SIZE * n) (length body) && are_runs start ranges) (option_map (content_from start ranges) (batches_at ranges count (pos 0) (batch_bytes n body))) c e in
+      let test = cond_some (nat_le (COUNTS_SIZE + RANGE_SIZE * n) (length body) && are_runs start ranges) (option_map (content_of start ranges) (batches_at ranges count (pos 0) (batch_bytes n body))) c e in
       let parts = both (nat_le (COUNTS_SIZE + RANGE_SIZE * n) (length body)) (are_runs start ranges) test.0 in
-      let made = map_some (content_from start ranges) (batches_at ranges count (pos 0) (batch_bytes n body)) c test.1 in
+      let made = map_some (content_of start ranges) (batches_at ranges count (pos 0) (batch_bytes n body)) c test.1 in
       subst (IsImage bytes) made.2 (given_read n count ranged counted (at_most (COUNTS_SIZE + RANGE_SIZE * n) (length body) parts.0) parts.1 made.0 made.1)
   counted_read (pos n) (negsuc count) ranged counted e = absurd cc
   counted_read (negsuc n) count ranged counted e = absurd cc
@@ -272,7 +272,7 @@ pub image_read : (bytes : List ℕ) (c : Content) → IsBytes bytes → image_at
 unfolding image_at
 image_read bytes c fits e =
     let body = body_in bytes in
-    let test = cond_some (has_frame bytes) (content_of_body (start_in bytes) body) c e in
+    let test = cond_some (has_frame bytes) (content_in_body (start_in bytes) body) c e in
     counted_read bytes c fits (frame_says bytes test.0) (range_count body) (batch_count (unsigned_abs (range_count body)) body) refl refl test.1
 
 -- ---- an image is read again
@@ -286,7 +286,7 @@ chunks_in_front (suc n) xs =
     let rest : drop 16 (take (16 * suc n) xs) ≡ take (16 * n) (drop 16 xs) = ap (λ (m : ℕ). drop 16 (take m xs)) split ∙ drop-take 16 (16 * n) xs in
     λ i. first i ∷ (ap (first_chunks 16 n) rest ∙ chunks_in_front n (drop 16 xs)) i
 
-module _ (body : List ℕ) (start : ℤ) (ranges : Runs) (bs : Batches) (read : IsReadAs body ranges (pos (length bs)) (flat_map batch_encoding bs)) (content : IsContent (content_from start ranges bs)) where
+module _ (body : List ℕ) (start : ℤ) (ranges : Runs) (bs : Batches) (read : IsReadAs body ranges (pos (length bs)) (flat_map batch_encoding bs)) (content : IsContent (content_of start ranges bs)) where
   abbrev n : ℕ
   n = length ranges
 
@@ -307,16 +307,16 @@ module _ (body : List ℕ) (start : ℤ) (ranges : Runs) (bs : Batches) (read : 
       ap (λ (k : ℕ). drop k body) at ∙ sym from ∙ sym read.rest_is
 
   abbrev given : Bool → Runs → ℕ → List ℕ → Option Content
-  given long rs count rest = cond (long && are_runs start rs) (option_map (content_from start rs) (batches_at rs count (pos 0) rest)) None
+  given long rs count rest = cond (long && are_runs start rs) (option_map (content_of start rs) (batches_at rs count (pos 0) rest)) None
 
-  content_again : content_in start (pos n) (pos (length bs)) body ≡ Some (content_from start ranges bs)
+  content_again : content_in start (pos n) (pos (length bs)) body ≡ Some (content_of start ranges bs)
   content_again =
       let long : nat_le (COUNTS_SIZE + RANGE_SIZE * n) (length body) ≡ true = is_at_most (COUNTS_SIZE + RANGE_SIZE * n) (length body) (omega (arith, read.size)) in
       let runs : are_runs start ranges ≡ true = runs_said start ranges (from_cover start ranges (content_cover start ranges bs content)) in
       (λ i. given (long i) (ranges_same i) (length bs) (rest_same i))
-      ∙ (λ i. cond (runs i) (option_map (content_from start ranges) (batches_again ranges (pos 0) bs content.canonical (rise_from_0 start ranges bs content) (all_inside start ranges bs content) i)) None)
+      ∙ (λ i. cond (runs i) (option_map (content_of start ranges) (batches_again ranges (pos 0) bs content.canonical (rise_from_0 start ranges bs content) (all_inside start ranges bs content) i)) None)
 
-  pub body_again : content_of_body start body ≡ Some (content_from start ranges bs)
+  pub body_again : content_in_body start body ≡ Some (content_of start ranges bs)
   body_again =
       let counted : range_count body ≡ pos n = read.counted in
       (λ i. content_in start (counted i) (batch_count (unsigned_abs (counted i)) body) body)
@@ -329,5 +329,5 @@ image_is_read bytes c is =
     let f : IsFrontOf bytes c = image_front bytes c is in
     let body = body_in bytes in
     let read = front_again body c.cover (pos (length c.kept)) (flat_map batch_encoding c.kept) f.front in
-    (λ i. cond (frame_said bytes f.start i) (content_of_body (f.start_is i) body) None)
+    (λ i. cond (frame_said bytes f.start i) (content_in_body (f.start_is i) body) None)
     ∙ body_again body c.start c.cover c.kept read is.content

@@ -1,14 +1,15 @@
 -- From the parts of an image to the whole.
-use Rattle.std.proofs.Common.{◌≡◌, ℕ, ◌≤◌, ℤ, pos, inr, Result, Ok, Err, List, ◌++◌, length, refl, sym, ap, subst, ◌∙◌, append-nil, arith}
-use Rattle.std.specs.Prelude.{negsuc, unsigned_abs, FitsSigned, IfErr, IsErrAnd}
+use Rattle.std.proofs.Common.{◌≡◌, ℕ, ◌≤◌, ℤ, pos, Bool, true, false, inr, Result, Ok, Err, List, ◌++◌, length, refl, sym, ap, subst, ◌∙◌, append-nil, arith}
+use Rattle.std.specs.Prelude.{negsuc, ◌<ℤ◌, unsigned_abs, MatchBool, FitsSigned, IfErr, IsErrAnd}
 use Rattle.std.specs.List.{flat_map}
-use Rattle.std.specs.Int.{w32, cast_signed, cast_unsigned, FitsUnsignedBits}
-use Rattle.std.proofs.lemmas.Int.{to_z-of_z}
+use Rattle.std.specs.Int.{w32, w64, cast_signed, cast_unsigned, FitsUnsignedBits}
+use Rattle.std.proofs.lemmas.Int.{ints, to_z-of_z}
+use Rattle.std.proofs.lemmas.Bool.{MatchBool-at_true, MatchBool-at_false}
 use Rattle.batch_codec.specs.Values.{BatchValue}
 use Rattle.batch_codec.specs.Grammar.{batch_encoding}
 use Rattle.cover_ranges.specs.Runs.{Runs}
 use Rattle.content.specs.Content.{Content}
-use Rattle.cleaner.specs.Given.{content_from}
+use Rattle.cleaner.specs.Given.{content_of}
 use Rattle.copy_images.specs.declared.layout.TheConstants.{MAX_COUNT}
 use Rattle.copy_images.specs.declared.error.ImageError.{ImageError}
 use Rattle.copy_images.specs.declared.error.ImageError.TheVariants.{Short, BadMark, BadVersion, BadCrc, BadCover, BadBatch, Outside, Extra, OutOfMemory}
@@ -57,6 +58,26 @@ count_is count n fits whole is =
 small_count : (count : ℤ) (n : ℕ) → FitsSigned w32 count → pos n ≡ count → n ≤ MAX_COUNT
 small_count count n fits is = let small : FitsSigned w32 (pos n) = subst (FitsSigned w32) (sym is) fits in omega (arith, small.sfits)
 
+pub negative : (count : ℤ) → FitsSigned w32 count → (FitsUnsignedBits 32 (cast_signed w32 (cast_unsigned w32 count)) → ⊥) → count <ℤ pos 0
+negative (pos k) fits none = absurd (none (subst (FitsUnsignedBits 32) (sym (to_z-of_z w32 (pos k) fits)) (omega (arith, fits.sfits))))
+negative (negsuc k) fits none = omega (arith, ints)
+
+-- whether the ranges are those of a copy with the start that the bytes say
+module _ (bytes : List ℕ) (ranges : Runs) (start : ℤ) (may : Bool) (fits : FitsSigned w64 start) (same : start ≡ start_in bytes)
+    (asked : MatchBool may (IsCoverFrom (cast_signed w64 (cast_unsigned w64 start)) ranges) (¬ IsCoverFrom (cast_signed w64 (cast_unsigned w64 start)) ranges)) where
+  passed : cast_signed w64 (cast_unsigned w64 start) ≡ start_in bytes
+  passed = to_z-of_z w64 start fits ∙ same
+
+  pub a_cover : may ≡ true → IsCoverFrom (start_in bytes) ranges
+  a_cover here = subst (λ (z : ℤ). IsCoverFrom z ranges) passed (MatchBool-at_true _ _ here asked)
+
+  pub no_cover : may ≡ false → ¬ IsCoverFrom (start_in bytes) ranges
+  no_cover here = subst (λ (z : ℤ). ¬ IsCoverFrom z ranges) passed (MatchBool-at_false _ _ here asked)
+
+pub are_judged : (bytes : List ℕ) (ranges : Runs) (count : ℤ) (all : List ℕ) (start : ℤ) → start ≡ start_in bytes → HasStart bytes → IsCoverFrom (start_in bytes) ranges → HoldsBatches ranges count all → AreJudged start ranges count all
+are_judged bytes ranges count all start same has cover batches =
+    subst (λ (z : ℤ). AreJudged z ranges count all) (sym same) (record { start = has.1; cover = cover; batches = batches })
+
 -- a content of which the bytes are an image, where it is built of the bytes between the head and the crc
 module _ (bytes : List ℕ) (ranges : Runs) (count : ℤ) (all : List ℕ) (fits : IsBytes bytes) (start : HasStart bytes) (front : HasFront (body_in bytes) ranges count all) where
   built_is_image : (c : Content) → HoldsBatches ranges count all → IsBuilt (start_in bytes) ranges all c → IsImage bytes c
@@ -80,7 +101,7 @@ module _ (bytes : List ℕ) (ranges : Runs) (count : ℤ) (all : List ℕ) (fits
   is_an_image from same judged =
       let batches : List BatchValue = judged.batches.0 in
       let has = judged.batches.1 in
-      let c : Content = content_from from ranges batches in
+      let c : Content = content_of from ranges batches in
       let built : IsBuilt from ranges all c = record {
         content = kept_content from ranges batches judged.start judged.cover has.list.disjoint has.keepable has.seen;
         start = refl;

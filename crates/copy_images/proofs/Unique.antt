@@ -20,7 +20,7 @@ use Rattle.content.specs.Records.{IsKeepable}
 use Rattle.content.specs.Content.{IsContent, IsInRange}
 use Rattle.content_laws.proofs.ByOffset.{all_from_at}
 use Rattle.content_laws.proofs.Slots.{bases_rise, kept_keepable}
-use Rattle.cleaner.specs.Given.{content_from}
+use Rattle.cleaner.specs.Given.{content_of}
 use Rattle.copy_images.specs.declared.error.ImageError.{ImageError}
 use Rattle.copy_images.specs.declared.error.ImageError.TheVariants.{BadBatch, Outside, Extra, OutOfMemory}
 use Rattle.copy_images.specs.Refusals.{HasFront, IsNext, end_of_batches}
@@ -70,12 +70,12 @@ run_of runs canonical o e =
     let c = is.2 in
     (omega (arith, ints, a, bounds), omega (arith, ints, c, bounds))
 
-pub all_inside : (start : ℤ) (ranges : Runs) (batches : Batches) → IsContent (content_from start ranges batches) → AllByRecursion (IsInside ranges) batches
-all_inside start ranges batches content = all_from_at first_offset (IsInside ranges) start batches (bases_rise (content_from start ranges batches) content) one
+pub all_inside : (start : ℤ) (ranges : Runs) (batches : Batches) → IsContent (content_of start ranges batches) → AllByRecursion (IsInside ranges) batches
+all_inside start ranges batches content = all_from_at first_offset (IsInside ranges) start batches (bases_rise (content_of start ranges batches) content) one
   where
     one : (b : BatchValue) → look_up first_offset (first_offset b) batches ≡ Some b → IsInside ranges b
     one b e =
-        let keep : IsKeepable b = kept_keepable (content_from start ranges batches) (first_offset b) b content e in
+        let keep : IsKeepable b = kept_keepable (content_of start ranges batches) (first_offset b) b content e in
         let delta : pos 0 ≤ℤ b.head.last_delta = keep.0.valid.last_delta in
         let all = λ (o : ℤ) (p : first_offset b ≤ℤ o) (q : o ≤ℤ last_offset b). content.inside (first_offset b) o b e p q in
         let low = run_of ranges content.canonical (first_offset b) (all (first_offset b) (omega (arith, ints)) (omega (arith, ints, delta))) in
@@ -123,7 +123,7 @@ pub record StopsFor (start : ℤ) (ranges : Runs) (count : ℤ) (bytes : List �
   pub batches : Batches
   pub rest : List ℕ
   pub encoded : bytes ≡ flat_map batch_encoding batches ++ rest
-  pub content : IsContent (content_from start ranges batches)
+  pub content : IsContent (content_of start ranges batches)
   pub ends : Ends ranges count batches rest error
 
 -- it does not end where another batch stands next, whose span was seen

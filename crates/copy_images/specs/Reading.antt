@@ -16,7 +16,7 @@ use Rattle.batch_codec.specs.Checks.{Checked, size_at, check_batch}
 use Rattle.cover_ranges.specs.Runs.{Runs, has_all}
 use Rattle.cover_ranges.specs.declared.TheConstants.{OFFSETS_END}
 use Rattle.content.specs.Content.{Content}
-use Rattle.cleaner.specs.Given.{content_from}
+use Rattle.cleaner.specs.Given.{content_of}
 use Rattle.copy_images.specs.declared.layout.TheConstants.{MARK, VERSION, FIRST_VERSION, RANGE_SIZE, COUNT_SIZE, COUNTS_SIZE, CRC_SIZE, LEAST_SIZE}
 use Rattle.copy_images.specs.Refusals.{version_in, start_in, body_in, range_count}
 use Rattle.copy_images.specs.Judging.{ranges_of}
@@ -93,13 +93,13 @@ abbrev pub content_in : (start n count : ℤ) → (body : List ℕ) → Option C
 content_in start (pos n) (pos count) body =
     let ranges = ranges_in n body in
     if nat_le (COUNTS_SIZE + RANGE_SIZE * n) (length body) && are_runs start ranges
-    then option_map (content_from start ranges) (batches_at ranges count (pos 0) (batch_bytes n body))
+    then option_map (content_of start ranges) (batches_at ranges count (pos 0) (batch_bytes n body))
     else None
 content_in start n count body = None
 
-abbrev pub content_of_body : (start : ℤ) → (body : List ℕ) → Option Content
-content_of_body start body =
+abbrev pub content_in_body : (start : ℤ) → (body : List ℕ) → Option Content
+content_in_body start body =
     content_in start (range_count body) (batch_count (unsigned_abs (range_count body)) body) body
 
 unfoldable pub image_at : List ℕ → Option Content
-image_at bytes = if has_frame bytes then content_of_body (start_in bytes) (body_in bytes) else None
+image_at bytes = if has_frame bytes then content_in_body (start_in bytes) (body_in bytes) else None

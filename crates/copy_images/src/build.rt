@@ -57,5 +57,5 @@ pub(crate) fn build<S: BatchStore>(
 {
     let cover = build_cover(alloc, parts.ranges)?;
     let batches = build_store(alloc, parts.batches)?;
-    Ok(PartitionLog::from_store(alloc, cover, batches))
+    Ok(PartitionLog::from_store(alloc, cover, parts.start, batches))
 }

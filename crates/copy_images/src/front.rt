@@ -6,8 +6,8 @@ ghost use Rattle.copy_images.specs.Judging.{ranges_of};
 
 use crate::error::ImageError;
 use crate::layout::{
-    BODY_AT, COUNT_SIZE, COUNTS_SIZE, CRC_SIZE, FIRST_BODY_AT, FIRST_VERSION, LEAST_SIZE, MARK, RANGE_SIZE,
-    START_AT, VERSION, VERSION_AT,
+    BODY_AT, COUNT_SIZE, COUNTS_SIZE, CRC_SIZE, FIRST_BODY_AT, FIRST_VERSION, LEAST_SIZE, MARK,
+    RANGE_SIZE, START_AT, VERSION, VERSION_AT,
 };
 use crate::ranges::RangeBytes;
 use batch_codec::numbers::{be_i16_at, be_i32_at, be_i64_at, be_u32_at};
@@ -74,7 +74,11 @@ fn body_of(bytes: &[u8]) -> &[u8]
     requires { HasSize bytes.now }
     ensures { result.now ≡ body_in bytes.now }
 {
-    let body_at = if has_start(bytes) { BODY_AT } else { FIRST_BODY_AT };
+    let body_at = if has_start(bytes) {
+        BODY_AT
+    } else {
+        FIRST_BODY_AT
+    };
     &bytes[body_at..bytes.len() - CRC_SIZE]
 }
 

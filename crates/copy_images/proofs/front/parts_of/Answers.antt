@@ -1,4 +1,4 @@
-use Rattle.std.proofs.Common.{rules, arith, inl, inr, sym, subst, ap, ◌∙◌, ◌≡◌, ℕ, ◌≤◌, List, length}
+use Rattle.std.proofs.Common.{rules, inl, inr, subst, ap, ◌∙◌, ◌≡◌, ℕ, ◌≤◌, List, length}
 use Rattle.std.specs.Prelude.{ℤ, pos, ◌<ℤ◌, FitsSigned}
 use Rattle.std.specs.Int.{w32, w64}
 use Rattle.batch_codec.specs.Fields.{signed_at}

@@ -3,7 +3,6 @@ use Rattle.std.specs.Prelude.{ℤ, FitsSigned, ◌≤ℤ◌, ◌<ℤ◌}
 use Rattle.std.specs.Int.{w64, cast_signed, cast_unsigned}
 use Rattle.std.proofs.lemmas.Int.{ints, to_z-of_z}
 use Rattle.cover_ranges.specs.declared.TheConstants.{OFFSETS_END}
-use Rattle.copy_images.specs.Judging.{ranges_of}
 use Rattle.copy_images.proofs.Runs.{Passes, one_passes, one_fails, all_pass}
 use Rattle.copy_images.proofs.ranges.is_cover.Goals.{then-first-least-via-then-first-least, then-first-least-via-else-first-least+then-last-first, then-first-least-via-else-first-least+else-last-first+then-last-ge-OFFSETS_END}
 use Rattle.copy_images.proofs.ranges.is_cover.Goals as goal
