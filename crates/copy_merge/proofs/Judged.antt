@@ -149,8 +149,8 @@ agree_here a b next is_a is_b left right = (
       (λ less. (agree_below a b (base_of next) next less left right).0 (on.0 less))
       (λ from. (agree_from_start a b (base_of next) next is_a is_b from left right).0 (on.1 from)),
   λ agree. (
-      λ less. (agree_below a b (base_of next) next less left right).1 agree,
-      λ from. (agree_from_start a b (base_of next) next is_a is_b from left right).1 agree,
+    λ less. (agree_below a b (base_of next) next less left right).1 agree,
+    λ from. (agree_from_start a b (base_of next) next is_a is_b from left right).1 agree,
   ),
 )
 
