@@ -1,4 +1,4 @@
-use Rattle.std.proofs.Common.{◌∙◌, refl, arith, rules, FitsSigned, to_z, of_z}
+use Rattle.std.proofs.Common.{refl, arith, rules, FitsSigned, to_z, of_z}
 use Rattle.std.specs.Int.{w64}
 use Rattle.content.specs.Joins.{greater_start}
 use Rattle.copy_merge.specs.Steps.{base_of}

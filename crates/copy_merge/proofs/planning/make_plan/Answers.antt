@@ -1,4 +1,4 @@
-use Rattle.std.proofs.Common.{List, [], refl, sym, subst, ◌∙◌, arith, rules, FitsSigned, to_z, of_z}
+use Rattle.std.proofs.Common.{List, [], refl, sym, subst, arith, rules, FitsSigned, to_z, of_z}
 use Rattle.std.specs.Int.{w64}
 use Rattle.segment.specs.declared.turn.Turn.{Turn}
 use Rattle.content.specs.Joins.{greater_start}
