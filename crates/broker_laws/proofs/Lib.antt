@@ -20,4 +20,5 @@ mod ImportFits
 mod GetFits
 mod CoverFits
 mod ForgetGroupFits
+mod TrimFits
 mod RepliesFit

@@ -13,7 +13,7 @@ use Rattle.frame_fields.specs.Fields.{size32, Value, encoded, Encodes}
 use Rattle.frame_fields.specs.Frames.{IsBytes, IsWithinLimit}
 use Rattle.frame_fields.proofs.Numbers.{IsBytes-drop, number_fits}
 use Rattle.request_frames.specs.declared.api.Api.{Api}
-use Rattle.request_frames.specs.declared.api.Api.TheVariants.{Produce, Fetch, ListOffsets, Metadata, OffsetCommit, OffsetFetch, Deliver, Clean, Export, Import, Get, Cover, ForgetGroup}
+use Rattle.request_frames.specs.declared.api.Api.TheVariants.{Produce, Fetch, ListOffsets, Metadata, OffsetCommit, OffsetFetch, Deliver, Clean, Export, Import, Get, Cover, ForgetGroup, Trim}
 use Rattle.request_frames.specs.Requests.{fields_of, body_value, RequestValue, body_fields, body_of, correlation_of, IsRequest}
 use Rattle.answering.specs.Work.{MayAnswer}
 use Rattle.broker_state.specs.State.{State}
@@ -35,6 +35,7 @@ use Rattle.broker_laws.proofs.ImportFits.{import_fits}
 use Rattle.broker_laws.proofs.GetFits.{get_fits}
 use Rattle.broker_laws.proofs.CoverFits.{cover_fits}
 use Rattle.broker_laws.proofs.ForgetGroupFits.{forget_group_fits}
+use Rattle.broker_laws.proofs.TrimFits.{trim_fits}
 
 body_part : (api : Api) (frame : List ℕ) (v : Value (body_fields api)) → IsBytes frame → Encodes (body_fields api) v (body_of frame) [] → IsPart (length frame) (fields_of api) v.1
 body_part api frame v bytes encodes =
@@ -62,6 +63,7 @@ body_fits Import = import_fits
 body_fits Get = get_fits
 body_fits Cover = cover_fits
 body_fits ForgetGroup = forget_group_fits
+body_fits Trim = trim_fits
 
 within_limit : (frame : List ℕ) → IsWithinLimit (pos (length frame)) → length frame ≤ frame_limit
 within_limit frame low = omega (arith, ints, low)

@@ -1,7 +1,7 @@
 -- The reply as a function, and as a relation.
 use Rattle.std.proofs.Common.{◌≡◌, ℕ, ℤ, List, Option, ap}
 use Rattle.std.specs.Prelude.{◌↔◌}
-use Rattle.request_frames.specs.Requests.BodyValue.{produce, fetch, list_offsets, metadata, offset_commit, offset_fetch, deliver, clean, export, import, get, cover, forget_group}
+use Rattle.request_frames.specs.Requests.BodyValue.{produce, fetch, list_offsets, metadata, offset_commit, offset_fetch, deliver, clean, export, import, get, cover, forget_group, trim}
 use Rattle.request_frames.specs.Requests.{BodyValue, RequestValue}
 use Rattle.broker_state.specs.State.{State}
 use Rattle.answering.specs.Work.{IsAnswer, MayAnswer}
@@ -17,6 +17,7 @@ use Rattle.copy_requests.specs.Export.{export_work, export_sent}
 use Rattle.copy_requests.specs.Import.{import_work, import_sent}
 use Rattle.copy_requests.specs.Get.{get_work, get_sent}
 use Rattle.copy_requests.specs.Cover.{cover_work, cover_sent}
+use Rattle.copy_requests.specs.Trim.{trim_work, trim_sent}
 use Rattle.broker_node.specs.Replies.{reply_to, reply, RepliesTo, IsReply, MayReply}
 use Rattle.answering.proofs.AnswersOfAll.{plan_replies, plan_given, plan_weaker}
 use Rattle.answering.proofs.Planned.{once_replies, once_given, once_weaker}
@@ -35,6 +36,7 @@ is_reply_to s after n (import q) out replies = once_replies (import_sent n) (imp
 is_reply_to s after n (get q) out replies = once_replies (get_sent n) (get_work s q) s out after replies
 is_reply_to s after n (cover q) out replies = once_replies (cover_sent n) (cover_work s q) s out after replies
 is_reply_to s after n (forget_group group) out replies = once_replies (forget_group_sent n) (forget_group_work s group) s out after replies
+is_reply_to s after n (trim q) out replies = once_replies (trim_sent n) (trim_work s q) s out after replies
 
 replies_to : (s after : State) (n : ℤ) (body : BodyValue) (out : Option (List ℕ)) → (out, after) ≡ reply_to s n body → RepliesTo (λ R S w. IsAnswer w) s n body out after
 replies_to s after n (produce q) out is = plan_given (produce_plan s n q) out after is
@@ -50,6 +52,7 @@ replies_to s after n (import q) out is = once_given (import_sent n) (import_work
 replies_to s after n (get q) out is = once_given (get_sent n) (get_work s q) s out after is
 replies_to s after n (cover q) out is = once_given (cover_sent n) (cover_work s q) s out after is
 replies_to s after n (forget_group group) out is = once_given (forget_group_sent n) (forget_group_work s group) s out after is
+replies_to s after n (trim q) out is = once_given (trim_sent n) (trim_work s q) s out after is
 
 may_reply_to : (s after : State) (n : ℤ) (body : BodyValue) (out : Option (List ℕ)) → RepliesTo (λ R S w. IsAnswer w) s n body out after → RepliesTo (λ R S w. MayAnswer w) s n body out after
 may_reply_to s after n (produce q) out replies = plan_weaker (produce_plan s n q) out after replies
@@ -65,6 +68,7 @@ may_reply_to s after n (import q) out replies = once_weaker (import_sent n) (imp
 may_reply_to s after n (get q) out replies = once_weaker (get_sent n) (get_work s q) s out after replies
 may_reply_to s after n (cover q) out replies = once_weaker (cover_sent n) (cover_work s q) s out after replies
 may_reply_to s after n (forget_group group) out replies = once_weaker (forget_group_sent n) (forget_group_work s group) s out after replies
+may_reply_to s after n (trim q) out replies = once_weaker (trim_sent n) (trim_work s q) s out after replies
 
 pub one_reply : (s after : State) (q : RequestValue) (out : Option (List ℕ)) → IsReply s q out after ↔ ((out, after) ≡ reply s q)
 one_reply s after q out = (is_reply_to s after q.correlation q.body out, replies_to s after q.correlation q.body out)

@@ -4,7 +4,7 @@
 use Rattle.std.specs.Prelude.{◌≡◌, ◌^◌, ℕ, ◌<◌, ℤ, List, length, Option, Some, None, FitsSigned, ⊤}
 use Rattle.std.specs.Int.{w32}
 use Rattle.frame_fields.specs.Fields.{Fields, Value, Fits}
-use Rattle.request_frames.specs.Requests.BodyValue.{produce, fetch, list_offsets, metadata, offset_commit, offset_fetch, deliver, clean, export, import, get, cover, forget_group}
+use Rattle.request_frames.specs.Requests.BodyValue.{produce, fetch, list_offsets, metadata, offset_commit, offset_fetch, deliver, clean, export, import, get, cover, forget_group, trim}
 use Rattle.request_frames.specs.Requests.{BodyValue, RequestValue}
 use Rattle.responses.specs.Responses.{response}
 use Rattle.responses.specs.Produce.{produce_response}
@@ -20,6 +20,7 @@ use Rattle.responses.specs.Import.{import_response}
 use Rattle.responses.specs.Get.{get_response}
 use Rattle.responses.specs.Cover.{cover_response}
 use Rattle.responses.specs.ForgetGroup.{forget_group_response}
+use Rattle.responses.specs.Trim.{trim_response}
 
 -- the fields of the response to a request
 abbrev pub response_fields : BodyValue → Fields
@@ -36,6 +37,7 @@ response_fields (import q) = import_response
 response_fields (get q) = get_response
 response_fields (cover q) = cover_response
 response_fields (forget_group group) = forget_group_response
+response_fields (trim q) = trim_response
 
 -- The bytes are a response of values that fit their fields, and an int32 holds its size.
 pub record IsFitting (correlation : ℤ) (d : Fields) (bytes : List ℕ) : Type 0 where

@@ -1,7 +1,7 @@
 -- What a broker replies to a request, and the state after. Kafka's documentation, "Protocol Guide", sections "The
 -- Messages" and "Network" (requests are answered in order, and Produce with acks 0 is not answered).
 use Rattle.std.specs.Prelude.{◌≡◌, ℕ, ℤ, List, Option, Some}
-use Rattle.request_frames.specs.Requests.BodyValue.{produce, fetch, list_offsets, metadata, offset_commit, offset_fetch, deliver, clean, export, import, get, cover, forget_group}
+use Rattle.request_frames.specs.Requests.BodyValue.{produce, fetch, list_offsets, metadata, offset_commit, offset_fetch, deliver, clean, export, import, get, cover, forget_group, trim}
 use Rattle.request_frames.specs.Requests.{BodyValue, RequestValue}
 use Rattle.answering.specs.Work.{IsAnswer, MayAnswer}
 use Rattle.answering.specs.Plans.{HowAnswered, reply_by, RepliesBy}
@@ -20,6 +20,7 @@ use Rattle.copy_requests.specs.Export.{export_work, export_sent}
 use Rattle.copy_requests.specs.Import.{import_work, import_sent}
 use Rattle.copy_requests.specs.Get.{get_work, get_sent}
 use Rattle.copy_requests.specs.Cover.{cover_work, cover_sent}
+use Rattle.copy_requests.specs.Trim.{trim_work, trim_sent}
 
 abbrev pub reply_to : State → ℤ → BodyValue → Option (List ℕ) × State
 reply_to s correlation (produce q) = reply_by (produce_plan s correlation q)
@@ -35,6 +36,7 @@ reply_to s correlation (import q) = reply_once (import_sent correlation) (import
 reply_to s correlation (get q) = reply_once (get_sent correlation) (get_work s q) s
 reply_to s correlation (cover q) = reply_once (cover_sent correlation) (cover_work s q) s
 reply_to s correlation (forget_group group) = reply_once (forget_group_sent correlation) (forget_group_work s group) s
+reply_to s correlation (trim q) = reply_once (trim_sent correlation) (trim_work s q) s
 
 -- the response, or none, and the state after, where memory suffices
 abbrev pub reply : State → RequestValue → Option (List ℕ) × State
@@ -54,6 +56,7 @@ RepliesTo A s correlation (import q) out after = RepliesOnce A (import_sent corr
 RepliesTo A s correlation (get q) out after = RepliesOnce A (get_sent correlation) (get_work s q) s out after
 RepliesTo A s correlation (cover q) out after = RepliesOnce A (cover_sent correlation) (cover_work s q) s out after
 RepliesTo A s correlation (forget_group group) out after = RepliesOnce A (forget_group_sent correlation) (forget_group_work s group) s out after
+RepliesTo A s correlation (trim q) out after = RepliesOnce A (trim_sent correlation) (trim_work s q) s out after
 
 -- the response, or none, and the state after, where each entry is answered in such a way
 abbrev pub Replies : HowAnswered → State → RequestValue → Option (List ℕ) → State → Type 0

@@ -10,7 +10,7 @@ use crate::node::Node;
 use broker_state::BrokerState;
 use copy_requests::{
     reply_to_clean, reply_to_cover, reply_to_deliver, reply_to_export, reply_to_get,
-    reply_to_import,
+    reply_to_import, reply_to_trim,
 };
 use group_requests::{reply_to_forget_group, reply_to_offset_commit, reply_to_offset_fetch};
 use log_requests::{reply_to_fetch, reply_to_list_offsets, reply_to_metadata, reply_to_produce};
@@ -64,6 +64,7 @@ fn reply_to<S: BatchStore, A: Allocator + Copy>(
         RequestBody::Get(asked) => reply_to_get(state, correlation, asked, out),
         RequestBody::Cover(asked) => reply_to_cover(state, correlation, asked, out),
         RequestBody::ForgetGroup(asked) => reply_to_forget_group(state, correlation, asked, out),
+        RequestBody::Trim(asked) => reply_to_trim(state, correlation, asked, out),
     }
 }
 

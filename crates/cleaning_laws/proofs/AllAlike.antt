@@ -1,7 +1,7 @@
 -- Two lists of requests that are the same once their Cleans are left out are answered alike.
 use Rattle.std.proofs.Common.{◌≡◌, ℕ, ℤ, Bool, true, false, not, cond, List, [], ◌∷◌, refl, sym, ap, subst, ◌∙◌}
 use Rattle.std.specs.List.{filter, AllByRecursion}
-use Rattle.request_frames.specs.Requests.BodyValue.{produce, fetch, list_offsets, metadata, offset_commit, offset_fetch, deliver, clean, export, import, get, cover, forget_group}
+use Rattle.request_frames.specs.Requests.BodyValue.{produce, fetch, list_offsets, metadata, offset_commit, offset_fetch, deliver, clean, export, import, get, cover, forget_group, trim}
 use Rattle.request_frames.specs.Requests.{BodyValue, RequestValue}
 use Rattle.content.specs.Logs.{IsPlainLog}
 use Rattle.broker_state.specs.declared.config.Role.{Role}
@@ -10,15 +10,15 @@ use Rattle.broker_state.specs.State.{ConfigValue, State, new_state}
 use Rattle.broker_node.specs.Replies.{reply_to, reply}
 use Rattle.cleaning_laws.specs.Logs.{Logs, no_logs, IsLegalFromSome, IsStateOf}
 use Rattle.cleaning_laws.specs.Alike.{AreAlike, StayAlike}
-use Rattle.cleaning_laws.specs.Settled.{IsWithin, is_settled, AnswerAlike}
-use Rattle.cleaning_laws.specs.Cleans.{is_clean, is_no_clean, without_cleans, AreWithin, AnswerAllAlike}
+use Rattle.cleaning_laws.specs.Settled.{IsWithin, MayTrim, is_settled, AnswerAlike}
+use Rattle.cleaning_laws.specs.Cleans.{is_clean, is_no_clean, without_cleans, AreWithin, MayTrimAll, AnswerAllAlike}
 use Rattle.cleaning_laws.proofs.Stated.{IsKept, clean_keeps, alike_cleaned, other_cleaned}
 use Rattle.cleaning_laws.proofs.GrownLogs.{stay, stay_on}
 use Rattle.cleaning_laws.proofs.LongerLogs.{within_longer}
 use Rattle.cleaning_laws.proofs.ConfigStays.{config_stays}
 use Rattle.cleaning_laws.proofs.RepliesAlike.{answer_alike}
 use Rattle.cleaning_laws.proofs.NewAlike.{new_alike, new_follower_alike}
-use Rattle.cleaning_laws.proofs.LeftOut.{same_but_left_out}
+use Rattle.cleaning_laws.proofs.LeftOut.{AreGood, same_but_left_out}
 
 -- ---- tests
 
@@ -43,6 +43,7 @@ kept_by logs s n (import q) e is = absurd cc
 kept_by logs s n (get q) e is = absurd cc
 kept_by logs s n (cover q) e is = absurd cc
 kept_by logs s n (forget_group group) e is = absurd cc
+kept_by logs s n (trim q) e is = absurd cc
 
 -- the reply to a Clean isn't settled
 settled_stays : (body : BodyValue) → is_settled body ≡ true → not (is_clean body) ≡ true
@@ -59,10 +60,15 @@ settled_stays (import q) e = refl
 settled_stays (get q) e = refl
 settled_stays (cover q) e = refl
 settled_stays (forget_group group) e = refl
+settled_stays (trim q) e = refl
 
 module _ (logs : Logs) (role : Role) where
-  abbrev IsGood : RequestValue → Type 0
-  IsGood q = IsWithin role logs q.body
+  abbrev IsGood : State → RequestValue → Type 0
+  IsGood s q = IsWithin role logs q.body × MayTrim s q.body
+
+  are_good : (s : State) (qs : List RequestValue) → AreWithin role logs qs → MayTrimAll s qs → AreGood reply IsGood s qs
+  are_good s [] within may = tt
+  are_good s (q ∷ qs) within may = ((within.0, may.0), are_good (reply s q).1 qs within.1 may.1)
 
   -- the states stay alike, and their role stays
   pub record AreStill (s z : State) : Type 0 where
@@ -73,24 +79,24 @@ module _ (logs : Logs) (role : Role) where
   role_stays s q is = ap (λ (g : ConfigValue). g.role) (config_stays s q) ∙ is
 
   -- the request in states of longer logs
-  answered : (s z : State) (q : RequestValue) → is_no_clean q ≡ true → IsWithin role logs q.body → (still : AreStill s z) → AnswerAlike still.states.longer s z q
-  answered s z q no_clean within still =
+  answered : (s z : State) (q : RequestValue) → is_no_clean q ≡ true → IsGood s q → IsGood z q → (still : AreStill s z) → AnswerAlike still.states.longer s z q
+  answered s z q no_clean good other_good still =
       answer_alike still.states.longer s z q still.states.alike
-      (subst (λ (r : Role). IsWithin r still.states.longer q.body) (sym still.role_is) (within_longer role logs still.states.longer q.body still.states.grows within))
-      no_clean
+      (subst (λ (r : Role). IsWithin r still.states.longer q.body) (sym still.role_is) (within_longer role logs still.states.longer q.body still.states.grows good.0))
+      good.1 other_good.1 no_clean
 
-  both : (s z : State) (q : RequestValue) → is_no_clean q ≡ true → IsWithin role logs q.body → AreStill s z → AreStill (reply s q).1 (reply z q).1
-  both s z q no_clean within still = record {
-    states = stay_on logs s z (reply s q).1 (reply z q).1 still.states (answered s z q no_clean within still).states;
+  both : (s z : State) (q : RequestValue) → is_no_clean q ≡ true → IsGood s q → IsGood z q → AreStill s z → AreStill (reply s q).1 (reply z q).1
+  both s z q no_clean good other_good still = record {
+    states = stay_on logs s z (reply s q).1 (reply z q).1 still.states (answered s z q no_clean good other_good still).states;
     role_is = role_stays s q still.role_is;
   }
 
-  results : (s z : State) (q : RequestValue) → is_settled q.body ≡ true → IsWithin role logs q.body → AreStill s z → (reply s q).0 ≡ (reply z q).0
-  results s z q settled within still =
-      (answered s z q (settled_stays q.body settled) within still).replies settled
+  results : (s z : State) (q : RequestValue) → is_settled q.body ≡ true → IsGood s q → IsGood z q → AreStill s z → (reply s q).0 ≡ (reply z q).0
+  results s z q settled good other_good still =
+      (answered s z q (settled_stays q.body settled) good other_good still).replies settled
 
-  on_one : (s z : State) (q : RequestValue) → is_no_clean q ≡ false → IsWithin role logs q.body → AreStill s z → AreStill (reply s q).1 z
-  on_one s z q is_one within still =
+  on_one : (s z : State) (q : RequestValue) → is_no_clean q ≡ false → IsGood s q → AreStill s z → AreStill (reply s q).1 z
+  on_one s z q is_one good still =
       let alike = still.states.alike in
       let kept = kept_by still.states.longer s q.correlation q.body (not_true (is_clean q.body) is_one) alike.one in
       record {
@@ -98,8 +104,8 @@ module _ (logs : Logs) (role : Role) where
         role_is = role_stays s q still.role_is;
       }
 
-  on_other : (s z : State) (q : RequestValue) → is_no_clean q ≡ false → IsWithin role logs q.body → AreStill s z → AreStill s (reply z q).1
-  on_other s z q is_one within still =
+  on_other : (s z : State) (q : RequestValue) → is_no_clean q ≡ false → IsGood z q → AreStill s z → AreStill s (reply z q).1
+  on_other s z q is_one good still =
       let alike = still.states.alike in
       let kept = kept_by still.states.longer z q.correlation q.body (not_true (is_clean q.body) is_one) alike.other in
       record {
@@ -107,7 +113,7 @@ module _ (logs : Logs) (role : Role) where
         role_is = still.role_is;
       }
 
-  all_still : (s z : State) (qs ps : List RequestValue) → without_cleans qs ≡ without_cleans ps → AllByRecursion IsGood qs → AllByRecursion IsGood ps → AreStill s z → AnswerAllAlike logs s z qs ps
+  all_still : (s z : State) (qs ps : List RequestValue) → without_cleans qs ≡ without_cleans ps → AreGood reply IsGood s qs → AreGood reply IsGood z ps → AreStill s z → AnswerAllAlike logs s z qs ps
   all_still s z qs ps same good goods still =
       let all = same_but_left_out reply is_no_clean (λ q. is_settled q.body) IsGood AreStill (λ q. settled_stays q.body) both results on_one on_other s z qs ps same good goods still in
       record { states = all.1.states; replies = all.0 }
@@ -128,6 +134,7 @@ within_cleaned role logs (import q) e = absurd cc
 within_cleaned role logs (get q) e = absurd cc
 within_cleaned role logs (cover q) e = absurd cc
 within_cleaned role logs (forget_group group) e = absurd cc
+within_cleaned role logs (trim q) e = absurd cc
 
 module _ {X : Type 0} (stays : X → Bool) (IsGood : X → Type 0) (left_out_good : (x : X) → stays x ≡ false → IsGood x) where
   good_of_filter : (xs : List X) → AllByRecursion IsGood (filter stays xs) → AllByRecursion IsGood xs
@@ -151,16 +158,16 @@ module _ {X : Type 0} (stays : X → Bool) (IsGood : X → Type 0) (left_out_goo
 
 -- ---- lists of requests
 
-pub all_alike : (logs : Logs) (s z : State) (qs ps : List RequestValue) → AreAlike logs s z → AreWithin s.config.role logs qs → without_cleans qs ≡ without_cleans ps → AnswerAllAlike logs s z qs ps
-all_alike logs s z qs ps alike within same =
-    all_still logs s.config.role s z qs ps same within
-    (same_good is_no_clean (λ (q : RequestValue). IsWithin s.config.role logs q.body) (λ q e. within_cleaned s.config.role logs q.body (not_true (is_clean q.body) e)) qs ps same within)
+pub all_alike : (logs : Logs) (s z : State) (qs ps : List RequestValue) → AreAlike logs s z → AreWithin s.config.role logs qs → MayTrimAll s qs → MayTrimAll z ps → without_cleans qs ≡ without_cleans ps → AnswerAllAlike logs s z qs ps
+all_alike logs s z qs ps alike within may other_may same =
+    all_still logs s.config.role s z qs ps same (are_good logs s.config.role s qs within may)
+    (are_good logs s.config.role z ps (same_good is_no_clean (λ (q : RequestValue). IsWithin s.config.role logs q.body) (λ q e. within_cleaned s.config.role logs q.body (not_true (is_clean q.body) e)) qs ps same within) other_may)
     (record { states = stay logs s z alike; role_is = refl })
 
 -- in particular from the start
-pub new_all_alike : (g : ConfigValue) (qs ps : List RequestValue) → AreWithin g.role no_logs qs → without_cleans qs ≡ without_cleans ps → AnswerAllAlike no_logs (new_state g) (new_state g) qs ps
-new_all_alike g qs ps within same = all_alike no_logs (new_state g) (new_state g) qs ps (new_alike g) within same
+pub new_all_alike : (g : ConfigValue) (qs ps : List RequestValue) → AreWithin g.role no_logs qs → MayTrimAll (new_state g) qs → MayTrimAll (new_state g) ps → without_cleans qs ≡ without_cleans ps → AnswerAllAlike no_logs (new_state g) (new_state g) qs ps
+new_all_alike g qs ps within may other_may same = all_alike no_logs (new_state g) (new_state g) qs ps (new_alike g) within may other_may same
 
 pub new_follower_all_alike : (g : ConfigValue) (logs : Logs) (qs ps : List RequestValue) → g.role ≡ Follower → ((name : List ℕ) (p : ℤ) → IsPlainLog (logs name p) × IsLegalFromSome (logs name p))
-    → AreWithin g.role logs qs → without_cleans qs ≡ without_cleans ps → AnswerAllAlike logs (new_state g) (new_state g) qs ps
-new_follower_all_alike g logs qs ps follows each within same = all_alike logs (new_state g) (new_state g) qs ps (new_follower_alike g logs follows each) within same
+    → AreWithin g.role logs qs → MayTrimAll (new_state g) qs → MayTrimAll (new_state g) ps → without_cleans qs ≡ without_cleans ps → AnswerAllAlike logs (new_state g) (new_state g) qs ps
+new_follower_all_alike g logs qs ps follows each within may other_may same = all_alike logs (new_state g) (new_state g) qs ps (new_follower_alike g logs follows each) within may other_may same

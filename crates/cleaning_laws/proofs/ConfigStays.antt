@@ -1,7 +1,7 @@
 -- No reply changes a broker's configuration.
 use Rattle.std.proofs.Common.{◌≡◌, ℕ, ℤ, ◌++◌, List, [], ◌∷◌, Option, Some, None, refl, ◌∙◌}
 use Rattle.frame_fields.specs.Types.{TopicOf}
-use Rattle.request_frames.specs.Requests.BodyValue.{produce, fetch, list_offsets, metadata, offset_commit, offset_fetch, deliver, clean, export, import, get, cover, forget_group}
+use Rattle.request_frames.specs.Requests.BodyValue.{produce, fetch, list_offsets, metadata, offset_commit, offset_fetch, deliver, clean, export, import, get, cover, forget_group, trim}
 use Rattle.request_frames.specs.Requests.{BodyValue, RequestValue}
 use Rattle.answering.specs.declared.codes.ErrorCode.{ErrorCode}
 use Rattle.answering.specs.Lists.{first_some, map_accum}
@@ -19,6 +19,7 @@ use Rattle.copy_requests.specs.Export.{export_work}
 use Rattle.copy_requests.specs.Import.{import_work}
 use Rattle.copy_requests.specs.Get.{get_work}
 use Rattle.copy_requests.specs.Cover.{cover_work}
+use Rattle.copy_requests.specs.Trim.{trim_work}
 use Rattle.broker_node.specs.Replies.{reply_to, reply}
 
 answer_config : {R : Type 0} (w : Work R State) (s : State) → w.done.1.config ≡ s.config → (answer w s).1.config ≡ s.config
@@ -53,6 +54,7 @@ config_to s n (import q) = answer_config (import_work s q) s refl
 config_to s n (get q) = answer_config (get_work s q) s refl
 config_to s n (cover q) = answer_config (cover_work s q) s refl
 config_to s n (forget_group group) = answer_config (forget_group_work s group) s refl
+config_to s n (trim q) = answer_config (trim_work s q) s refl
 
 pub config_stays : (s : State) (q : RequestValue) → (reply s q).1.config ≡ s.config
 config_stays s q = config_to s q.correlation q.body

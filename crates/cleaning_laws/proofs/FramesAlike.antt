@@ -12,7 +12,7 @@ use Rattle.broker_node.specs.Streams.{AreAnswered}
 use Rattle.broker_node.proofs.PlannedReplies.{one_reply, may_be_replied}
 use Rattle.cleaning_laws.specs.Logs.{Logs}
 use Rattle.cleaning_laws.specs.Alike.{AreAlike, StayAlike}
-use Rattle.cleaning_laws.specs.Cleans.{compared_replies, without_cleans, AreWithin, state_after}
+use Rattle.cleaning_laws.specs.Cleans.{compared_replies, without_cleans, AreWithin, MayTrimAll, state_after}
 use Rattle.cleaning_laws.specs.WithMemory.{AnsweredWithMemory}
 use Rattle.cleaning_laws.specs.AnsweredFrames.{AnsweredFrame, frames_of, requests_of, responses_of, sent_for, AreAnsweredWithMemory, AreFramesWithin, AreAnsweredAlike}
 use Rattle.cleaning_laws.proofs.WithMemory.{full_reply}
@@ -49,9 +49,9 @@ frames_within role logs s after (a ∷ answered) within h =
     (request_within role logs a.frame a.request within.0.0 h.1 within.0.1, frames_within role logs h.0 after answered within.1 h.3)
 
 pub frames_alike : (logs : Logs) (s z after after' : State) (answered others : List AnsweredFrame) → AreAlike logs s z → AreFramesWithin s.config.role logs answered
-    → AreAnsweredWithMemory s answered after → AreAnsweredWithMemory z others after' → without_cleans (requests_of answered) ≡ without_cleans (requests_of others) → AreAnsweredAlike logs after after' answered others
-frames_alike logs s z after after' answered others alike within one other same =
-    let all = all_alike logs s z (requests_of answered) (requests_of others) alike (frames_within s.config.role logs s after answered within one) same in
+    → AreAnsweredWithMemory s answered after → AreAnsweredWithMemory z others after' → MayTrimAll s (requests_of answered) → MayTrimAll z (requests_of others) → without_cleans (requests_of answered) ≡ without_cleans (requests_of others) → AreAnsweredAlike logs after after' answered others
+frames_alike logs s z after after' answered others alike within one other may other_may same =
+    let all = all_alike logs s z (requests_of answered) (requests_of others) alike (frames_within s.config.role logs s after answered within one) may other_may same in
     let first = full_replies s after answered one in
     let second = full_replies z after' others other in
     record {

@@ -7,7 +7,7 @@ use Rattle.batch_codec.specs.Values.{BatchValue}
 use Rattle.batch_codec.specs.Reading.{batch_of}
 use Rattle.batch_codec.specs.Offsets.{first_offset}
 use Rattle.content.specs.ByOffset.{look_up}
-use Rattle.request_frames.specs.Requests.BodyValue.{produce, fetch, list_offsets, metadata, offset_commit, offset_fetch, deliver, clean, export, import, get, cover, forget_group}
+use Rattle.request_frames.specs.Requests.BodyValue.{produce, fetch, list_offsets, metadata, offset_commit, offset_fetch, deliver, clean, export, import, get, cover, forget_group, trim}
 use Rattle.request_frames.specs.Requests.{BodyValue}
 use Rattle.request_frames.specs.Deliver.{DeliverValue}
 use Rattle.broker_state.specs.declared.config.Role.{Role}
@@ -39,3 +39,4 @@ within_longer role logs longer (import q) grows is = is
 within_longer role logs longer (get q) grows is = is
 within_longer role logs longer (cover q) grows is = is
 within_longer role logs longer (forget_group group) grows is = is
+within_longer role logs longer (trim q) grows is = is

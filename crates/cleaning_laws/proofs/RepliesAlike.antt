@@ -1,12 +1,12 @@
 -- Two brokers that are alike answer a request within the logs alike, and stay alike.
 use Rattle.std.proofs.Common.{◌≡◌, ℤ, Bool, true, false, not, refl}
-use Rattle.request_frames.specs.Requests.BodyValue.{produce, fetch, list_offsets, metadata, offset_commit, offset_fetch, deliver, clean, export, import, get, cover, forget_group}
+use Rattle.request_frames.specs.Requests.BodyValue.{produce, fetch, list_offsets, metadata, offset_commit, offset_fetch, deliver, clean, export, import, get, cover, forget_group, trim}
 use Rattle.request_frames.specs.Requests.{BodyValue, RequestValue}
 use Rattle.broker_state.specs.State.{State}
 use Rattle.broker_node.specs.Replies.{reply_to}
 use Rattle.cleaning_laws.specs.Logs.{Logs}
 use Rattle.cleaning_laws.specs.Alike.{AreAlike, StayAlike}
-use Rattle.cleaning_laws.specs.Settled.{IsWithin, AnswerAlike}
+use Rattle.cleaning_laws.specs.Settled.{IsWithin, MayTrim, AnswerAlike}
 use Rattle.cleaning_laws.specs.Cleans.{is_clean, is_no_clean}
 use Rattle.cleaning_laws.proofs.TopicsAlike.{Same}
 use Rattle.cleaning_laws.proofs.ProduceAlike.{produce_alike}
@@ -15,31 +15,33 @@ use Rattle.cleaning_laws.proofs.ForgetGroupAlike.{forget_group_alike}
 use Rattle.cleaning_laws.proofs.OnlyRead.{BodyAlike, get_alike, cover_alike, export_alike, fetch_alike, offset_fetch_alike, list_offsets_alike}
 use Rattle.cleaning_laws.proofs.MetadataAlike.{metadata_alike}
 use Rattle.cleaning_laws.proofs.DeliverAlike.{deliver_alike}
+use Rattle.cleaning_laws.proofs.TrimAlike.{trim_alike}
 
 -- a reply that is the same in any case
 always : (logs : Logs) (s z : State) (n : ℤ) (body : BodyValue) → Same (StayAlike logs) (reply_to s n body) (reply_to z n body) → BodyAlike logs s z n body
 always logs s z n body same = record { states = same.1; replies = λ settled. same.0 }
 
-body_alike : (logs : Logs) (s z : State) (n : ℤ) (body : BodyValue) → AreAlike logs s z → IsWithin s.config.role logs body → is_clean body ≡ false → BodyAlike logs s z n body
-body_alike logs s z n (produce q) alike within no_clean = always logs s z n (produce q) (produce_alike q logs s z n within.0 alike)
-body_alike logs s z n (fetch q) alike within no_clean = fetch_alike logs s z n q alike
-body_alike logs s z n (list_offsets ts) alike within no_clean = list_offsets_alike logs s z n ts alike
-body_alike logs s z n (metadata names) alike within no_clean = metadata_alike logs s z n names alike
-body_alike logs s z n (offset_commit q) alike within no_clean = always logs s z n (offset_commit q) (offset_commit_alike q logs s z n within.0 alike)
-body_alike logs s z n (offset_fetch q) alike within no_clean = offset_fetch_alike logs s z n q alike
-body_alike logs s z n (deliver q) alike within no_clean = deliver_alike logs s z n q within.0 within.1 alike
-body_alike logs s z n (clean q) alike within no_clean = absurd cc
-body_alike logs s z n (export q) alike within no_clean = export_alike logs s z n q alike
-body_alike logs s z n (import q) alike within no_clean = absurd within.1
-body_alike logs s z n (get q) alike within no_clean = get_alike logs s z n q alike
-body_alike logs s z n (cover q) alike within no_clean = cover_alike logs s z n q alike
-body_alike logs s z n (forget_group group) alike within no_clean = always logs s z n (forget_group group) (forget_group_alike logs s z group alike n)
+body_alike : (logs : Logs) (s z : State) (n : ℤ) (body : BodyValue) → AreAlike logs s z → IsWithin s.config.role logs body → MayTrim s body → MayTrim z body → is_clean body ≡ false → BodyAlike logs s z n body
+body_alike logs s z n (produce q) alike within may other_may no_clean = always logs s z n (produce q) (produce_alike q logs s z n within.0 alike)
+body_alike logs s z n (fetch q) alike within may other_may no_clean = fetch_alike logs s z n q alike
+body_alike logs s z n (list_offsets ts) alike within may other_may no_clean = list_offsets_alike logs s z n ts alike
+body_alike logs s z n (metadata names) alike within may other_may no_clean = metadata_alike logs s z n names alike
+body_alike logs s z n (offset_commit q) alike within may other_may no_clean = always logs s z n (offset_commit q) (offset_commit_alike q logs s z n within.0 alike)
+body_alike logs s z n (offset_fetch q) alike within may other_may no_clean = offset_fetch_alike logs s z n q alike
+body_alike logs s z n (deliver q) alike within may other_may no_clean = deliver_alike logs s z n q within.0 within.1 alike
+body_alike logs s z n (clean q) alike within may other_may no_clean = absurd cc
+body_alike logs s z n (export q) alike within may other_may no_clean = export_alike logs s z n q alike
+body_alike logs s z n (import q) alike within may other_may no_clean = absurd within.1
+body_alike logs s z n (get q) alike within may other_may no_clean = get_alike logs s z n q alike
+body_alike logs s z n (cover q) alike within may other_may no_clean = cover_alike logs s z n q alike
+body_alike logs s z n (forget_group group) alike within may other_may no_clean = always logs s z n (forget_group group) (forget_group_alike logs s z group alike n)
+body_alike logs s z n (trim q) alike within may other_may no_clean = trim_alike logs s z n q may other_may alike
 
 pub not_false : (b : Bool) → not b ≡ true → b ≡ false
 not_false true e = absurd cc
 not_false false e = refl
 
-pub answer_alike : (logs : Logs) (s z : State) (q : RequestValue) → AreAlike logs s z → IsWithin s.config.role logs q.body → is_no_clean q ≡ true → AnswerAlike logs s z q
-answer_alike logs s z q alike within no_clean =
-    let both = body_alike logs s z q.correlation q.body alike within (not_false (is_clean q.body) no_clean) in
+pub answer_alike : (logs : Logs) (s z : State) (q : RequestValue) → AreAlike logs s z → IsWithin s.config.role logs q.body → MayTrim s q.body → MayTrim z q.body → is_no_clean q ≡ true → AnswerAlike logs s z q
+answer_alike logs s z q alike within may other_may no_clean =
+    let both = body_alike logs s z q.correlation q.body alike within may other_may (not_false (is_clean q.body) no_clean) in
     record { states = both.states; replies = both.replies }

@@ -10,7 +10,7 @@ use Rattle.frame_fields.specs.Types.{nullable_string, nullable_bytes, topic, top
 use Rattle.frame_fields.specs.Frames.{IsBytes}
 use Rattle.frame_fields.proofs.Numbers.{IsBytes-drop, IsBytes-take, IsBytes-second}
 use Rattle.request_frames.specs.declared.api.Api.{Api}
-use Rattle.request_frames.specs.declared.api.Api.TheVariants.{Produce, Fetch, ListOffsets, Metadata, OffsetCommit, OffsetFetch, Deliver, Clean, Export, Import, Get, Cover, ForgetGroup}
+use Rattle.request_frames.specs.declared.api.Api.TheVariants.{Produce, Fetch, ListOffsets, Metadata, OffsetCommit, OffsetFetch, Deliver, Clean, Export, Import, Get, Cover, ForgetGroup, Trim}
 use Rattle.request_frames.specs.Requests.{fields_of, body_value, RequestValue, body_fields, IsRequest}
 use Rattle.request_frames.specs.Produce.{produce_partition, produce_partition_value, produce_fields, produce_request}
 use Rattle.request_frames.specs.OffsetCommit.{offset_commit_partition, offset_commit_partition_value, offset_commit_fields, offset_commit_request}
@@ -113,6 +113,7 @@ said_within role logs Import v fits all from = (tt, from)
 said_within role logs Get v fits all from = (tt, from)
 said_within role logs Cover v fits all from = (tt, from)
 said_within role logs ForgetGroup v fits all from = (tt, from)
+said_within role logs Trim v fits all from = (tt, from)
 
 later_fits : (f : Field) (d : Fields) (v : Value (one f d)) → Fits (one f d) v → Fits d v.1
 unfolding Fits

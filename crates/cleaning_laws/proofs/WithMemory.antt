@@ -1,7 +1,7 @@
 -- Where no entry's result lacks memory, what may be replied is the reply itself.
 use Rattle.std.proofs.Common.{◌≡◌, ℕ, ℤ, List, ◌++◌, Option, inl, inr, ap, ◌∙◌}
 use Rattle.std.specs.Prelude.{◌≢◌}
-use Rattle.request_frames.specs.Requests.BodyValue.{produce, fetch, list_offsets, metadata, offset_commit, offset_fetch, deliver, clean, export, import, get, cover, forget_group}
+use Rattle.request_frames.specs.Requests.BodyValue.{produce, fetch, list_offsets, metadata, offset_commit, offset_fetch, deliver, clean, export, import, get, cover, forget_group, trim}
 use Rattle.request_frames.specs.Requests.{BodyValue, RequestValue}
 use Rattle.answering.specs.declared.codes.ErrorCode.TheVariants.{StorageError}
 use Rattle.answering.specs.Work.{Work, IsAnswer, MayAnswer}
@@ -22,6 +22,7 @@ use Rattle.copy_requests.specs.Export.{export_work, export_sent}
 use Rattle.copy_requests.specs.Import.{import_work, import_sent}
 use Rattle.copy_requests.specs.Get.{get_work, get_sent}
 use Rattle.copy_requests.specs.Cover.{cover_work, cover_sent}
+use Rattle.copy_requests.specs.Trim.{trim_work, trim_sent}
 use Rattle.answering.specs.Responding.{sent}
 use Rattle.broker_node.specs.declared.handling.Answer.{Answer}
 use Rattle.broker_node.specs.Handling.{answer_of, Handles}
@@ -62,6 +63,7 @@ full_to s after n (import q) out replies = once_in_full (import_sent n) (import_
 full_to s after n (get q) out replies = once_in_full (get_sent n) (get_work s q) s out after replies
 full_to s after n (cover q) out replies = once_in_full (cover_sent n) (cover_work s q) s out after replies
 full_to s after n (forget_group group) out replies = once_in_full (forget_group_sent n) (forget_group_work s group) s out after replies
+full_to s after n (trim q) out replies = once_in_full (trim_sent n) (trim_work s q) s out after replies
 
 pub full_reply : (s after : State) (q : RequestValue) (out : Option (List ℕ)) → Replies AnsweredWithMemory s q out after → (out, after) ≡ reply s q
 full_reply s after q out = full_to s after q.correlation q.body out

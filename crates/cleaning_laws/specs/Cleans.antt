@@ -1,5 +1,5 @@
 -- Requests of which the Cleans are left out, and the replies that are compared then.
-use Rattle.std.specs.Prelude.{◌≡◌, ℕ, Bool, true, false, not, List, [], ◌∷◌, Option, if◌then◌else◌}
+use Rattle.std.specs.Prelude.{◌≡◌, ℕ, Bool, true, false, not, ⊤, List, [], ◌∷◌, Option, if◌then◌else◌}
 use Rattle.std.specs.List.{filter, AllByRecursion}
 use Rattle.request_frames.specs.Requests.BodyValue.{clean}
 use Rattle.request_frames.specs.Requests.{BodyValue, RequestValue}
@@ -9,7 +9,7 @@ use Rattle.broker_state.specs.State.{State}
 use Rattle.broker_node.specs.Replies.{reply}
 use Rattle.cleaning_laws.specs.Logs.{Logs}
 use Rattle.cleaning_laws.specs.Alike.{StayAlike}
-use Rattle.cleaning_laws.specs.Settled.{IsWithin, is_settled}
+use Rattle.cleaning_laws.specs.Settled.{IsWithin, MayTrim, is_settled}
 
 -- ---- lists of requests
 
@@ -44,6 +44,11 @@ replies_to s qs = (map_accum reply s qs).0
 
 abbrev pub state_after : State → List RequestValue → State
 state_after s qs = (map_accum reply s qs).1
+
+-- each Trim is to where the copy may start, as the requests before it leave the broker
+abbrev pub MayTrimAll : State → List RequestValue → Type 0
+MayTrimAll s [] = ⊤
+MayTrimAll s (q ∷ qs) = MayTrim s q.body × MayTrimAll (reply s q).1 qs
 
 -- two brokers answer two lists of requests alike
 pub record AnswerAllAlike (logs : Logs) (s z : State) (qs ps : List RequestValue) : Type 0 where

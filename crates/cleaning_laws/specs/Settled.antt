@@ -8,7 +8,7 @@ use Rattle.batch_codec.specs.Reading.{batch_of, IsEncoding}
 use Rattle.batch_codec.specs.Offsets.{first_offset}
 use Rattle.content.specs.ByOffset.{look_up}
 use Rattle.content.specs.Content.{IsLogBatch}
-use Rattle.request_frames.specs.Requests.BodyValue.{produce, fetch, list_offsets, offset_commit, deliver, clean, export, import}
+use Rattle.request_frames.specs.Requests.BodyValue.{produce, fetch, list_offsets, offset_commit, deliver, clean, export, import, trim}
 use Rattle.request_frames.specs.Requests.{BodyValue, RequestValue}
 use Rattle.request_frames.specs.ListOffsets.{ListOffsetsPartitionValue}
 use Rattle.request_frames.specs.OffsetCommit.{OffsetCommitPartitionValue}
@@ -17,7 +17,8 @@ use Rattle.group_offsets.specs.Keys.{GroupKeyFits}
 use Rattle.group_offsets.specs.CommittedValues.{CommittedFits}
 use Rattle.broker_state.specs.declared.config.Role.{Role}
 use Rattle.broker_state.specs.declared.config.Role.TheVariants.{Leader, Follower}
-use Rattle.broker_state.specs.State.{State}
+use Rattle.broker_state.specs.State.{State, content_at}
+use Rattle.copy_requests.specs.Trim.{is_outside, is_boundary}
 use Rattle.broker_node.specs.Replies.{reply}
 use Rattle.cleaning_laws.specs.Logs.{Logs}
 use Rattle.cleaning_laws.specs.Alike.{StayAlike}
@@ -56,6 +57,13 @@ IsFromLogs role logs _ = ⊤
 
 abbrev pub IsWithin : Role → Logs → BodyValue → Type 0
 IsWithin role logs body = HoldsFields body × IsFromLogs role logs body
+
+-- A Trim within a copy's offsets is to where the copy may start. Whether it is depends on which batches are kept.
+abbrev pub MayTrim : State → BodyValue → Type 0
+MayTrim s (trim q) =
+    let c = content_at s q.topic q.partition in
+    is_outside c q.start ≡ false → is_boundary c q.start ≡ true
+MayTrim s _ = ⊤
 
 -- ---- replies that are settled
 

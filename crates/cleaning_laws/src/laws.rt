@@ -15,8 +15,8 @@ ghost use Rattle.broker_node.specs.Handling.{answer_of, Handles};
 ghost use Rattle.broker_node.specs.Streams.{AreAnswered};
 ghost use Rattle.cleaning_laws.specs.Logs.{Logs, no_logs, IsLegalFromSome, IsStateOf};
 ghost use Rattle.cleaning_laws.specs.Alike.{seen_topics, AreAlike};
-ghost use Rattle.cleaning_laws.specs.Settled.{IsWithin, AnswerAlike};
-ghost use Rattle.cleaning_laws.specs.Cleans.{is_no_clean, without_cleans, AreWithin, AnswerAllAlike};
+ghost use Rattle.cleaning_laws.specs.Settled.{IsWithin, MayTrim, AnswerAlike};
+ghost use Rattle.cleaning_laws.specs.Cleans.{is_no_clean, without_cleans, AreWithin, MayTrimAll, AnswerAllAlike};
 ghost use Rattle.cleaning_laws.specs.WithMemory.{AnsweredWithMemory};
 ghost use Rattle.cleaning_laws.specs.AnsweredFrames.{AnsweredFrame, frames_of, requests_of, responses_of, sent_for, AreAnsweredWithMemory, AreFramesWithin, AreAnsweredAlike};
 
@@ -41,30 +41,34 @@ pub fn cleaning_keeps_the_logs()
 {}
 
 /// Two brokers that differ only in what they keep of the same logs answer each request within the logs,
-/// but for a Clean, alike: the states after are again two such, of logs that may have grown, and the
+/// but for a Clean, alike, where a Trim is to an offset at which both may start: the states after are again two such, of logs that may have grown, and the
 /// replies are the same, but for those that are read of which records are kept. No request changes the
 /// configuration.
 pub fn brokers_of_the_same_logs_answer_alike()
     ensures alike { (logs : Logs) (s z : State) (q : RequestValue) → AreAlike logs s z
-        → IsWithin s.config.role logs q.body → is_no_clean q ≡ true → AnswerAlike logs s z q }
+        → IsWithin s.config.role logs q.body → MayTrim s q.body → MayTrim z q.body
+        → is_no_clean q ≡ true → AnswerAlike logs s z q }
     ensures config { (s : State) (q : RequestValue) → (reply s q).1.config ≡ s.config }
 {}
 
 /// Two brokers that are alike, as two new ones are, get two lists of requests within the logs, which are
-/// the same once their Cleans are left out. Then each other request gets the same reply from both, but for
+/// the same once their Cleans are left out, and of which each Trim is to an offset at which its copy may
+/// start then. Then each other request gets the same reply from both, but for
 /// those that are read of which records are kept, and the brokers after are again alike. So cleaning changes
 /// no such reply, whenever and with whatever bounds it is done.
 pub fn cleaning_changes_no_reply()
     ensures alike { (logs : Logs) (s z : State) (qs ps : List RequestValue) → AreAlike logs s z
-        → AreWithin s.config.role logs qs → without_cleans qs ≡ without_cleans ps
-        → AnswerAllAlike logs s z qs ps }
+        → AreWithin s.config.role logs qs → MayTrimAll s qs → MayTrimAll z ps
+        → without_cleans qs ≡ without_cleans ps → AnswerAllAlike logs s z qs ps }
     ensures from_the_start { (g : ConfigValue) (qs ps : List RequestValue) → AreWithin g.role no_logs qs
+        → MayTrimAll (new_state g) qs → MayTrimAll (new_state g) ps
         → without_cleans qs ≡ without_cleans ps
         → AnswerAllAlike no_logs (new_state g) (new_state g) qs ps }
     ensures follower_from_the_start { (g : ConfigValue) (logs : Logs) (qs ps : List RequestValue)
         → g.role ≡ Follower
         → ((name : List ℕ) (p : ℤ) → IsPlainLog (logs name p) × IsLegalFromSome (logs name p))
-        → AreWithin g.role logs qs → without_cleans qs ≡ without_cleans ps
+        → AreWithin g.role logs qs → MayTrimAll (new_state g) qs → MayTrimAll (new_state g) ps
+        → without_cleans qs ≡ without_cleans ps
         → AnswerAllAlike logs (new_state g) (new_state g) qs ps }
 {}
 
@@ -74,6 +78,7 @@ pub fn cleaning_changes_no_answer()
     ensures { (logs : Logs) (s z after after' : State) (answered others : List AnsweredFrame)
         → AreAlike logs s z → AreFramesWithin s.config.role logs answered
         → AreAnsweredWithMemory s answered after → AreAnsweredWithMemory z others after'
+        → MayTrimAll s (requests_of answered) → MayTrimAll z (requests_of others)
         → without_cleans (requests_of answered) ≡ without_cleans (requests_of others)
         → AreAnsweredAlike logs after after' answered others }
 {}

@@ -2,3 +2,4 @@ pub mod Counts
 pub mod Deliveries
 pub mod Imported
 pub mod Entries
+pub mod Trims

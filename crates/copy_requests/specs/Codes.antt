@@ -1,9 +1,11 @@
--- The code that answers each refusal of a delivery and of an image. Which code answers which refusal is this project's own; their numbers
+-- The code that answers each refusal of a delivery, of an image and of a trim. Which code answers which refusal is this project's own; their numbers
 -- are those of Kafka's documentation, "Protocol Guide", section "Error Codes".
 use Rattle.content.specs.declared.delivery.DeliverError.{DeliverError}
 use Rattle.content.specs.declared.delivery.DeliverError.TheVariants.{NotWhole, NoKey, BadOffset, Overlap, OutOfMemory}
 use Rattle.copy_images.specs.declared.error.ImageError.{ImageError}
 use Rattle.copy_images.specs.declared.error.ImageError.TheVariants as image
+use Rattle.partition_log.specs.declared.trim.TrimError.{TrimError}
+use Rattle.partition_log.specs.declared.trim.TrimError.TheVariants as trim
 use Rattle.answering.specs.declared.codes.ErrorCode.{ErrorCode}
 use Rattle.answering.specs.declared.codes.ErrorCode.TheVariants.{CorruptMessage, InvalidRecord, OffsetOutOfRange, InvalidRequest, StorageError}
 
@@ -19,3 +21,10 @@ deliver_code OutOfMemory = StorageError
 abbrev pub image_code : ImageError → ErrorCode
 image_code image.OutOfMemory = StorageError
 image_code e = CorruptMessage
+
+-- of an offset that a start can't move to
+abbrev pub trim_code : TrimError → ErrorCode
+trim_code trim.BelowStart = OffsetOutOfRange
+trim_code trim.PastEnd = OffsetOutOfRange
+trim_code trim.NotABase = InvalidRequest
+trim_code trim.OutOfMemory = StorageError

@@ -6,4 +6,5 @@ pub mod Export
 pub mod Import
 pub mod Get
 pub mod Cover
+pub mod Trim
 pub mod Outcomes

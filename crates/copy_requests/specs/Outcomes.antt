@@ -7,12 +7,14 @@ use Rattle.content.specs.declared.delivery.DeliverError.{DeliverError}
 use Rattle.content.specs.declared.delivery.DeliverError.TheVariants.{OutOfMemory}
 use Rattle.content.specs.declared.report.CleanReport.{CleanReport}
 use Rattle.content.specs.Cleaning.{clean, clean_report}
-use Rattle.content.specs.Content.{Content, has_seen_all, add}
+use Rattle.content.specs.Content.{Content, has_seen_all, add, cut}
 use Rattle.answering.specs.declared.codes.ErrorCode.{ErrorCode}
 use Rattle.answering.specs.declared.codes.ErrorCode.TheVariants.{StorageError}
 use Rattle.broker_state.specs.declared.config.Role.{Role}
 use Rattle.copy_requests.specs.Deliver.{deliver_fault}
+use Rattle.answering.specs.Lists.{first_some}
 use Rattle.copy_requests.specs.Import.{import_fault, imported}
+use Rattle.copy_requests.specs.Trim.{trim_faults}
 
 abbrev pub is_repeat : Delivered → Bool
 is_repeat Repeat = true
@@ -46,3 +48,8 @@ abbrev pub Imports : Role → (given : Content) → Result (Unit {0}) ErrorCode 
 Imports role given (Ok u) here after = (import_fault role here given ≡ None) × (after ≡ imported role here given)
 Imports role given (Err code) here after =
     ((import_fault role here given ≡ Some code) ⊎ (import_fault role here given ≡ None) × (code ≡ StorageError)) × (after ≡ here)
+
+-- the start moves, or is refused for the first fault
+abbrev pub Trims : ℤ → Result (Unit {0}) ErrorCode → Content → Content → Type 0
+Trims start (Ok u) c after = (first_some (trim_faults c start) ≡ None) × (after ≡ cut start c)
+Trims start (Err code) c after = (first_some (trim_faults c start) ≡ Some code) × (after ≡ c)

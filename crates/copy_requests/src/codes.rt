@@ -1,11 +1,11 @@
-//! The error codes that answer each refusal of a delivery and of an image.
+//! The error codes that answer each refusal of a delivery, of an image and of a trim.
 
 ghost use Rattle.std.specs.Prelude.{◌≡◌};
-ghost use Rattle.copy_requests.specs.Codes.{deliver_code, image_code};
+ghost use Rattle.copy_requests.specs.Codes.{deliver_code, image_code, trim_code};
 
 use answering::ErrorCode;
 use copy_images::ImageError;
-use partition_log::DeliverError;
+use partition_log::{DeliverError, TrimError};
 
 /// The code that answers a batch that a copy does not take.
 pub(crate) fn deliver_code(fault: DeliverError) -> ErrorCode
@@ -33,5 +33,16 @@ pub(crate) fn image_code(fault: ImageError) -> ErrorCode
         | ImageError::Outside
         | ImageError::Extra => ErrorCode::CorruptMessage,
         ImageError::OutOfMemory => ErrorCode::StorageError,
+    }
+}
+
+/// The code that answers an offset that a start can't move to.
+pub(crate) fn trim_code(fault: TrimError) -> ErrorCode
+    ensures { result ≡ trim_code fault }
+{
+    match fault {
+        TrimError::BelowStart | TrimError::PastEnd => ErrorCode::OffsetOutOfRange,
+        TrimError::NotABase => ErrorCode::InvalidRequest,
+        TrimError::OutOfMemory => ErrorCode::StorageError,
     }
 }

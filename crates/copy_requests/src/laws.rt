@@ -1,15 +1,21 @@
 //! Laws of what these requests are judged by, over the definitions alone. The functions do nothing: what
 //! they ensure is the law.
 
-ghost use Rattle.std.specs.Prelude.{◌≡◌, ◌↔◌, true, None};
+ghost use Rattle.std.specs.Prelude.{◌≡◌, ◌≢◌, ◌↔◌, ℤ, true, None, Some};
 ghost use Rattle.batch_codec.specs.Values.{BatchValue};
 ghost use Rattle.content.specs.declared.delivery.DeliverError.{DeliverError};
-ghost use Rattle.content.specs.Content.{Content, IsContent};
+ghost use Rattle.content.specs.Content.{Content, IsContent, IsAcceptedStart};
 ghost use Rattle.content.specs.Deliveries.{IsAccepted, Refuses};
 ghost use Rattle.partition_log.specs.Appends.{IsGapless};
+ghost use Rattle.partition_log.specs.Trims.{RefusesTrim};
+ghost use Rattle.partition_log.specs.declared.trim.TrimError.{TrimError};
+ghost use Rattle.partition_log.specs.declared.trim.TrimError.TheVariants.{OutOfMemory};
+ghost use Rattle.answering.specs.Lists.{first_some};
+ghost use Rattle.copy_requests.specs.Codes.{trim_code};
 ghost use Rattle.copy_requests.specs.Deliver.{deliver_fault};
 ghost use Rattle.copy_requests.specs.Import.{is_gapless};
 ghost use Rattle.copy_requests.specs.Outcomes.{IsDeliverFault};
+ghost use Rattle.copy_requests.specs.Trim.{trim_faults};
 
 /// The fault for which a copy refuses a batch is the one that the checks of a reply find. They find none in
 /// a batch that it takes.
@@ -23,4 +29,13 @@ pub fn deliver_faults()
 /// Whether a copy has no gap can be found out by its runs.
 pub fn gaps_are_decided()
     ensures { (c : Content) → IsContent c → (is_gapless c ≡ true) ↔ IsGapless c }
+{}
+
+/// The checks of a reply find a fault in a start exactly where it is not accepted of the copy, and it is
+/// the one for which a copy refuses the start.
+pub fn trim_faults()
+    ensures accepted { (c : Content) (start : ℤ)
+        → (first_some (trim_faults c start) ≡ None) ↔ IsAcceptedStart c start }
+    ensures refusal_is_fault { (c : Content) (start : ℤ) (e : TrimError) → e ≢ OutOfMemory
+        → RefusesTrim c start e → first_some (trim_faults c start) ≡ Some (trim_code e) }
 {}

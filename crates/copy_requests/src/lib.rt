@@ -1,5 +1,5 @@
-//! Requests about copies, this project's own: Deliver, Clean, Export, Import, Get and Cover, answered from
-//! what a broker holds. Each is a request of one entry: what its work is, and what is replied to it, is
+//! Requests about copies, this project's own: Deliver, Clean, Export, Import, Get, Cover and Trim, answered
+//! from what a broker holds. Each is a request of one entry: what its work is, and what is replied to it, is
 //! defined in the file of `specs/` that bears the request's name.
 //!
 //! A reply is appended to an output that may hold others. Where there is no memory for it, the output is
@@ -14,6 +14,7 @@ mod export;
 mod get;
 mod import;
 mod laws;
+mod trim;
 
 pub use clean::reply_to_clean;
 pub use cover::{MAX_COVER_RUNS, reply_to_cover};
@@ -21,4 +22,5 @@ pub use deliver::reply_to_deliver;
 pub use export::{MAX_EXPORT_BYTES, reply_to_export};
 pub use get::reply_to_get;
 pub use import::reply_to_import;
-pub use laws::{deliver_faults, gaps_are_decided};
+pub use laws::{deliver_faults, gaps_are_decided, trim_faults};
+pub use trim::reply_to_trim;

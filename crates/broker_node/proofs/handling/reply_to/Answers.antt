@@ -13,6 +13,8 @@ use Rattle.copy_requests.specs.Get.{get_work, get_sent}
 use Rattle.request_frames.specs.Get.{get_view}
 use Rattle.copy_requests.specs.Cover.{cover_work, cover_sent}
 use Rattle.request_frames.specs.Cover.{cover_view}
+use Rattle.copy_requests.specs.Trim.{trim_work, trim_sent}
+use Rattle.request_frames.specs.Trim.{trim_view}
 use Rattle.group_requests.specs.ForgetGroup.{forget_group_work, forget_group_sent}
 use Rattle.request_frames.specs.ForgetGroup.{forget_group_view}
 use Rattle.broker_node.proofs.HandledReplies.{metadata_responds, once_responds}
@@ -57,3 +59,8 @@ pub returns-in-ForgetGroup-clause-responds : goal.returns-in-ForgetGroup-clause-
 returns-in-ForgetGroup-clause-responds g c =
     let fits : FitsSigned w32 c.args.request.now.correlation = search rules in
     once_responds forget_group_sent (forget_group_work c.args.state.now (forget_group_view c.in-ForgetGroup.asked)) c.reply_to_forget_group.result c.args.state.now c.reply_to_forget_group.new.state c.args.request.now (variants.ForgetGroup c.in-ForgetGroup.asked) _ c.args.out.now.items c.reply_to_forget_group.new.out.items (to_z-of_z w32 c.args.request.now.correlation fits) c.in-ForgetGroup.is (λ response r. r) c.reply_to_forget_group.ensures.responds
+
+pub returns-in-Trim-clause-responds : goal.returns-in-Trim-clause-responds
+returns-in-Trim-clause-responds g c =
+    let fits : FitsSigned w32 c.args.request.now.correlation = search rules in
+    once_responds trim_sent (trim_work c.args.state.now (trim_view c.in-Trim.asked)) c.reply_to_trim.result c.args.state.now c.reply_to_trim.new.state c.args.request.now (variants.Trim c.in-Trim.asked) _ c.args.out.now.items c.reply_to_trim.new.out.items (to_z-of_z w32 c.args.request.now.correlation fits) c.in-Trim.is (λ response r. r) c.reply_to_trim.ensures.responds
