@@ -4,7 +4,7 @@ use Rattle.std.proofs.Common.{◌≡◌, ℕ, ◌+◌, ◌^◌, ℤ, pos, negsuc
 use Rattle.std.specs.Prelude.{◌≤ℤ◌, ◌<ℤ◌, int_lt, if◌then◌else◌}
 use Rattle.std.specs.List.{filter, cons_option, AllByRecursion}
 use Rattle.std.specs.Ordering.{int_eq}
-use Rattle.std.proofs.lemmas.Int.{ints, by_lt_z}
+use Rattle.std.proofs.lemmas.Int.{ints, clamps, by_lt_z}
 use Rattle.std.proofs.lemmas.List.{append-nil, append_assoc, drop-drop}
 use Rattle.batch_codec.specs.Values.{BatchValue}
 use Rattle.batch_codec.specs.Offsets.{first_offset}
@@ -12,17 +12,17 @@ use Rattle.cover_ranges.specs.Runs.{Runs, covers}
 use Rattle.content.specs.ByOffset.{look_up, Rises}
 use Rattle.content.specs.Records.{with_common_records}
 use Rattle.content.specs.Content.{Content, IsContent, IsInRange}
-use Rattle.content.specs.Joins.{slot_from, slot_join, batch_of_slot, join}
+use Rattle.content.specs.Joins.{slot_from, slot_join, batch_of_slot, greater_start, join}
 use Rattle.content_laws.proofs.ByOffset.{look_up-offset, look_up-low, rises-lower, all_from_at}
 use Rattle.content_laws.proofs.Batches.{Batches}
-use Rattle.content_laws.proofs.Slots.{bases_rise, kept_ends, slot_is, join_kept}
+use Rattle.content_laws.proofs.Slots.{bases_rise, kept_ends, slot_is, join_kept, join_start}
 use Rattle.content_laws.proofs.ContentSteps.{content_join, join_apart}
 use Rattle.segment.specs.declared.turn.Turn.{Turn}
 use Rattle.segment.specs.Weaving.{woven}
 use Rattle.copy_merge.specs.declared.next.Next.{Next}
 use Rattle.copy_merge.specs.declared.next.Next.TheVariants.{Done, Left, Right, Both}
 use Rattle.copy_merge.specs.Steps.{next_of, is_done, base_of, left_of, right_of, taken_left, taken_right}
-use Rattle.copy_merge.specs.Plans.{merged_next, EndBefore, Adds}
+use Rattle.copy_merge.specs.Plans.{left_over, merged_next, EndBefore, Adds}
 use Rattle.copy_merge.proofs.Steps.{chosen, IsFrom, HasCome, comes, AreBefore, are_before, from_start, base_within, kept_in_range}
 
 -- ---- the batches that begin before an offset
@@ -97,23 +97,44 @@ table_is (Right y) false right = refl
 table_is (Both x y) left right = refl
 
 next_is : (a b : Content) (n : ℤ) (next : Next) → look_up first_offset n a.kept ≡ left_of next → look_up first_offset n b.kept ≡ right_of next
-    → merged_table next (covers a.cover n) (covers b.cover n) ≡ merged_next a.cover b.cover next
+    → merged_table next (covers a.cover n) (covers b.cover n) ≡ left_over a.cover b.cover next
 next_is a b n Done left right = refl
 next_is a b n (Left x) left right = ap (λ (k : ℤ). if covers b.cover k then None else Some x) (sym (look_up-offset first_offset n a.kept x left))
 next_is a b n (Right y) left right = ap (λ (k : ℤ). if covers a.cover k then None else Some y) (sym (look_up-offset first_offset n b.kept y right))
 next_is a b n (Both x y) left right = refl
 
-pub merged_is : (a b : Content) (n : ℤ) (next : Next) → IsContent a → IsContent b → a.start ≤ℤ n → b.start ≤ℤ n → look_up first_offset n a.kept ≡ left_of next → look_up first_offset n b.kept ≡ right_of next
-    → look_up first_offset n (join a b).kept ≡ merged_next a.cover b.cover next
-merged_is a b n next is_a is_b from_a from_b left right =
+merged_from_start : (a b : Content) (n : ℤ) (next : Next) → IsContent a → IsContent b → a.start ≤ℤ n → b.start ≤ℤ n → look_up first_offset n a.kept ≡ left_of next → look_up first_offset n b.kept ≡ right_of next
+    → look_up first_offset n (join a b).kept ≡ left_over a.cover b.cover next
+merged_from_start a b n next is_a is_b from_a from_b left right =
     join_kept a b n is_a is_b
     ∙ (λ i. batch_of_slot (slot_join (slot_is a n from_a i) (slot_is b n from_b i)))
     ∙ (λ i. batch_of_slot (slot_join (slot_from (left i) (covers a.cover n)) (slot_from (right i) (covers b.cover n))))
     ∙ table_is next (covers a.cover n) (covers b.cover n)
     ∙ next_is a b n next left right
 
-nothing_merged : (a b : Content) (n : ℤ) → IsContent a → IsContent b → a.start ≤ℤ n → b.start ≤ℤ n → look_up first_offset n a.kept ≡ None → look_up first_offset n b.kept ≡ None → look_up first_offset n (join a b).kept ≡ None
-nothing_merged a b n is_a is_b from_a from_b left right = merged_is a b n Done is_a is_b from_a from_b left right
+merge_rises : (a b : Content) → IsContent a → IsContent b → Rises first_offset (join a b).start (join a b).kept
+merge_rises a b is_a is_b = bases_rise (join a b) (content_join a b is_a is_b)
+
+merged_below : (a b : Content) (n : ℤ) → IsContent a → IsContent b → n <ℤ greater_start a b → look_up first_offset n (join a b).kept ≡ None
+merged_below a b n is_a is_b less =
+    look_up-low first_offset (join a b).start n (join a b).kept (merge_rises a b is_a is_b) (subst (λ (s : ℤ). n <ℤ s) (sym (join_start a b)) less)
+
+from_both : (a b : Content) (n : ℤ) → greater_start a b ≤ℤ n → (a.start ≤ℤ n) × (b.start ≤ℤ n)
+from_both a b n from = (omega (arith, ints, clamps, from), omega (arith, ints, clamps, from))
+
+pub merged_is : (a b : Content) (next : Next) → IsContent a → IsContent b → look_up first_offset (base_of next) a.kept ≡ left_of next → look_up first_offset (base_of next) b.kept ≡ right_of next
+    → look_up first_offset (base_of next) (join a b).kept ≡ merged_next (greater_start a b) a.cover b.cover next
+merged_is a b next is_a is_b left right = by (int_lt (base_of next) (greater_start a b)) refl
+  where
+    by : (t : Bool) → int_lt (base_of next) (greater_start a b) ≡ t → look_up first_offset (base_of next) (join a b).kept ≡ (if t then None else left_over a.cover b.cover next)
+    by true e = merged_below a b (base_of next) is_a is_b (grind (arith, ints, e))
+    by false e =
+        let from = from_both a b (base_of next) (grind (arith, ints, e)) in
+        merged_from_start a b (base_of next) next is_a is_b from.0 from.1 left right
+
+nothing_merged : (a b : Content) (n : ℤ) → IsContent a → IsContent b → look_up first_offset n a.kept ≡ None → look_up first_offset n b.kept ≡ None → look_up first_offset n (join a b).kept ≡ None
+nothing_merged a b n is_a is_b left right = by_lt_z n (greater_start a b) (λ less. merged_below a b n is_a is_b less)
+    (λ le. let from = from_both a b n le in merged_from_start a b n Done is_a is_b from.0 from.1 left right)
 
 -- ---- the walk: what is planned makes the merge's batches before what comes next
 
@@ -124,15 +145,10 @@ IsOfBefore bs n m = (look_up first_offset (first_offset m) bs ≡ Some m) × (fi
 pub record IsPlanned (a b : Content) (xs ys : Batches) (turns : List Turn) (more : Batches) : Type 0 where
   pub left_content : IsContent a
   pub right_content : IsContent b
-  pub left_start : a.start ≡ pos 0
-  pub right_start : b.start ≡ pos 0
   pub left : IsFrom a (base_of (next_of xs ys)) xs
   pub right : IsFrom b (base_of (next_of xs ys)) ys
   pub makes : (rest : List Turn) (news : Batches) → woven (turns ++ rest) a.kept (more ++ news) ≡ before (base_of (next_of xs ys)) (join a b).kept ++ woven rest xs news
   pub brings : AllByRecursion (IsOfBefore (join a b).kept (base_of (next_of xs ys))) more
-
-merge_rises : (a b : Content) → IsContent a → IsContent b → Rises first_offset (join a b).start (join a b).kept
-merge_rises a b is_a is_b = bases_rise (join a b) (content_join a b is_a is_b)
 
 merge_in_range : (a b : Content) → IsContent a → IsContent b → AllByRecursion (λ b. (pos 0 ≤ℤ first_offset b) × (first_offset b <ℤ pos (2 ^ 62))) (join a b).kept
 merge_in_range a b is_a is_b =
@@ -144,23 +160,21 @@ all_less : (n : ℤ) (bs : Batches) → AllByRecursion (λ b. (pos 0 ≤ℤ firs
 all_less n [] all = tt
 all_less n (z ∷ bs) all = (all.0.1, all_less n bs all.1)
 
-planned_before : (a b : Content) (m : ℤ) (xs ys : Batches) (turns : List Turn) (more made : Batches) → IsContent a → IsContent b → a.start ≡ pos 0 → b.start ≡ pos 0 → AreBefore a b m xs ys
+planned_before : (a b : Content) (m : ℤ) (xs ys : Batches) (turns : List Turn) (more made : Batches) → IsContent a → IsContent b → AreBefore a b m xs ys
     → made ≡ before (base_of (next_of xs ys)) (join a b).kept
     → ((rest : List Turn) (news : Batches) → woven (turns ++ rest) a.kept (more ++ news) ≡ made ++ woven rest xs news)
     → AllByRecursion (IsOfBefore (join a b).kept (base_of (next_of xs ys))) more → IsPlanned a b xs ys turns more
-planned_before a b m xs ys turns more made is_a is_b start_a start_b are is makes brings = record {
+planned_before a b m xs ys turns more made is_a is_b are is makes brings = record {
   left_content = is_a;
   right_content = is_b;
-  left_start = start_a;
-  right_start = start_b;
   left = are.left;
   right = are.right;
   makes = λ rest news. makes rest news ∙ ap (λ (bs : Batches). bs ++ woven rest xs news) is;
   brings = brings;
 }
 
-pub planned_start : (a b : Content) → IsContent a → IsContent b → a.start ≡ pos 0 → b.start ≡ pos 0 → IsPlanned a b a.kept b.kept [] []
-planned_start a b is_a is_b start_a start_b =
+pub planned_start : (a b : Content) → IsContent a → IsContent b → IsPlanned a b a.kept b.kept [] []
+planned_start a b is_a is_b =
     let n = base_of (next_of a.kept b.kept) in
     let are : AreBefore a b (pos 0) a.kept b.kept = are_before a b (pos 0) a.kept b.kept (omega (arith, ints)) (from_start a is_a) (from_start b is_b) in
     let rise : Rises first_offset (pos 0) (join a b).kept = rises-lower first_offset (pos 0) (join a b).start (join a b).kept (merge_rises a b is_a is_b) (content_join a b is_a is_b).in_range.0 in
@@ -169,8 +183,8 @@ planned_start a b is_a is_b start_a start_b =
     let least = are.least in
     let step : before n (join a b).kept ≡ before (negsuc 0) (join a b).kept ++ cons_option (look_up first_offset (negsuc 0) (join a b).kept) []
     = before_next (negsuc 0) n (pos 0) (join a b).kept rise (omega (arith, ints, least))
-    (λ k from to. nothing_merged a b k is_a is_b (omega (arith, ints, start_a, from)) (omega (arith, ints, start_b, from)) (are.none_left k (omega (arith, ints, from)) to) (are.none_right k (omega (arith, ints, from)) to)) in
-    planned_before a b (pos 0) a.kept b.kept [] [] [] is_a is_b start_a start_b are (sym (step ∙ (λ i. none i ++ cons_option (gone i) []))) (λ rest news. refl) tt
+    (λ k from to. nothing_merged a b k is_a is_b (are.none_left k (omega (arith, ints, from)) to) (are.none_right k (omega (arith, ints, from)) to)) in
+    planned_before a b (pos 0) a.kept b.kept [] [] [] is_a is_b are (sym (step ∙ (λ i. none i ++ cons_option (gone i) []))) (λ rest news. refl) tt
 
 -- what comes next, where something does
 planned_here : (a b : Content) (xs ys : Batches) (turns : List Turn) (more : Batches) → IsPlanned a b xs ys turns more → is_done (next_of xs ys) ≡ false
@@ -181,12 +195,10 @@ planned_here a b xs ys turns more planned some =
     (come, range.0, range.1)
 
 merged_here : (a b : Content) (xs ys : Batches) (turns : List Turn) (more : Batches) → IsPlanned a b xs ys turns more → is_done (next_of xs ys) ≡ false
-    → look_up first_offset (base_of (next_of xs ys)) (join a b).kept ≡ merged_next a.cover b.cover (next_of xs ys)
+    → look_up first_offset (base_of (next_of xs ys)) (join a b).kept ≡ merged_next (greater_start a b) a.cover b.cover (next_of xs ys)
 merged_here a b xs ys turns more planned some =
     let here = planned_here a b xs ys turns more planned some in
-    let start_a = planned.left_start in
-    let start_b = planned.right_start in
-    merged_is a b (base_of (next_of xs ys)) (next_of xs ys) planned.left_content planned.right_content (omega (arith, ints, start_a, here.1)) (omega (arith, ints, start_b, here.1)) here.0.left here.0.right
+    merged_is a b (next_of xs ys) planned.left_content planned.right_content here.0.left here.0.right
 
 end_before : (a b : Content) (n : ℤ) (z : BatchValue) (more : Batches) → IsContent a → IsContent b → look_up first_offset n (join a b).kept ≡ Some z → AllByRecursion (IsOfBefore (join a b).kept n) more → EndBefore (first_offset z) more
 end_before a b n z [] is_a is_b there all = tt
@@ -197,7 +209,7 @@ end_before a b n z (m ∷ more) is_a is_b there all =
 
 -- there is room for what comes in
 pub planned_room : (a b : Content) (xs ys : Batches) (turns : List Turn) (more : Batches) → IsPlanned a b xs ys turns more → is_done (next_of xs ys) ≡ false
-    → (z : BatchValue) → merged_next a.cover b.cover (next_of xs ys) ≡ Some z → IsInRange z × EndBefore (first_offset z) more
+    → (z : BatchValue) → merged_next (greater_start a b) a.cover b.cover (next_of xs ys) ≡ Some z → IsInRange z × EndBefore (first_offset z) more
 planned_room a b xs ys turns more planned some z e =
     let is = content_join a b planned.left_content planned.right_content in
     let there : look_up first_offset (base_of (next_of xs ys)) (join a b).kept ≡ Some z = merged_here a b xs ys turns more planned some ∙ e in
@@ -245,7 +257,7 @@ all_new bs n later z (m ∷ news) less there all =
     ((subst (λ (k : ℤ). look_up first_offset k bs ≡ Some m) (sym base) here, omega (arith, ints, base, less)), all_new bs n later z news less there all.1)
 
 pub planned_next : (a b : Content) (xs ys : Batches) (turns later : List Turn) (more news : Batches) → IsPlanned a b xs ys turns more → is_done (next_of xs ys) ≡ false
-    → Adds (left_of (next_of xs ys)) (merged_next a.cover b.cover (next_of xs ys)) turns later more news
+    → Adds (left_of (next_of xs ys)) (merged_next (greater_start a b) a.cover b.cover (next_of xs ys)) turns later more news
     → IsPlanned a b (drop (taken_left (next_of xs ys)) xs) (drop (taken_right (next_of xs ys)) ys) later news
 planned_next a b xs ys turns later more news planned some adds =
     let next = next_of xs ys in
@@ -255,21 +267,19 @@ planned_next a b xs ys turns later more news planned some adds =
     let m = base_of (next_of us vs) in
     let is_a = planned.left_content in
     let is_b = planned.right_content in
-    let start_a = planned.left_start in
-    let start_b = planned.right_start in
     let here = planned_here a b xs ys turns more planned some in
     let are : AreBefore a b (n +ℤ pos 1) us vs = are_before a b (n +ℤ pos 1) us vs (omega (arith, ints, here.2)) here.0.from_left here.0.from_right in
     let least = are.least in
-    let there : look_up first_offset n (join a b).kept ≡ merged_next a.cover b.cover next = merged_here a b xs ys turns more planned some in
+    let there : look_up first_offset n (join a b).kept ≡ merged_next (greater_start a b) a.cover b.cover next = merged_here a b xs ys turns more planned some in
     let step : before m (join a b).kept ≡ before n (join a b).kept ++ cons_option (look_up first_offset n (join a b).kept) []
     = before_next n m (join a b).start (join a b).kept (merge_rises a b is_a is_b) (omega (arith, ints, least))
-    (λ k from to. nothing_merged a b k is_a is_b (omega (arith, ints, start_a, from, here.1)) (omega (arith, ints, start_b, from, here.1)) (are.none_left k (omega (arith, ints, from)) to) (are.none_right k (omega (arith, ints, from)) to)) in
-    planned_before a b (n +ℤ pos 1) us vs later news (before n (join a b).kept ++ cons_option (merged_next a.cover b.cover next) []) is_a is_b start_a start_b are
+    (λ k from to. nothing_merged a b k is_a is_b (are.none_left k (omega (arith, ints, from)) to) (are.none_right k (omega (arith, ints, from)) to)) in
+    planned_before a b (n +ℤ pos 1) us vs later news (before n (join a b).kept ++ cons_option (merged_next (greater_start a b) a.cover b.cover next) []) is_a is_b are
     (sym (step ∙ ap (λ (z : Option BatchValue). before n (join a b).kept ++ cons_option z []) there))
-    (made_next a.kept xs us (before n (join a b).kept) (left_of next) (merged_next a.cover b.cover next) turns later more news adds (front_left xs ys) planned.makes)
+    (made_next a.kept xs us (before n (join a b).kept) (left_of next) (merged_next (greater_start a b) a.cover b.cover next) turns later more news adds (front_left xs ys) planned.makes)
     (subst (AllByRecursion (IsOfBefore (join a b).kept m)) (sym adds.more_batches)
     (all_append (IsOfBefore (join a b).kept m) more adds.batches (all_later (join a b).kept n m more (omega (arith, ints, least)) planned.brings)
-    (all_new (join a b).kept n m (merged_next a.cover b.cover next) adds.batches (omega (arith, ints, least)) there adds.brings)))
+    (all_new (join a b).kept n m (merged_next (greater_start a b) a.cover b.cover next) adds.batches (omega (arith, ints, least)) there adds.brings)))
 
 done_base : (next : Next) → is_done next ≡ true → base_of next ≡ pos (2 ^ 62)
 done_base Done e = refl
@@ -288,23 +298,23 @@ planned_all a b xs ys turns more planned none =
 
 -- ---- the same by indices
 
-pub plan_room : (a b : Content) (i j : ℕ) (next : Next) (seen_left seen_right : Runs) (turns : List Turn) (more : Batches) → next ≡ next_of (drop i a.kept) (drop j b.kept) → seen_left ≡ a.cover → seen_right ≡ b.cover
+pub plan_room : (a b : Content) (i j : ℕ) (start : ℤ) (next : Next) (seen_left seen_right : Runs) (turns : List Turn) (more : Batches) → next ≡ next_of (drop i a.kept) (drop j b.kept) → start ≡ greater_start a b → seen_left ≡ a.cover → seen_right ≡ b.cover
     → is_done (next_of (drop i a.kept) (drop j b.kept)) ≡ false → IsPlanned a b (drop i a.kept) (drop j b.kept) turns more
-    → (z : BatchValue) → merged_next seen_left seen_right next ≡ Some z → IsInRange z × EndBefore (first_offset z) more
-plan_room a b i j next seen_left seen_right turns more is covers_left covers_right some planned z e =
-    planned_room a b (drop i a.kept) (drop j b.kept) turns more planned some z ((λ k. merged_next (sym covers_left k) (sym covers_right k) (sym is k)) ∙ e)
+    → (z : BatchValue) → merged_next start seen_left seen_right next ≡ Some z → IsInRange z × EndBefore (first_offset z) more
+plan_room a b i j start next seen_left seen_right turns more is starts covers_left covers_right some planned z e =
+    planned_room a b (drop i a.kept) (drop j b.kept) turns more planned some z ((λ k. merged_next (sym starts k) (sym covers_left k) (sym covers_right k) (sym is k)) ∙ e)
 
-pub plan_step : (a b : Content) (i j p q : ℕ) (next : Next) (seen_left seen_right : Runs) (turns later : List Turn) (more news : Batches) → p ≡ taken_left next → q ≡ taken_right next
-    → next ≡ next_of (drop i a.kept) (drop j b.kept) → seen_left ≡ a.cover → seen_right ≡ b.cover → is_done (next_of (drop i a.kept) (drop j b.kept)) ≡ false
-    → Adds (left_of next) (merged_next seen_left seen_right next) turns later more news → IsPlanned a b (drop i a.kept) (drop j b.kept) turns more
+pub plan_step : (a b : Content) (i j p q : ℕ) (start : ℤ) (next : Next) (seen_left seen_right : Runs) (turns later : List Turn) (more news : Batches) → p ≡ taken_left next → q ≡ taken_right next
+    → next ≡ next_of (drop i a.kept) (drop j b.kept) → start ≡ greater_start a b → seen_left ≡ a.cover → seen_right ≡ b.cover → is_done (next_of (drop i a.kept) (drop j b.kept)) ≡ false
+    → Adds (left_of next) (merged_next start seen_left seen_right next) turns later more news → IsPlanned a b (drop i a.kept) (drop j b.kept) turns more
     → IsPlanned a b (drop (i + p) a.kept) (drop (j + q) b.kept) later news
-plan_step a b i j p q next seen_left seen_right turns later more news left right is covers_left covers_right some adds planned =
+plan_step a b i j p q start next seen_left seen_right turns later more news left right is starts covers_left covers_right some adds planned =
     let xs = drop i a.kept in
     let ys = drop j b.kept in
-    let made : Adds (left_of (next_of xs ys)) (merged_next a.cover b.cover (next_of xs ys)) turns later more news
-    = subst (λ (n : Next). Adds (left_of n) (merged_next a.cover b.cover n) turns later more news) is
-    (subst (λ (r : Runs). Adds (left_of next) (merged_next a.cover r next) turns later more news) covers_right
-    (subst (λ (r : Runs). Adds (left_of next) (merged_next r seen_right next) turns later more news) covers_left adds)) in
+    let same : merged_next start seen_left seen_right next ≡ merged_next (greater_start a b) a.cover b.cover (next_of xs ys) = (λ k. merged_next (starts k) (covers_left k) (covers_right k) (is k)) in
+    let made : Adds (left_of (next_of xs ys)) (merged_next (greater_start a b) a.cover b.cover (next_of xs ys)) turns later more news
+    = subst (λ (z : Option BatchValue). Adds (left_of (next_of xs ys)) z turns later more news) same
+    (subst (λ (z : Option BatchValue). Adds z (merged_next start seen_left seen_right next) turns later more news) (ap left_of is) adds) in
     let us : drop (taken_left (next_of xs ys)) xs ≡ drop (i + p) a.kept = drop-drop (taken_left (next_of xs ys)) i a.kept ∙ ap (λ (n : ℕ). drop (i + n) a.kept) (sym (left ∙ ap taken_left is)) in
     let vs : drop (taken_right (next_of xs ys)) ys ≡ drop (j + q) b.kept = drop-drop (taken_right (next_of xs ys)) j b.kept ∙ ap (λ (n : ℕ). drop (j + n) b.kept) (sym (right ∙ ap taken_right is)) in
     subst (λ (zs : Batches). IsPlanned a b zs (drop (j + q) b.kept) later news) us

@@ -1,5 +1,5 @@
 -- What becomes of the kept batches where two copies are merged.
-use Rattle.std.specs.Prelude.{◌≡◌, ℤ, ◌<ℤ◌, List, ◌++◌, Option, Some, None, if◌then◌else◌}
+use Rattle.std.specs.Prelude.{◌≡◌, ℤ, ◌<ℤ◌, int_lt, List, ◌++◌, Option, Some, None, if◌then◌else◌}
 use Rattle.std.specs.List.{AllByRecursion, cons_option}
 use Rattle.batch_codec.specs.Values.{BatchValue}
 use Rattle.batch_codec.specs.Offsets.{first_offset, last_offset}
@@ -9,13 +9,19 @@ use Rattle.segment.specs.declared.turn.Turn.{Turn}
 use Rattle.segment.specs.Weaving.{woven}
 use Rattle.copy_merge.specs.declared.next.Next.{Next}
 use Rattle.copy_merge.specs.declared.next.Next.TheVariants.{Done, Left, Right, Both}
+use Rattle.copy_merge.specs.Steps.{base_of}
 
--- what two copies that have seen these offsets leave of what comes next
-abbrev pub merged_next : Runs → Runs → Next → Option BatchValue
-merged_next left right Done = None
-merged_next left right (Left x) = if covers right (first_offset x) then None else Some x
-merged_next left right (Right y) = if covers left (first_offset y) then None else Some y
-merged_next left right (Both x y) = Some (with_common_records x y)
+-- what two copies that have seen these offsets leave of what comes next from the merged start on
+abbrev pub left_over : Runs → Runs → Next → Option BatchValue
+left_over left right Done = None
+left_over left right (Left x) = if covers right (first_offset x) then None else Some x
+left_over left right (Right y) = if covers left (first_offset y) then None else Some y
+left_over left right (Both x y) = Some (with_common_records x y)
+
+-- what they leave of what comes next: of what begins below the merged start, nothing
+abbrev pub merged_next : (start : ℤ) → Runs → Runs → Next → Option BatchValue
+merged_next start left right next =
+    if int_lt (base_of next) start then None else left_over left right next
 
 -- the spans lie before an offset
 abbrev pub EndBefore : ℤ → List BatchValue → Type 0

@@ -1,7 +1,7 @@
 -- Two lists of batches, by rising base offset.
-use Rattle.std.specs.Prelude.{ℕ, ℤ, int_lt, Bool, true, false, List, [], ◌∷◌, Option, Some, None, if◌then◌else◌}
+use Rattle.std.specs.Prelude.{ℕ, ℤ, ◌<ℤ◌, int_lt, Bool, true, false, List, [], ◌∷◌, Option, Some, None, if◌then◌else◌}
 use Rattle.batch_codec.specs.Values.{BatchValue}
-use Rattle.batch_codec.specs.Offsets.{first_offset}
+use Rattle.batch_codec.specs.Offsets.{first_offset, last_offset}
 use Rattle.content.specs.Content.{IsInRange}
 use Rattle.cover_ranges.specs.declared.TheConstants.{OFFSETS_END}
 use Rattle.copy_merge.specs.declared.next.Next.{Next}
@@ -65,6 +65,13 @@ taken_right Done = 0
 taken_right (Left x) = 0
 taken_right (Right y) = 1
 taken_right (Both x y) = 1
+
+-- the spans end below an offset
+abbrev pub EndsBelow : ℤ → Next → Type 0
+EndsBelow o Done = Unit {0}
+EndsBelow o (Left x) = last_offset x <ℤ o
+EndsBelow o (Right y) = last_offset y <ℤ o
+EndsBelow o (Both x y) = (last_offset x <ℤ o) × (last_offset y <ℤ o)
 
 -- the spans lie within the offsets
 abbrev pub IsNextInRange : Next → Type 0

@@ -3,12 +3,12 @@
 ghost use Rattle.std.specs.Prelude.{◌↔◌, IsTrue, OnOk, IfErr};
 ghost use Rattle.content.specs.Content.{IsInRange};
 ghost use Rattle.content.specs.Joins.{Agree};
-ghost use Rattle.copy_merge.specs.Agreement.{AgreeOn, CoversAllOrNone};
+ghost use Rattle.copy_merge.specs.Agreement.{AgreeOn, AreCompatible, CoversAllOrNone};
 ghost use Rattle.copy_merge.specs.Merges.{IsFirstDisagreement};
 ghost use Rattle.copy_merge.specs.Steps.{IsNextInRange};
 
 use crate::alike::are_alike;
-use crate::next::{Next, has_next, know_content, next_batches};
+use crate::next::{Next, greater_start, has_next, know_content, next_batches};
 use batch_codec::BatchView;
 use cover_ranges::Cover;
 use partition_log::PartitionLog;
@@ -24,10 +24,10 @@ fn has_all_or_none<A: Allocator + Copy>(seen: &Cover<A>, batch: &BatchView<'_>) 
     seen.has_all(first, last) || !seen.has_any(first, last)
 }
 
-/// Whether two copies that have seen these offsets agree on what comes next.
-fn agree_on<A: Allocator + Copy>(left: &Cover<A>, right: &Cover<A>, next: &Next<'_>) -> bool
+/// Whether two copies that have seen these offsets agree on what comes next from the merged start on.
+fn are_compatible<A: Allocator + Copy>(left: &Cover<A>, right: &Cover<A>, next: &Next<'_>) -> bool
     requires { IsNextInRange next.now }
-    ensures { IsTrue result ↔ AgreeOn left.now.runs right.now.runs next.now }
+    ensures { IsTrue result ↔ AreCompatible left.now.runs right.now.runs next.now }
 {
     match next {
         Next::Done => true,
@@ -35,6 +35,23 @@ fn agree_on<A: Allocator + Copy>(left: &Cover<A>, right: &Cover<A>, next: &Next<
         Next::Right(batch) => has_all_or_none(left, batch),
         Next::Both(x, y) => are_alike(x, y),
     }
+}
+
+/// Whether two copies that have seen these offsets agree on what comes next. What begins below the
+/// merged start isn't compared.
+fn agree_on<A: Allocator + Copy>(
+    start: i64,
+    left: &Cover<A>,
+    right: &Cover<A>,
+    next: &Next<'_>,
+) -> bool
+    requires { IsNextInRange next.now }
+    ensures { IsTrue result ↔ AgreeOn start left.now.runs right.now.runs next.now }
+{
+    if next.base() < start {
+        return next.ends_below(start);
+    }
+    are_compatible(left, right, next)
 }
 
 /// Whether two copies agree; if not, the least base offset at which they don't. Takes no memory.
@@ -47,10 +64,11 @@ pub(crate) fn judge<'a, S: BatchStore>(
 {
     know_content(a);
     know_content(b);
+    let start = greater_start(a, b);
     let (mut i, mut j) = (0, 0);
     while has_next(a, i, b, j) {
         let next = next_batches(a, i, b, j);
-        if !agree_on(a.cover(), b.cover(), &next) {
+        if !agree_on(start, a.cover(), b.cover(), &next) {
             return Err(next.base());
         }
         i += next.of_left();

@@ -1,16 +1,31 @@
 //! Two copies merged.
 
 ghost use Rattle.std.specs.Prelude.{◌≡◌, OnOk, OnErr, IfOk, IfErr};
+ghost use Rattle.cover_ranges.specs.Runs.{union_of, cut_below};
 ghost use Rattle.content.specs.Joins.{join, Agree};
 ghost use Rattle.copy_merge.specs.Merges.{RefusesMerge};
 
 use crate::error::MergeError;
 use crate::judging::judge;
-use crate::next::know_content;
+use crate::next::{greater_start, know_content};
 use crate::planning::{Plan, make_plan};
+use cover_ranges::Cover;
 use partition_log::PartitionLog;
 use segment::BatchStore;
 use std::alloc::AllocError;
+
+/// The offsets that either of two copies has seen, from a start on.
+fn cover_from<S: BatchStore>(
+    a: &PartitionLog<S>,
+    b: &PartitionLog<S>,
+    start: i64,
+) -> Result<Cover<S::Alloc>, AllocError>
+    ensures { IfOk result (λ cover. cover.runs ≡ cut_below start (union_of a.now.cover b.now.cover)) }
+{
+    let mut cover = a.cover().union(b.cover())?;
+    cover.cut_below(start);
+    Ok(cover)
+}
 
 /// Merges a copy into another. All memory is taken before anything changes.
 fn unite<S: BatchStore>(a: &mut PartitionLog<S>, b: &PartitionLog<S>) -> Result<(), AllocError>
@@ -20,8 +35,9 @@ fn unite<S: BatchStore>(a: &mut PartitionLog<S>, b: &PartitionLog<S>) -> Result<
     know_content(a);
     know_content(b);
     let Plan { turns, more } = make_plan(a, b)?;
-    let cover = a.cover().union(b.cover())?;
-    a.weave(cover, &turns, more)
+    let start = greater_start(a, b);
+    let cover = cover_from(a, b, start)?;
+    a.weave(cover, start, &turns, more)
 }
 
 /// The merge of two copies, in memory of its own.
@@ -36,9 +52,10 @@ fn united<S: BatchStore>(
     Ok(merged)
 }
 
-/// Two copies of a partition merged into a third, in memory of its own. It has seen the offsets that
-/// either has seen. At each base offset, a batch that only one copy has seen is taken over; one that
-/// either has dropped is gone; and of one that both keep, the records stay that both have.
+/// Two copies of a partition merged into a third, in memory of its own. It starts at the greater of
+/// the two starts, and has seen the offsets from there on that either has seen. At each base offset
+/// from there on, a batch that only one copy has seen is taken over; one that either has dropped is
+/// gone; and of one that both keep, the records stay that both have.
 ///
 /// ```
 /// let both = merge(&left, &right)?;

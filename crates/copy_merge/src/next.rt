@@ -1,24 +1,30 @@
 //! Two copies' batches, by rising base offset.
 
-ghost use Rattle.std.specs.Prelude.{◌≡◌, ◌<◌, ◌^◌, drop, length, not, pos, Option, Some, None, IfSome};
+ghost use Rattle.std.specs.Prelude.{◌≡◌, ◌<◌, ◌^◌, ◌↔◌, drop, length, not, IsTrue, Option, Some, None, IfSome};
 ghost use Rattle.content.specs.Content.{IsContent, IsInRange};
-ghost use Rattle.copy_merge.specs.Steps.{first_of, is_done, next_by, next_of, base_of, taken_left, taken_right, IsNextInRange};
+ghost use Rattle.content.specs.Joins.{greater_start};
+ghost use Rattle.copy_merge.specs.Steps.{first_of, is_done, next_by, next_of, base_of, taken_left, taken_right, EndsBelow, IsNextInRange};
 
 use batch_codec::BatchView;
 use cover_ranges::OFFSETS_END;
 use partition_log::PartitionLog;
 use segment::BatchStore;
 
-/// A copy's content is a valid one from 0 on, and its batches can be counted: this is known behind
-/// the call, which does nothing.
+/// A copy's content is a valid one, and its batches can be counted: this is known behind the call,
+/// which does nothing.
 pub(crate) fn know_content<S: BatchStore>(log: &PartitionLog<S>)
     ensures is_content { IsContent log.now }
-    ensures from_zero { log.now.start ≡ pos 0 }
     ensures few { length log.now.kept < 2 ^ 64 }
 {
-    let _ = log.start();
     let _ = log.end();
     let _ = log.len();
+}
+
+/// The start of two copies' merge.
+pub(crate) fn greater_start<S: BatchStore>(a: &PartitionLog<S>, b: &PartitionLog<S>) -> i64
+    ensures { result ≡ greater_start a.now b.now }
+{
+    a.start().max(b.start())
 }
 
 /// What comes next of two lists of batches, by rising base offset.
@@ -101,6 +107,18 @@ impl<'a> Next<'a> {
             Next::Left(batch) => batch.base(),
             Next::Right(batch) => batch.base(),
             Next::Both(batch, _) => batch.base(),
+        }
+    }
+
+    /// Whether the batches end below an offset.
+    pub(crate) fn ends_below(&self, offset: i64) -> bool
+        requires { IsNextInRange self.now }
+        ensures { IsTrue result ↔ EndsBelow offset self.now }
+    {
+        match self {
+            Next::Done => true,
+            Next::Left(batch) | Next::Right(batch) => batch.last_offset() < offset,
+            Next::Both(x, y) => x.last_offset() < offset && y.last_offset() < offset,
         }
     }
 

@@ -9,11 +9,11 @@ ghost use Rattle.content.specs.Joins.{join};
 ghost use Rattle.content.specs.Records.{with_common_records};
 ghost use Rattle.segment.specs.Weaving.{woven};
 ghost use Rattle.segment.specs.declared.turn.Turn.TheVariants.{Come};
-ghost use Rattle.copy_merge.specs.Plans.{EndBefore, merged_next, Adds};
+ghost use Rattle.copy_merge.specs.Plans.{EndBefore, left_over, merged_next, Adds};
 ghost use Rattle.copy_merge.specs.Steps.{left_of, IsNextInRange};
 
 use crate::common::{common_batch, has_all_of};
-use crate::next::{Next, has_next, know_content, next_batches};
+use crate::next::{Next, greater_start, has_next, know_content, next_batches};
 use batch_codec::{Batch, BatchView, encode, one_encoding};
 use cover_ranges::Cover;
 use partition_log::PartitionLog;
@@ -146,19 +146,33 @@ fn plan_both<'a, S: BatchStore>(
     replace(plan, alloc, &batch)
 }
 
-/// What becomes of the batches that come next.
-fn plan_next<'a, S: BatchStore>(
+/// What becomes of batches that begin below the merged start: they go.
+fn let_go<S: BatchStore>(plan: &mut Plan<S>, next: &Next<'_>) -> Result<(), AllocError>
+    ensures { OnOk result (Adds (left_of next.now) None
+        plan.old.turns.items plan.new.turns.items
+        (S.batches plan.old.more) (S.batches plan.new.more)) }
+{
+    match next {
+        Next::Done => Ok(()),
+        Next::Left(_) => add_turn(plan, Turn::Go),
+        Next::Right(_) => Ok(()),
+        Next::Both(_, _) => add_turn(plan, Turn::Go),
+    }
+}
+
+/// What becomes of batches that begin from the merged start on.
+fn plan_from_start<'a, S: BatchStore>(
     plan: &mut Plan<S>,
     alloc: S::Alloc,
     next: &Next<'a>,
     left: &Cover<S::Alloc>,
     right: &Cover<S::Alloc>,
 ) -> Result<(), AllocError>
-    requires room { (z : BatchValue) → merged_next left.now.runs right.now.runs next.now ≡ Some z
+    requires room { (z : BatchValue) → left_over left.now.runs right.now.runs next.now ≡ Some z
         → IsInRange z × EndBefore (first_offset z) (S.batches plan.old.more) }
     requires in_range { IsNextInRange next.now }
     ensures { OnOk result (Adds (left_of next.now)
-        (merged_next left.now.runs right.now.runs next.now)
+        (left_over left.now.runs right.now.runs next.now)
         plan.old.turns.items plan.new.turns.items
         (S.batches plan.old.more) (S.batches plan.new.more)) }
 {
@@ -168,6 +182,30 @@ fn plan_next<'a, S: BatchStore>(
         Next::Right(batch) => plan_right(plan, batch, left),
         Next::Both(x, y) => plan_both(plan, alloc, x, y),
     }
+}
+
+/// What becomes of the batches that come next.
+fn plan_next<'a, S: BatchStore>(
+    plan: &mut Plan<S>,
+    alloc: S::Alloc,
+    start: i64,
+    next: &Next<'a>,
+    left: &Cover<S::Alloc>,
+    right: &Cover<S::Alloc>,
+) -> Result<(), AllocError>
+    requires room { (z : BatchValue)
+        → merged_next start left.now.runs right.now.runs next.now ≡ Some z
+        → IsInRange z × EndBefore (first_offset z) (S.batches plan.old.more) }
+    requires in_range { IsNextInRange next.now }
+    ensures { OnOk result (Adds (left_of next.now)
+        (merged_next start left.now.runs right.now.runs next.now)
+        plan.old.turns.items plan.new.turns.items
+        (S.batches plan.old.more) (S.batches plan.new.more)) }
+{
+    if next.base() < start {
+        return let_go(plan, next);
+    }
+    plan_from_start(plan, alloc, next, left, right)
 }
 
 /// What becomes of all kept batches. Changes neither copy.
@@ -185,10 +223,11 @@ pub(crate) fn make_plan<'a, S: BatchStore>(
         turns: Vec::new(alloc),
         more: S::new(alloc),
     };
+    let start = greater_start(a, b);
     let (mut i, mut j) = (0, 0);
     while has_next(a, i, b, j) {
         let next = next_batches(a, i, b, j);
-        plan_next(&mut plan, alloc, &next, a.cover(), b.cover())?;
+        plan_next(&mut plan, alloc, start, &next, a.cover(), b.cover())?;
         i += next.of_left();
         j += next.of_right();
     }
