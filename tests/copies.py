@@ -10,18 +10,17 @@ import struct
 import batches
 import frames
 
-FIELDS = "mark version ranges count crc tail".split()
+FIELDS = "mark version start ranges count crc tail".split()
 
 
 def image(ranges, kept, fields):
     """The image of a copy that has seen these ranges, and keeps these batches, which are given as bytes. `fields` may set each
-    field, also the counts and the crc, and `tail`, the number of zeros behind the batches."""
-    body = struct.pack(
-        ">Ihi",
-        fields.get("mark", 0x4B435059),
-        fields.get("version", 0),
-        fields.get("ranges", len(ranges)),
-    )
+    field, also the counts and the crc, and `tail`, the number of zeros behind the batches. The version is 1 unless they say
+    otherwise; in version 0 there is no log start."""
+    version = fields.get("version", 1)
+    body = struct.pack(">Ih", fields.get("mark", 0x4B435059), version)
+    body += struct.pack(">q", fields.get("start", 0)) if version else b""
+    body += struct.pack(">i", fields.get("ranges", len(ranges)))
     body += b"".join(struct.pack(">qq", first, last) for first, last in ranges)
     body += struct.pack(">i", fields.get("count", len(kept)))
     body += b"".join(kept) + bytes(fields.get("tail", 0))
@@ -149,13 +148,13 @@ RESPONSES = {
 }
 
 
-def flipped(data, at):
+def flipped(data, at, bits=0x10):
     """The bytes with a bit of one of them turned."""
-    return data[:at] + bytes([data[at] ^ 0x10]) + data[at + 1 :]
+    return data[:at] + bytes([data[at] ^ bits]) + data[at + 1 :]
 
 
 # what becomes of bytes and a number
-CHANGES = {"cut": lambda data, size: data[:size], "flip": flipped}
+CHANGES = {"cut": lambda data, size: data[:size], "flip": flipped, "flip-lowest": lambda data, at: flipped(data, at, 1)}
 
 
 @functools.lru_cache(maxsize=8)
@@ -176,7 +175,10 @@ def input_of(words, root):
     if kind == "sized":
         data = input_of(rest, root)
         return struct.pack(">i", len(data)) + data
-    if kind in ("cut", "flip"):
+    if kind == "sealed":
+        data = input_of(rest, root)
+        return data + struct.pack(">I", batches.crc32c(data))
+    if kind in CHANGES:
         number, _, form = rest.partition(" ")
         return CHANGES[kind](input_of(form, root), int(number))
     if kind in REQUESTS:
