@@ -2,9 +2,10 @@
 places. Each is a leader's, or that of a follower which gets the batches of the leader's log.
 
 The replies to all other requests must be the same bytes each time, but for those that show which batches are kept: Fetch,
-Export, and ListOffsets with a time of 0 or more. There is no Import, and a follower gets no batch of another log: for these
-it needn't hold. The requests are drawn beside a broker of tests/broker.py that is never cleaned, for sequence numbers and
-offsets that fit; what must be replied is taken from the other runs alone.
+Export, and ListOffsets with a time of 0 or more. There is no Import, a follower gets no batch of another log, and no Trim is to
+where a copy may start only if it keeps a batch there: for these it needn't hold. The requests are drawn beside brokers of
+tests/broker.py that are never cleaned, for sequence numbers and offsets that fit; what must be replied is taken from the other
+runs alone.
 """
 import itertools
 import os
@@ -17,8 +18,8 @@ from exchanges import PLACES, TOPICS, place, rarely
 from generated import Numbers
 
 PRODUCE, FETCH, LISTOFFSETS, COMMIT, OFFSETS = 0, 1, 2, 8, 9
-DELIVER, CLEAN, EXPORT, IMPORT, GET, COVER, FORGET = range(20000, 20007)
-CHANGING = (PRODUCE, COMMIT, FORGET)  # what a leader appends for
+DELIVER, CLEAN, EXPORT, IMPORT, GET, COVER, FORGET, TRIM = range(20000, 20008)
+CHANGING = (PRODUCE, COMMIT, FORGET, TRIM)  # what changes a leader's partitions
 WAYS = ["with its Cleans", "without Cleans", "with other Cleans"]
 KEYS = [b"a", b"b", b"fig tree"]  # so few that most records are soon older than another one of their key
 TIMES = [[-1], [-2], [-1, -2, -3], [-1, -2, 0, 5, 10, 20, 41]]  # of which one request has its times
@@ -56,16 +57,18 @@ class Requests(exchanges.Exchange):
 
     def __init__(self, start):
         super().__init__(start)
-        self.leader = self.sides[0][0]
+        self.leader, self.follower = (node for node, *_ in self.sides)
         self.undelivered = {}
 
     def request(self, number, leads, key, values):
-        """The request. The leader's broker does it too, so that later ones fit what it has made."""
+        """The request. The role's broker does it too, so that later ones fit what it has made."""
         ends = {(name, index): self.leader.copy(name, index).end() for name, index in PLACES}
         made = Request(number, key, values, self.numbers.one_of([None, b"", b"me"]), ends)
         if leads and key in CHANGING:
             self.leader.reply(made.frame[4:])
             self.note(self.leader)
+        if not leads and key in (DELIVER, TRIM):
+            self.follower.reply(made.frame[4:])
         return made
 
     def drawn(self, leads, count):
@@ -74,10 +77,14 @@ class Requests(exchanges.Exchange):
         made = []
         for number in range(count):
             key = self.numbers.one_of(KINDS[leads])
-            made.append(self.request(number, leads, key, DRAWS[key](self, self.leader)))
+            made.append(self.request(number, leads, key, DRAWS[key](self, self.node_of(leads, key))))
         for key, values in self.last_looks():
             made.append(self.request(len(made), leads, key, values))
         return made
+
+    def node_of(self, leads, key):
+        """The broker beside which a request is drawn: the leader's, but for a follower's Trims."""
+        return self.leader if leads or key != TRIM else self.follower
 
     def last_looks(self):
         """Requests that show the whole of what must not depend on cleaning: covers, ends, tables, what groups have committed,
@@ -134,6 +141,13 @@ class Requests(exchanges.Exchange):
     def export(self, node):
         return [*place(self.numbers)]
 
+    def trim(self, node):
+        """To an offset at which a copy may start whatever it keeps, or outside of it."""
+        where = place(self.numbers)
+        copy = self.copy(node, *where)
+        firsts = [first for first, _ in copy.cover]
+        return [*where, self.numbers.one_of([copy.start - 1, copy.end() + 1, copy.end(), *firsts[:3]])]
+
     def get(self, node):
         numbers = self.numbers
         name, index = place(numbers)
@@ -160,6 +174,7 @@ DRAWS = {
     OFFSETS: Requests.offsets,
     DELIVER: Requests.deliver,
     EXPORT: Requests.export,
+    TRIM: Requests.trim,
     GET: Requests.get,
 }
 

@@ -89,6 +89,10 @@ def cover(words, root):
     return of_copy(20005, words, lambda _: b"")
 
 
+def trim(words, root):
+    return of_copy(20007, words, lambda it: struct.pack(">q", int(it)))
+
+
 def forget(words, root):
     return frames.request(20006, 0, frames.text(batches.unescaped(words)))
 
@@ -101,6 +105,7 @@ REQUESTS = {
     "get": get,
     "cover": cover,
     "forget": forget,
+    "trim": trim,
 }
 
 
@@ -133,6 +138,10 @@ def covered(words, root):
     return frames.response(struct.pack(">h", int(code)) + frames.array(ranges))
 
 
+def trimmed(words, root):
+    return frames.response(struct.pack(">h", int(words)))
+
+
 def forgotten(words, root):
     return frames.response(struct.pack(">hi", *(int(it) for it in words.split())))
 
@@ -145,6 +154,7 @@ RESPONSES = {
     "got": got,
     "covered": covered,
     "forgotten": forgotten,
+    "trimmed": trimmed,
 }
 
 

@@ -195,6 +195,12 @@ class Exchange:
     def cover(self, node):
         return [*place(self.numbers)]
 
+    def trim(self, node):
+        """Mostly one of the first offsets at which the copy may start; else any."""
+        where = place(self.numbers)
+        boundaries = sorted(self.copy(node, *where).boundaries())
+        return [*where, rarely(self.numbers, self.numbers.one_of(boundaries[:3]), self.offset(node, *where))]
+
     def looks(self):
         """Asks each side for an image of each partition."""
         for side in self.sides:
@@ -222,6 +228,7 @@ DRAWS = {
     20004: Exchange.get,
     20005: Exchange.cover,
     20006: Exchange.forget,
+    20007: Exchange.trim,
 }
 
 # of a leader and of a follower, each request as often as it is drawn among the others
