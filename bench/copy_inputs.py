@@ -176,7 +176,7 @@ def image(batches):
 
 def image_of(ranges, batches):
     """The image of a copy that has seen these ranges and keeps these batches, by their base offsets."""
-    body = b"KCPY" + struct.pack(">hi", 0, len(ranges)) + b"".join(struct.pack(">qq", *it) for it in ranges)
+    body = b"KCPY" + struct.pack(">hqi", 1, 0, len(ranges)) + b"".join(struct.pack(">qq", *it) for it in ranges)
     body += struct.pack(">i", len(batches)) + b"".join(batches[base] for base in sorted(batches))
     return body + struct.pack(">I", crc32c(body))
 

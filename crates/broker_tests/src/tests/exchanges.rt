@@ -54,7 +54,7 @@ pub(crate) const SEEN: Exchange = Exchange {
 /// An Export request for partition 0 of `t`.
 pub(crate) const IMAGE: Exchange = Exchange {
     request: b"\0\0\0\x11N\x22\0\0\0\0\0\x07\xff\xff\0\x01t\0\0\0\0",
-    response: b"\0\0\0r\0\0\0\x07\0\0\0\0\0hKCPY\0\0\0\0\0\x01\0\0\0\0\0\0\0\0\0\0\0\0\0\0\0\0\0\0\0\x01\0\0\0\0\0\0\0\0\0\0\0:\0\0\0\0\x022\xc83\x8d\0\0\0\0\0\0\0\0\0\0\0\0\0\0\0\0\0\0\0\0\0\0\xff\xff\xff\xff\xff\xff\xff\xff\xff\xff\xff\xff\xff\xff\0\0\0\x01\x10\0\0\0\x02a\x021\0[\x12v\x96",
+    response: b"\0\0\0z\0\0\0\x07\0\0\0\0\0pKCPY\0\x01\0\0\0\0\0\0\0\0\0\0\0\x01\0\0\0\0\0\0\0\0\0\0\0\0\0\0\0\0\0\0\0\x01\0\0\0\0\0\0\0\0\0\0\0:\0\0\0\0\x022\xc83\x8d\0\0\0\0\0\0\0\0\0\0\0\0\0\0\0\0\0\0\0\0\0\0\xff\xff\xff\xff\xff\xff\xff\xff\xff\xff\xff\xff\xff\xff\0\0\0\x01\x10\0\0\0\x02a\x021\0n\x80<\x98",
     failed: Some(b"\0\0\0\x0a\0\0\0\x07\08\0\0\0\0"),
 };
 

@@ -176,7 +176,8 @@ fn failing_streams(rt: HostRuntime) -> std::result::Result<(), Fail> {
     Ok(())
 }
 
-/// The image of a copy that has seen nothing, behind its size, twice.
+/// The image of a copy that has seen nothing, of version 0, behind its size, twice. The image of their merge is of
+/// version 1.
 const TWO_IMAGES: &[u8] =
     b"\0\0\0\x12KCPY\0\0\0\0\0\0\0\0\0\0\x59\x1a\x35\x81\0\0\0\x12KCPY\0\0\0\0\0\0\0\0\0\0\x59\x1a\x35\x81";
 
@@ -199,7 +200,7 @@ fn a_merge_is_flushed(rt: HostRuntime) {
         streams_of(false, true),
         (0, ""),
     );
-    assert!(rt; done && sink.taken == 18 && sink.flushed == 18);
+    assert!(rt; done && sink.taken == 26 && sink.flushed == 26);
     let failed = (4, "kbroker: write failed\n");
     let (done, sink) = told(
         rt.alloc(),
@@ -208,7 +209,7 @@ fn a_merge_is_flushed(rt: HostRuntime) {
         streams_of(false, false),
         failed,
     );
-    assert!(rt; done && sink.taken == 18, "a flush that fails");
+    assert!(rt; done && sink.taken == 26, "a flush that fails");
 }
 
 #[test]
