@@ -1,25 +1,21 @@
 -- Batches judged where they stand, one after the other.
-use Rattle.std.proofs.Common.{◌≡◌, ℕ, ◌+◌, ◌-◌, ◌<◌, ◌≤◌, ℤ, pos, ◌+ℤ◌, Bool, true, false, ◌||◌, ◌&&◌, ◌⊎◌, inl, inr, Some, None, Result, Err, List, [], ◌∷◌, ◌++◌, length, get_or, take, drop, refl, sym, ap, subst, ◌∙◌, append_assoc, append-nil, arith}
+use Rattle.std.proofs.Common.{◌≡◌, ℕ, ◌+◌, ◌-◌, ◌<◌, ◌≤◌, ℤ, pos, ◌+ℤ◌, Bool, true, false, ◌||◌, ◌&&◌, Result, Err, List, [], ◌∷◌, ◌++◌, length, take, drop, refl, sym, ap, subst, ◌∙◌, append_assoc, append-nil, arith}
 use Rattle.std.specs.Prelude.{◌≤ℤ◌, ◌<ℤ◌, int_lt, int_le, IsTrue, ◌↔◌, IsOkAnd, FitsSigned, if◌then◌else◌}
 use Rattle.std.specs.List.{AllByRecursion, flat_map, list_any, fold}
 use Rattle.std.specs.Int.{w64, cast_signed, cast_unsigned}
-use Rattle.std.specs.Ordering.{int_eq}
 use Rattle.std.proofs.lemmas.Int.{ints, to_z-of_z}
 use Rattle.std.proofs.lemmas.List.{length-append, take_rest, drop_at}
-use Rattle.std.proofs.lemmas.List.Folds.{Any-from_list_any}
 use Rattle.std.proofs.lemmas.Grind.{flat_map-append}
 use Rattle.batch_codec.specs.Values.{BatchValue}
 use Rattle.batch_codec.specs.Grammar.{Writable, StartsWith, batch_encoding}
 use Rattle.batch_codec.specs.Offsets.{first_offset, last_offset, HasKeys, SpansRise}
-use Rattle.cover_ranges.specs.Runs.{Runs, IsRun, is_within, covers, IsCanonical, has_all, CoversAll}
-use Rattle.cover_ranges.proofs.Runs.{run_bounds}
+use Rattle.cover_ranges.specs.Runs.{Runs, IsCanonical, has_all, CoversAll}
 use Rattle.cover_ranges.proofs.RunEnds.{has_all_covers, covers_has_all}
 use Rattle.cover_ranges.proofs.RunsFrom.{RunsFrom, runs_lower, canonical_from}
-use Rattle.content.specs.ByOffset.{look_up}
 use Rattle.content.specs.Records.{IsKeepable}
 use Rattle.content.specs.Content.{IsInRange}
 use Rattle.copy_images.specs.Refusals.{IsNext, end_of_batches}
-use Rattle.copy_images.specs.Judging.{ending_from, first_holds, HasContent, HoldsBatches, BatchesFault}
+use Rattle.copy_images.specs.Judging.{ending_from, first_holds, HasKept, HoldsBatches, BatchesFault}
 use Rattle.copy_images.specs.declared.error.ImageError.TheVariants.{BadBatch, Outside, Extra}
 
 abbrev pub Batches : Type 0
@@ -114,77 +110,35 @@ all_more : {X : Type 0} (P : X → Type 0) (xs : List X) (x : X) → AllByRecurs
 all_more P [] x h p = (p, tt)
 all_more P (y ∷ ys) x h p = (h.0, all_more P ys x h.1 p)
 
-look_up_more : (base : ℤ) (bs : Batches) (b z : BatchValue) → look_up first_offset base (bs ++ b ∷ []) ≡ Some z → (look_up first_offset base bs ≡ Some z) ⊎ ((first_offset b ≡ base) × (b ≡ z))
-look_up_more base [] b z e = by (int_eq (first_offset b) base) refl e
-  where
-    by : (t : Bool) → int_eq (first_offset b) base ≡ t → (if t then Some b else None) ≡ Some z → (None ≡ Some z) ⊎ ((first_offset b ≡ base) × (b ≡ z))
-    by true t e = let at : first_offset b ≡ base = grind (arith, ints, t) in let same : b ≡ z = cc in inr (at, same)
-    by false t e = absurd cc
-look_up_more base (x ∷ xs) b z e = by (int_eq (first_offset x) base) e (look_up_more base xs b z)
-  where
-    by : (t : Bool) → (if t then Some x else look_up first_offset base (xs ++ b ∷ [])) ≡ Some z
-        → (look_up first_offset base (xs ++ b ∷ []) ≡ Some z → (look_up first_offset base xs ≡ Some z) ⊎ ((first_offset b ≡ base) × (b ≡ z)))
-        → ((if t then Some x else look_up first_offset base xs) ≡ Some z) ⊎ ((first_offset b ≡ base) × (b ≡ z))
-    by true e ih = inl e
-    by false e ih = ih e
-
-above_zero : (runs : Runs) → IsCanonical runs → (o : ℤ) → covers runs o ≡ true → pos 0 ≤ℤ o
-above_zero runs canonical o e =
-    let at = Any-from_list_any (is_within o) runs e in
-    let run : ℤ × ℤ = get_or runs at.0 at.1 in
-    let is : IsRun run = canonical.are_runs at.0 at.1 at.2 in
-    let within : is_within o run ≡ true = ap (is_within o) at.3 ∙ at.4 in
-    let bounds = run_bounds o run within in
-    let a = is.0 in
-    let b = bounds.0 in
-    omega (arith, ints)
-
-pub nothing_yet : (ranges : Runs) (bytes : List ℕ) → IsCanonical ranges → HasContent ranges [] bytes bytes
-nothing_yet ranges bytes canonical = record {
+pub nothing_yet : (ranges : Runs) (bytes : List ℕ) → HasKept ranges [] bytes bytes
+nothing_yet ranges bytes = record {
   encoded = refl;
-  content = record {
-    in_range = (omega (arith, ints), omega (arith, ints));
-    canonical = canonical;
-    above = above_zero ranges canonical;
-    disjoint = tt;
-    keepable = tt;
-    inside = λ base o b e. absurd cc;
-  };
   list = record { disjoint = tt; in_range = tt; writable = tt };
+  keepable = tt;
+  seen = tt;
 }
 
-pub one_batch : (ranges : Runs) (batches : Batches) (bytes rest : List ℕ) (b : BatchValue) (more : List ℕ) → HasContent ranges batches bytes rest → IsNext (end_of_batches batches) b rest → CoversAll ranges (first_offset b) (last_offset b)
-    → rest ≡ batch_encoding b ++ more → HasContent ranges (batches ++ b ∷ []) bytes more
+pub one_batch : (ranges : Runs) (batches : Batches) (bytes rest : List ℕ) (b : BatchValue) (more : List ℕ) → HasKept ranges batches bytes rest → IsNext (end_of_batches batches) b rest → CoversAll ranges (first_offset b) (last_offset b)
+    → rest ≡ batch_encoding b ++ more → HasKept ranges (batches ++ b ∷ []) bytes more
 one_batch ranges batches bytes rest b more has next all is = record {
   encoded =
       has.encoded ∙ ap (λ (x : List ℕ). flat_map batch_encoding batches ++ x) is
       ∙ sym (append_assoc (flat_map batch_encoding batches) (batch_encoding b) more)
       ∙ ap (λ (x : List ℕ). x ++ more) (sym (flat_map-append batch_encoding batches (b ∷ []) ∙ ap (λ (x : List ℕ). flat_map batch_encoding batches ++ x) (append-nil (batch_encoding b))));
-  content = record {
-    in_range = has.content.in_range;
-    canonical = has.content.canonical;
-    above = has.content.above;
-    disjoint = spans_more (pos 0) batches b has.content.disjoint next.rises;
-    keepable = all_more IsKeepable batches b has.content.keepable (next.starts.writable, next.keys);
-    inside = λ base o z e from to. seen base o z from to (look_up_more base batches b z e);
-  };
   list = record {
     disjoint = spans_more (pos 0) batches b has.list.disjoint next.rises;
     in_range = all_more IsInRange batches b has.list.in_range next.in_range;
     writable = all_more Writable batches b has.list.writable next.starts.writable;
   };
+  keepable = all_more IsKeepable batches b has.keepable (next.starts.writable, next.keys);
+  seen = all_more (λ x. CoversAll ranges (first_offset x) (last_offset x)) batches b has.seen all;
 }
-  where
-    seen : (base o : ℤ) (z : BatchValue) → base ≤ℤ o → o ≤ℤ last_offset z → (look_up first_offset base batches ≡ Some z) ⊎ ((first_offset b ≡ base) × (b ≡ z)) → covers ranges o ≡ true
-    seen base o z from to (inl old) = has.content.inside base o z old from to
-    seen base o z from to (inr new) =
-        all o (subst (λ (x : ℤ). x ≤ℤ o) (sym new.0) from) (subst (λ (x : BatchValue). o ≤ℤ last_offset x) (sym new.1) to)
 
 -- ---- how far the loop has come
 
 pub record IsJudged (ranges : Runs) (bytes : List ℕ) (index : ℕ) (from : ℤ) (rest : List ℕ) (left : Runs) : Type 0 where
   pub batches : Batches
-  pub has : HasContent ranges batches bytes rest
+  pub has : HasKept ranges batches bytes rest
   pub counted : length batches ≡ index
   pub ends : from ≡ end_of_batches batches
   pub runs : RunsFrom (pos 0) left
@@ -193,7 +147,7 @@ pub record IsJudged (ranges : Runs) (bytes : List ℕ) (index : ℕ) (from : ℤ
 pub judged_none : (ranges : Runs) (bytes : List ℕ) → IsCanonical ranges → IsJudged ranges bytes 0 (pos 0) bytes ranges
 judged_none ranges bytes canonical = record {
   batches = [];
-  has = nothing_yet ranges bytes canonical;
+  has = nothing_yet ranges bytes;
   counted = refl;
   ends = refl;
   runs = canonical_from ranges canonical;
@@ -284,4 +238,4 @@ extra ranges bytes index count from rest left j most least some = (j.batches, re
 pub all_held : (ranges : Runs) (bytes : List ℕ) (index count : ℕ) (from : ℤ) (rest : List ℕ) (left : Runs) → IsJudged ranges bytes index from rest left → index ≤ count → count ≤ index → rest ≡ []
     → HoldsBatches ranges (pos count) bytes
 all_held ranges bytes index count from rest left j most least none =
-    (j.batches, subst (HasContent ranges j.batches bytes) none j.has, all_counted (length j.batches) index count j.counted most least)
+    (j.batches, subst (HasKept ranges j.batches bytes) none j.has, all_counted (length j.batches) index count j.counted most least)

@@ -20,7 +20,8 @@ use Rattle.content.specs.Content.{Content, IsContent, IsInRange}
 use Rattle.cleaner.specs.Given.{content_of}
 use Rattle.cover_ranges.specs.Runs.{Runs}
 use Rattle.segment.specs.BatchLists.{IsBatchList, MeetsNone}
-use Rattle.copy_images.specs.Judging.{HoldsBatches, IsEncoded, IsBuilt}
+use Rattle.copy_images.specs.Judging.{AreJudged, IsEncoded, IsBuilt}
+use Rattle.copy_images.proofs.Contents.{kept_content}
 
 abbrev pub Batches : Type 0
 Batches = List BatchValue
@@ -199,14 +200,16 @@ shorter bytes old rest after h behind =
     omega (arith, long, ap length behind, ap length h.is, length-append (batch_encoding h.b) h.more)
 
 -- a copy of what was kept
-pub is_content : (ranges runs : Runs) (count : ℤ) (bytes : List ℕ) (store : Batches) → HoldsBatches ranges count bytes → runs ≡ ranges → IsEncoded store bytes → IsContent (content_of runs store)
-is_content ranges runs count bytes store holds is kept =
-    let has = holds.1 in
-    let same : holds.0 ≡ store = same_batches holds.0 store has.list.writable kept.list.writable (sym (append-nil (flat_map batch_encoding holds.0)) ∙ sym has.encoded ∙ kept.encoded) in
-    let with_store : IsContent (content_of ranges store) = subst (λ (x : Batches). IsContent (content_of ranges x)) same has.content in
-    subst (λ (x : Runs). IsContent (content_of x store)) (sym is) with_store
+pub is_content : (start : ℤ) (ranges runs : Runs) (count : ℤ) (bytes : List ℕ) (store : Batches) → AreJudged start ranges count bytes → runs ≡ ranges → IsEncoded store bytes → IsContent (content_of start runs store)
+is_content start ranges runs count bytes store judged is kept =
+    let batches : Batches = judged.batches.0 in
+    let has = judged.batches.1 in
+    let same : batches ≡ store = same_batches batches store has.list.writable kept.list.writable (sym (append-nil (flat_map batch_encoding batches)) ∙ sym has.encoded ∙ kept.encoded) in
+    let content : IsContent (content_of start ranges batches) = kept_content start ranges batches judged.start judged.cover has.list.disjoint has.keepable has.seen in
+    let with_store : IsContent (content_of start ranges store) = subst (λ (x : Batches). IsContent (content_of start ranges x)) same content in
+    subst (λ (x : Runs). IsContent (content_of start x store)) (sym is) with_store
 
-pub is_built : (ranges runs : Runs) (count : ℤ) (bytes : List ℕ) (store : Batches) (c : Content) → HoldsBatches ranges count bytes → runs ≡ ranges → IsEncoded store bytes → c ≡ content_of runs store → IsBuilt ranges bytes c
-is_built ranges runs count bytes store c holds is kept made =
-    let built : IsBuilt ranges bytes (content_of runs store) = record { content = is_content ranges runs count bytes store holds is kept; start = refl; cover = is; encoded = kept } in
-    subst (IsBuilt ranges bytes) (sym made) built
+pub is_built : (start : ℤ) (ranges runs : Runs) (count : ℤ) (bytes : List ℕ) (store : Batches) (c : Content) → AreJudged start ranges count bytes → runs ≡ ranges → IsEncoded store bytes → c ≡ content_of start runs store → IsBuilt start ranges bytes c
+is_built start ranges runs count bytes store c judged is kept made =
+    let built : IsBuilt start ranges bytes (content_of start runs store) = record { content = is_content start ranges runs count bytes store judged is kept; start = refl; cover = is; encoded = kept } in
+    subst (IsBuilt start ranges bytes) (sym made) built

@@ -1,3 +1,4 @@
+pub mod Contents
 pub mod Written
 pub mod Runs
 pub mod Parts

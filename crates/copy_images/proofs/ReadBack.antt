@@ -1,11 +1,11 @@
 -- The reader of images gives the content of which the bytes are the image, and nothing of other bytes. The front is that of
 -- the lemmas on parts; the batches are read one after the other.
-use Rattle.std.proofs.Common.{◌≡◌, ℕ, zero, suc, ◌+◌, ◌-◌, ◌*◌, ◌≤◌, ℤ, pos, negsuc, ◌+ℤ◌, Bool, true, false, cond, List, [], ◌∷◌, ◌++◌, length, take, drop, Option, Some, None, Result, Ok, Err, refl, sym, ap, subst, ◌∙◌, arith}
-use Rattle.std.specs.Prelude.{◌≤ℤ◌, ◌<ℤ◌, ◌&&◌, ◌==◌, is_some, int_le, int_lt, nat_le, unsigned_abs, FitsSigned}
+use Rattle.std.proofs.Common.{◌≡◌, ℕ, zero, suc, ◌+◌, ◌-◌, ◌*◌, ◌≤◌, ℤ, pos, negsuc, ◌+ℤ◌, Bool, true, false, cond, ◌⊎◌, inl, inr, List, [], ◌∷◌, ◌++◌, length, take, drop, Option, Some, None, Result, Ok, Err, refl, sym, ap, subst, ◌∙◌, arith}
+use Rattle.std.specs.Prelude.{◌≤ℤ◌, ◌<ℤ◌, ◌&&◌, ◌||◌, ◌==◌, is_some, int_le, int_lt, nat_le, unsigned_abs, FitsSigned}
 use Rattle.std.specs.List.{AllByRecursion, list_all, flat_map}
 use Rattle.std.specs.Option.{option_map}
 use Rattle.std.specs.Ordering.{int_eq}
-use Rattle.std.specs.Int.{w16, w32}
+use Rattle.std.specs.Int.{w32}
 use Rattle.std.specs.Simd.{first_chunks}
 use Rattle.std.proofs.lemmas.Int.{ints}
 use Rattle.std.proofs.lemmas.Bool.{eqb-true}
@@ -13,6 +13,7 @@ use Rattle.std.proofs.lemmas.List.{take_at, drop_at, take-append-drop, take-take
 use Rattle.batch_codec.specs.declared.error.BatchError.{BatchError}
 use Rattle.batch_codec.specs.Values.{BatchValue}
 use Rattle.batch_codec.specs.Grammar.{Writable, batch_encoding}
+use Rattle.checksum.specs.Crc.{crc_of}
 use Rattle.batch_codec.specs.Fields.{unsigned_at, signed_at}
 use Rattle.batch_codec.specs.Offsets.{first_offset, last_offset, HasKeys, SpansRise}
 use Rattle.batch_codec.specs.Reading.{batch_of, IsEncoding}
@@ -23,23 +24,22 @@ use Rattle.batch_codec.proofs.Batches.{framed_front}
 use Rattle.batch_codec.proofs.Accepted.{accepted}
 use Rattle.batch_codec.proofs.Encoded.{size_again, batch_again, checks_again}
 use Rattle.cover_ranges.specs.declared.TheConstants.{OFFSETS_END}
-use Rattle.cover_ranges.specs.Runs.{Runs, covers, IsCanonical, CoversAll, has_all}
+use Rattle.cover_ranges.specs.Runs.{Runs, IsCanonical, CoversAll, has_all}
 use Rattle.cover_ranges.proofs.RunEnds.{has_all_covers, covers_has_all}
-use Rattle.cover_ranges.proofs.RunsFrom.{RunsFrom, canonical_from, from_canonical}
-use Rattle.content.specs.ByOffset.{look_up}
+use Rattle.cover_ranges.proofs.RunsFrom.{RunsFrom}
 use Rattle.content.specs.Records.{IsKeepable}
 use Rattle.content.specs.Content.{Content, IsContent}
-use Rattle.content_laws.proofs.ByOffset.{all_at, look_up-offset}
 use Rattle.cleaner.specs.Given.{content_of}
-use Rattle.copy_images.specs.declared.layout.TheConstants.{MARK, VERSION_AT, VERSION, RANGE_SIZE, LEAST_SIZE, MAX_COUNT}
-use Rattle.copy_images.specs.Images.{front_of, with_crc, IsImage}
-use Rattle.copy_images.specs.Refusals.{HasCrc, range_count, HasFront}
+use Rattle.copy_images.specs.declared.layout.TheConstants.{MARK, VERSION, FIRST_VERSION, RANGE_SIZE, COUNTS_SIZE, LEAST_SIZE, MAX_COUNT}
+use Rattle.copy_images.specs.Images.{front_of, body_of, IsImage}
+use Rattle.copy_images.specs.Refusals.{HasStart, version_in, start_in, body_in, range_count, HasFront, IsCoverFrom}
 use Rattle.copy_images.specs.Judging.{ranges_of}
-use Rattle.copy_images.specs.Reading.{has_frame, are_runs, ranges_in, batch_count, batch_bytes, is_passed, may_follow, with_batch, sized_batches, batches_at, content_in, image_at}
-use Rattle.copy_images.proofs.Parts.{IsBytes, front_back, signed_fits}
+use Rattle.copy_images.specs.Reading.{has_frame, are_runs, ranges_in, batch_count, batch_bytes, is_passed, may_follow, with_batch, sized_batches, batches_at, content_in, content_in_body, image_at}
+use Rattle.copy_images.proofs.Parts.{IsBytes, IsFramed, body_back, frame_back, body_bytes, signed_fits}
 use Rattle.copy_images.proofs.PartsAgain.{IsReadAs, front_again}
-use Rattle.copy_images.proofs.Unique.{IsInside, run_of, all_inside}
-use Rattle.copy_images.proofs.FirstFaults.{image_front, from_zero}
+use Rattle.copy_images.proofs.Unique.{IsInside, all_inside}
+use Rattle.copy_images.proofs.FirstFaults.{IsFrontOf, image_front}
+use Rattle.copy_images.proofs.Contents.{cover_from, from_cover, content_cover, kept_content, rise_from_0}
 
 abbrev Batches : Type 0
 Batches = List BatchValue
@@ -186,23 +186,6 @@ module _ (ranges : Runs) where
       ∙ (λ i. step from (length bs) (checks_again b w i) (batch_again b w i) others)
       ∙ (λ i. with_batch b (next i) (batches_again (last_offset b +ℤ pos 1) bs canonical rise.1 all.1 i))
 
--- ---- the content of the batches
-
-content_read : (ranges : Runs) (n : ℕ) (bytes : List ℕ) (bs : Batches) → IsCanonical ranges → AreRead ranges (pos 0) n bytes bs → IsContent (content_of ranges bs)
-content_read ranges n bytes bs canonical read = record {
-  in_range = (omega (arith, ints), omega (arith, ints));
-  canonical = canonical;
-  above = λ o e. (run_of ranges canonical o e).0;
-  disjoint = read.rise;
-  keepable = read.keepable;
-  inside = λ base o b there from to. at base o b there from to;
-}
-  where
-    at : (base o : ℤ) (b : BatchValue) → look_up first_offset base bs ≡ Some b → base ≤ℤ o → o ≤ℤ last_offset b → covers ranges o ≡ true
-    at base o b there from to =
-        let all : CoversAll ranges (first_offset b) (last_offset b) = all_at first_offset (λ b. CoversAll ranges (first_offset b) (last_offset b)) base bs b read.seen there in
-        all o (subst (λ (z : ℤ). z ≤ℤ o) (sym (look_up-offset first_offset base bs b there)) from) to
-
 -- ---- the whole
 
 cond_some : {X : Type 0} (b : Bool) (o : Option X) (x : X) → cond b o None ≡ Some x → (b ≡ true) × (o ≡ Some x)
@@ -213,52 +196,84 @@ map_some : {X Y : Type 0} (f : X → Y) (o : Option X) (y : Y) → option_map f 
 map_some f (Some x) y e = (x, refl, cc)
 map_some f None y e = absurd cc
 
-frame_says : (bytes : List ℕ) → has_frame bytes ≡ true → HasCrc bytes
+either : (a b : Bool) → (a || b) ≡ true → (a ≡ true) ⊎ (b ≡ true)
+either true b e = inl refl
+either false b e = inr e
+
+frame_says : (bytes : List ℕ) → has_frame bytes ≡ true → HasStart bytes
 frame_says bytes e =
     let a = both (nat_le LEAST_SIZE (length bytes)) _ e in
     let b = both (unsigned_at w32 0 bytes == MARK) _ a.1 in
-    let c = both (int_eq (signed_at w16 VERSION_AT bytes) VERSION) _ b.1 in
-    (((at_most LEAST_SIZE (length bytes) a.0, eqb-true (unsigned_at w32 0 bytes) MARK b.0), same_int (signed_at w16 VERSION_AT bytes) VERSION c.0), eqb-true _ _ c.1)
+    let c = both (int_eq (version_in bytes) VERSION || int_eq (version_in bytes) FIRST_VERSION) _ b.1 in
+    let d = both (unsigned_at w32 (length bytes - 4) bytes == crc_of (take (length bytes - 4) bytes)) _ c.1 in
+    let f = both (int_le (pos 0) (start_in bytes)) (int_le (start_in bytes) OFFSETS_END) d.1 in (
+      (
+        ((at_most LEAST_SIZE (length bytes) a.0, eqb-true (unsigned_at w32 0 bytes) MARK b.0), known (either (int_eq (version_in bytes) VERSION) (int_eq (version_in bytes) FIRST_VERSION) c.0)),
+        eqb-true _ _ d.0,
+      ),
+      (below (pos 0) (start_in bytes) f.0, below (start_in bytes) OFFSETS_END f.1),
+    )
+  where
+    known : (int_eq (version_in bytes) VERSION ≡ true) ⊎ (int_eq (version_in bytes) FIRST_VERSION ≡ true) → (version_in bytes ≡ VERSION) ⊎ (version_in bytes ≡ FIRST_VERSION)
+    known (inl e) = inl (same_int (version_in bytes) VERSION e)
+    known (inr e) = inr (same_int (version_in bytes) FIRST_VERSION e)
 
-frame_said : (bytes : List ℕ) → HasCrc bytes → has_frame bytes ≡ true
+frame_said : (bytes : List ℕ) → HasStart bytes → has_frame bytes ≡ true
 frame_said bytes has =
-    true_both (nat_le LEAST_SIZE (length bytes)) _ (is_at_most LEAST_SIZE (length bytes) has.0.0.0)
-    (true_both (unsigned_at w32 0 bytes == MARK) _ (is_same (unsigned_at w32 0 bytes) MARK has.0.0.1)
-    (true_both (int_eq (signed_at w16 VERSION_AT bytes) VERSION) _ (is_same_int (signed_at w16 VERSION_AT bytes) VERSION has.0.1)
-    (is_same _ _ has.1)))
+    true_both (nat_le LEAST_SIZE (length bytes)) _ (is_at_most LEAST_SIZE (length bytes) has.0.0.0.0)
+    (true_both (unsigned_at w32 0 bytes == MARK) _ (is_same (unsigned_at w32 0 bytes) MARK has.0.0.0.1)
+    (true_both (int_eq (version_in bytes) VERSION || int_eq (version_in bytes) FIRST_VERSION) _ (known has.0.0.1)
+    (true_both (unsigned_at w32 (length bytes - 4) bytes == crc_of (take (length bytes - 4) bytes)) _ (is_same _ _ has.0.1)
+    (true_both (int_le (pos 0) (start_in bytes)) (int_le (start_in bytes) OFFSETS_END) (is_below (pos 0) (start_in bytes) has.1.0) (is_below (start_in bytes) OFFSETS_END has.1.1)))))
+  where
+    known : (version_in bytes ≡ VERSION) ⊎ (version_in bytes ≡ FIRST_VERSION) → (int_eq (version_in bytes) VERSION || int_eq (version_in bytes) FIRST_VERSION) ≡ true
+    known (inl e) = grind (arith, ints, e)
+    known (inr e) = grind (arith, ints, e)
 
 count_small : (z : ℤ) (n : ℕ) → FitsSigned w32 z → z ≡ pos n → n ≤ MAX_COUNT
 count_small z n fits is = let small : FitsSigned w32 (pos n) = subst (FitsSigned w32) is fits in omega (arith, small.sfits)
 
-module _ (bytes : List ℕ) (c : Content) (fits : IsBytes bytes) (framed : HasCrc bytes) where
-  counted_read : (n count : ℤ) → range_count bytes ≡ n → batch_count (unsigned_abs n) bytes ≡ count → content_in n count bytes ≡ Some c → IsImage bytes c
-  counted_read (pos n) (pos count) ranged counted e =
-      let ranges = ranges_in n bytes in
-      let test = cond_some (nat_le (LEAST_SIZE + RANGE_SIZE * n) (length bytes) && are_runs (pos 0) ranges) (option_map (content_of ranges) (batches_at ranges count (pos 0) (batch_bytes n bytes))) c e in
-      let parts = both (nat_le (LEAST_SIZE + RANGE_SIZE * n) (length bytes)) (are_runs (pos 0) ranges) test.0 in
-      let made = map_some (content_of ranges) (batches_at ranges count (pos 0) (batch_bytes n bytes)) c test.1 in
-      let bs : Batches = made.0 in
-      let long : 18 + 16 * n ≤ length bytes = at_most (LEAST_SIZE + RANGE_SIZE * n) (length bytes) parts.0 in
-      let canonical : IsCanonical ranges = from_canonical (pos 0) ranges (omega (arith, ints)) (runs_say (pos 0) ranges parts.1) in
-      let front : HasFront bytes ranges (pos count) (batch_bytes n bytes) = front_back bytes n (pos count) (first_chunks 16 n (take (16 * n) (drop 10 bytes))) (batch_bytes n bytes) fits framed ranged
-      (count_small (range_count bytes) n (signed_fits w32 wide32 6 bytes fits) ranged) long refl (sym counted) refl in
-      let read : AreRead ranges (pos 0) count (batch_bytes n bytes) bs = batches_read ranges count (pos 0) (batch_bytes n bytes) bs (IsBytes-take _ _ (IsBytes-drop _ bytes fits)) made.1 in
-      let number : pos (length bs) ≡ pos count = ap pos read.counted in
-      subst (IsImage bytes) made.2 (record {
-        content = content_read ranges count (batch_bytes n bytes) bs canonical read;
-        start = refl;
+module _ (bytes : List ℕ) (c : Content) (fits : IsBytes bytes) (has : HasStart bytes) where
+  abbrev body : List ℕ
+  body = body_in bytes
+
+  -- the content of so many ranges and batches in the body
+  given_read : (n count : ℕ) → range_count body ≡ pos n → batch_count n body ≡ pos count → 8 + 16 * n ≤ length body → are_runs (start_in bytes) (ranges_in n body) ≡ true
+      → (bs : Batches) → batches_at (ranges_in n body) count (pos 0) (batch_bytes n body) ≡ Some bs → IsImage bytes (content_of (start_in bytes) (ranges_in n body) bs)
+  given_read n count ranged counted long runs bs made =
+      let start = start_in bytes in
+      let ranges = ranges_in n body in
+      let here : IsBytes body = body_bytes bytes fits in
+      let cover : IsCoverFrom start ranges = cover_from start ranges has.1.0 (runs_say start ranges runs) in
+      let front : HasFront body ranges (pos count) (batch_bytes n body) = body_back body n (pos count) (first_chunks 16 n (take (16 * n) (drop 4 body))) (batch_bytes n body) here ranged
+      (count_small (range_count body) n (signed_fits w32 wide32 0 body here) ranged) long refl (sym counted) refl in
+      let read : AreRead ranges (pos 0) count (batch_bytes n body) bs = batches_read ranges count (pos 0) (batch_bytes n body) bs (IsBytes-drop _ body here) made in
+      let number : pos count ≡ pos (length bs) = ap pos (sym read.counted) in
+      let same : body ≡ body_of (content_of start ranges bs) = front.encoded ∙ (λ i. front_of ranges (number i) ++ read.encoded i) in
+      record {
+        content = kept_content start ranges bs has.1 cover read.rise read.keepable read.seen;
         ranges = front.counted;
-        batches = count_small (pos count) (length bs) front.count_fits (sym number);
-        encoded = front.encoded ∙ (λ i. with_crc (front_of ranges (sym number i) ++ read.encoded i));
-      })
+        batches = count_small (pos count) (length bs) front.count_fits number;
+        encoded = subst (λ (x : List ℕ). IsFramed start x bytes) same (frame_back bytes fits has.0);
+      }
+
+  counted_read : (n count : ℤ) → range_count body ≡ n → batch_count (unsigned_abs n) body ≡ count → content_in (start_in bytes) n count body ≡ Some c → IsImage bytes c
+  counted_read (pos n) (pos count) ranged counted e =
+      let start = start_in bytes in
+      let ranges = ranges_in n body in
+      let test = cond_some (nat_le (COUNTS_SIZE + RANGE_SIZE * n) (length body) && are_runs start ranges) (option_map (content_of start ranges) (batches_at ranges count (pos 0) (batch_bytes n body))) c e in
+      let parts = both (nat_le (COUNTS_SIZE + RANGE_SIZE * n) (length body)) (are_runs start ranges) test.0 in
+      let made = map_some (content_of start ranges) (batches_at ranges count (pos 0) (batch_bytes n body)) c test.1 in
+      subst (IsImage bytes) made.2 (given_read n count ranged counted (at_most (COUNTS_SIZE + RANGE_SIZE * n) (length body) parts.0) parts.1 made.0 made.1)
   counted_read (pos n) (negsuc count) ranged counted e = absurd cc
   counted_read (negsuc n) count ranged counted e = absurd cc
 
 pub image_read : (bytes : List ℕ) (c : Content) → IsBytes bytes → image_at bytes ≡ Some c → IsImage bytes c
 unfolding image_at
 image_read bytes c fits e =
-    let test = cond_some (has_frame bytes) (content_in (range_count bytes) (batch_count (unsigned_abs (range_count bytes)) bytes) bytes) c e in
-    counted_read bytes c fits (frame_says bytes test.0) (range_count bytes) (batch_count (unsigned_abs (range_count bytes)) bytes) refl refl test.1
+    let body = body_in bytes in
+    let test = cond_some (has_frame bytes) (content_in_body (start_in bytes) body) c e in
+    counted_read bytes c fits (frame_says bytes test.0) (range_count body) (batch_count (unsigned_abs (range_count body)) body) refl refl test.1
 
 -- ---- an image is read again
 
@@ -271,45 +286,48 @@ chunks_in_front (suc n) xs =
     let rest : drop 16 (take (16 * suc n) xs) ≡ take (16 * n) (drop 16 xs) = ap (λ (m : ℕ). drop 16 (take m xs)) split ∙ drop-take 16 (16 * n) xs in
     λ i. first i ∷ (ap (first_chunks 16 n) rest ∙ chunks_in_front n (drop 16 xs)) i
 
-module _ (bytes : List ℕ) (ranges : Runs) (bs : Batches) (read : IsReadAs bytes ranges (pos (length bs)) (flat_map batch_encoding bs)) (content : IsContent (content_of ranges bs)) where
+module _ (body : List ℕ) (start : ℤ) (ranges : Runs) (bs : Batches) (read : IsReadAs body ranges (pos (length bs)) (flat_map batch_encoding bs)) (content : IsContent (content_of start ranges bs)) where
   abbrev n : ℕ
   n = length ranges
 
-  behind : drop (16 * n) (drop 10 bytes) ≡ drop (10 + 16 * n) bytes
-  behind = drop-drop (16 * n) 10 bytes
+  behind : drop (16 * n) (drop 4 body) ≡ drop (4 + 16 * n) body
+  behind = drop-drop (16 * n) 4 body
 
-  ranges_same : ranges_in n bytes ≡ ranges
-  ranges_same = ap ranges_of (chunks_in_front n (drop 10 bytes)) ∙ sym read.ranges_are
+  ranges_same : ranges_in n body ≡ ranges
+  ranges_same = ap ranges_of (chunks_in_front n (drop 4 body)) ∙ sym read.ranges_are
 
-  count_same : batch_count n bytes ≡ pos (length bs)
+  count_same : batch_count n body ≡ pos (length bs)
   count_same = ap (signed_at w32 0) (sym behind) ∙ sym read.count_is
 
-  rest_same : batch_bytes n bytes ≡ flat_map batch_encoding bs
+  rest_same : batch_bytes n body ≡ flat_map batch_encoding bs
   rest_same =
-      let size : length bytes - 4 - (10 + 16 * n + 4) ≡ length (flat_map batch_encoding bs) = omega (arith, read.size) in
-      let from : drop 4 (drop (16 * n) (drop 10 bytes)) ≡ drop (10 + 16 * n + 4) bytes =
-      ap (drop 4) behind ∙ drop-drop 4 (10 + 16 * n) bytes in
-      (λ i. take (size i) (sym from i)) ∙ sym read.rest_is
+      let at : 8 + 16 * n ≡ 4 + 16 * n + 4 = omega arith in
+      let from : drop 4 (drop (16 * n) (drop 4 body)) ≡ drop (4 + 16 * n + 4) body =
+      ap (drop 4) behind ∙ drop-drop 4 (4 + 16 * n) body in
+      ap (λ (k : ℕ). drop k body) at ∙ sym from ∙ sym read.rest_is
 
   abbrev given : Bool → Runs → ℕ → List ℕ → Option Content
-  given long rs count rest = cond (long && are_runs (pos 0) rs) (option_map (content_of rs) (batches_at rs count (pos 0) rest)) None
+  given long rs count rest = cond (long && are_runs start rs) (option_map (content_of start rs) (batches_at rs count (pos 0) rest)) None
 
-  content_again : content_in (pos n) (pos (length bs)) bytes ≡ Some (content_of ranges bs)
+  content_again : content_in start (pos n) (pos (length bs)) body ≡ Some (content_of start ranges bs)
   content_again =
-      let long : nat_le (LEAST_SIZE + RANGE_SIZE * n) (length bytes) ≡ true = is_at_most (LEAST_SIZE + RANGE_SIZE * n) (length bytes) (omega (arith, read.size)) in
-      let runs : are_runs (pos 0) ranges ≡ true = runs_said (pos 0) ranges (canonical_from ranges content.canonical) in
+      let long : nat_le (COUNTS_SIZE + RANGE_SIZE * n) (length body) ≡ true = is_at_most (COUNTS_SIZE + RANGE_SIZE * n) (length body) (omega (arith, read.size)) in
+      let runs : are_runs start ranges ≡ true = runs_said start ranges (from_cover start ranges (content_cover start ranges bs content)) in
       (λ i. given (long i) (ranges_same i) (length bs) (rest_same i))
-      ∙ (λ i. cond (runs i) (option_map (content_of ranges) (batches_again ranges (pos 0) bs content.canonical content.disjoint (all_inside ranges bs content) i)) None)
+      ∙ (λ i. cond (runs i) (option_map (content_of start ranges) (batches_again ranges (pos 0) bs content.canonical (rise_from_0 start ranges bs content) (all_inside start ranges bs content) i)) None)
 
-  pub image_again : image_at bytes ≡ Some (content_of ranges bs)
-  unfolding image_at
-  image_again =
-      let counted : range_count bytes ≡ pos n = read.counted in
-      (λ i. cond (frame_said bytes read.crc i) (content_in (counted i) (batch_count (unsigned_abs (counted i)) bytes) bytes) None)
-      ∙ (λ i. content_in (pos n) (count_same i) bytes)
+  pub body_again : content_in_body start body ≡ Some (content_of start ranges bs)
+  body_again =
+      let counted : range_count body ≡ pos n = read.counted in
+      (λ i. content_in start (counted i) (batch_count (unsigned_abs (counted i)) body) body)
+      ∙ (λ i. content_in start (pos n) (count_same i) body)
       ∙ content_again
 
 pub image_is_read : (bytes : List ℕ) (c : Content) → IsImage bytes c → image_at bytes ≡ Some c
+unfolding image_at
 image_is_read bytes c is =
-    let same : content_of c.cover c.kept ≡ c = λ i. record { start = sym is.start i; cover = c.cover; kept = c.kept } in
-    image_again bytes c.cover c.kept (front_again bytes c.cover (pos (length c.kept)) (flat_map batch_encoding c.kept) (image_front bytes c is)) (from_zero bytes c is) ∙ ap Some same
+    let f : IsFrontOf bytes c = image_front bytes c is in
+    let body = body_in bytes in
+    let read = front_again body c.cover (pos (length c.kept)) (flat_map batch_encoding c.kept) f.front in
+    (λ i. cond (frame_said bytes f.start i) (content_in_body (f.start_is i) body) None)
+    ∙ body_again body c.start c.cover c.kept read is.content

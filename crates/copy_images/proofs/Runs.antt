@@ -5,8 +5,10 @@ use Rattle.std.proofs.lemmas.Int.{ints}
 use Rattle.std.proofs.lemmas.List.{length-map, drop_all, take_more, map-append, take-append-drop}
 use Rattle.cover_ranges.specs.declared.TheConstants.{OFFSETS_END}
 use Rattle.cover_ranges.specs.Runs.{Runs, IsRun, IsCanonical, with_range}
-use Rattle.cover_ranges.proofs.RunsFrom.{RunsFrom, canonical_from, from_canonical}
+use Rattle.cover_ranges.proofs.RunsFrom.{RunsFrom, canonical_from}
+use Rattle.copy_images.specs.Refusals.{IsCoverFrom}
 use Rattle.copy_images.specs.Judging.{range_at, ranges_of, ending_from, first_holds}
+use Rattle.copy_images.proofs.Contents.{cover_from, from_cover}
 
 abbrev pub Parts : Type 0
 Parts = List (List ℕ)
@@ -28,20 +30,20 @@ none_left (part ∷ parts) (suc i) le = none_left parts i (omega arith)
 -- ---- whether they are maximal runs
 
 -- the ranges so far pass, where those from the index on may begin at `least`
-abbrev pub Passes : Parts → ℕ → ℤ → Type 0
-Passes parts i least = RunsFrom (pos 0) (ranges_of parts) ↔ RunsFrom least (drop i (ranges_of parts))
+abbrev pub Passes : ℤ → Parts → ℕ → ℤ → Type 0
+Passes start parts i least = RunsFrom start (ranges_of parts) ↔ RunsFrom least (drop i (ranges_of parts))
 
-pub one_passes : (parts : Parts) (i : ℕ) (least : ℤ) (range : ℤ × ℤ) → i < length parts → range ≡ range_at (get_or parts i []) → least ≤ℤ range.0 → range.0 ≤ℤ range.1 → range.1 <ℤ OFFSETS_END
-    → Passes parts i least → Passes parts (i + 1) (range.1 +ℤ pos 2)
-one_passes parts i least range lt is p q r so_far =
+pub one_passes : (start : ℤ) (parts : Parts) (i : ℕ) (least : ℤ) (range : ℤ × ℤ) → i < length parts → range ≡ range_at (get_or parts i []) → least ≤ℤ range.0 → range.0 ≤ℤ range.1 → range.1 <ℤ OFFSETS_END
+    → Passes start parts i least → Passes start parts (i + 1) (range.1 +ℤ pos 2)
+one_passes start parts i least range lt is p q r so_far =
     let next = next_range parts i range lt is in
-    let at : RunsFrom (pos 0) (ranges_of parts) → RunsFrom least (range ∷ drop (i + 1) (ranges_of parts)) = λ h. subst (RunsFrom least) next (so_far.0 h) in
+    let at : RunsFrom start (ranges_of parts) → RunsFrom least (range ∷ drop (i + 1) (ranges_of parts)) = λ h. subst (RunsFrom least) next (so_far.0 h) in
     (λ h. (at h).3, λ h. so_far.1 (subst (RunsFrom least) (sym next) (p, q, r, h)))
 
-pub one_fails : (parts : Parts) (i : ℕ) (least : ℤ) (range : ℤ × ℤ) → i < length parts → range ≡ range_at (get_or parts i []) → (range.0 <ℤ least) ⊎ ((range.1 <ℤ range.0) ⊎ (OFFSETS_END ≤ℤ range.1))
-    → Passes parts i least → IsCanonical (ranges_of parts) → ⊥
-one_fails parts i least range lt is fault so_far canonical =
-    let at : RunsFrom least (range ∷ drop (i + 1) (ranges_of parts)) = subst (RunsFrom least) (next_range parts i range lt is) (so_far.0 (canonical_from (ranges_of parts) canonical)) in
+pub one_fails : (start : ℤ) (parts : Parts) (i : ℕ) (least : ℤ) (range : ℤ × ℤ) → i < length parts → range ≡ range_at (get_or parts i []) → (range.0 <ℤ least) ⊎ ((range.1 <ℤ range.0) ⊎ (OFFSETS_END ≤ℤ range.1))
+    → Passes start parts i least → IsCoverFrom start (ranges_of parts) → ⊥
+one_fails start parts i least range lt is fault so_far cover =
+    let at : RunsFrom least (range ∷ drop (i + 1) (ranges_of parts)) = subst (RunsFrom least) (next_range parts i range lt is) (so_far.0 (from_cover start (ranges_of parts) cover)) in
     let a : least ≤ℤ range.0 = at.0 in
     let b : range.0 ≤ℤ range.1 = at.1 in
     let c : range.1 <ℤ OFFSETS_END = at.2 in
@@ -52,9 +54,9 @@ one_fails parts i least range lt is fault so_far canonical =
     by (inr (inl x)) a b c = omega (arith, ints)
     by (inr (inr x)) a b c = omega (arith, ints)
 
-pub all_pass : (parts : Parts) (i : ℕ) (least : ℤ) → length parts ≤ i → Passes parts i least → IsCanonical (ranges_of parts)
-all_pass parts i least le so_far =
-    from_canonical (pos 0) (ranges_of parts) (omega (arith, ints)) (so_far.1 (subst (RunsFrom least) (sym (none_left parts i le)) tt))
+pub all_pass : (start : ℤ) (parts : Parts) (i : ℕ) (least : ℤ) → pos 0 ≤ℤ start → length parts ≤ i → Passes start parts i least → IsCoverFrom start (ranges_of parts)
+all_pass start parts i least z le so_far =
+    cover_from start (ranges_of parts) z (so_far.1 (subst (RunsFrom least) (sym (none_left parts i le)) tt))
 
 -- ---- those that end at an offset or later
 

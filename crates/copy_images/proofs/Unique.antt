@@ -1,5 +1,5 @@
 -- An image has one reading, and bytes that are none have one first fault.
-use Rattle.std.proofs.Common.{◌≡◌, ℕ, ◌*◌, ◌≤◌, ◌<◌, ◌^◌, ℤ, pos, ◌+ℤ◌, true, ◌⊎◌, inl, inr, Some, List, [], ◌∷◌, ◌++◌, length, take, drop, refl, sym, ap, subst, ◌∙◌, append_assoc, append-nil, arith}
+use Rattle.std.proofs.Common.{◌≡◌, ℕ, ◌*◌, ◌≤◌, ◌<◌, ◌^◌, ℤ, pos, ◌+ℤ◌, true, ◌⊎◌, inl, inr, Some, List, [], ◌∷◌, ◌++◌, length, drop, refl, sym, ap, subst, ◌∙◌, append_assoc, append-nil, arith}
 use Rattle.std.specs.Prelude.{◌≤ℤ◌, ◌<ℤ◌, get_or}
 use Rattle.std.specs.List.{AllByRecursion, flat_map, fold}
 use Rattle.std.specs.Int.{w32}
@@ -27,6 +27,7 @@ use Rattle.copy_images.specs.Refusals.{HasFront, IsNext, end_of_batches}
 use Rattle.copy_images.specs.Judging.{ranges_of}
 use Rattle.copy_images.proofs.PartsAgain.{IsReadAs, front_again}
 use Rattle.copy_images.proofs.Kept.{Batches}
+use Rattle.copy_images.proofs.Contents.{rise_from_0}
 
 -- ---- the front has one reading
 
@@ -38,16 +39,15 @@ pub record IsSameFront (ranges ranges' : Runs) (count count' : ℤ) (rest rest' 
 pos_same : (m n : ℕ) → pos m ≡ pos n → m ≡ n
 pos_same m n e = cc
 
-pub one_front : (bytes : List ℕ) (ranges ranges' : Runs) (count count' : ℤ) (rest rest' : List ℕ) → HasFront bytes ranges count rest → HasFront bytes ranges' count' rest' → IsSameFront ranges ranges' count count' rest rest'
-one_front bytes ranges ranges' count count' rest rest' front front' =
-    let a : IsReadAs bytes ranges count rest = front_again bytes ranges count rest front in
-    let b : IsReadAs bytes ranges' count' rest' = front_again bytes ranges' count' rest' front' in
+pub one_front : (body : List ℕ) (ranges ranges' : Runs) (count count' : ℤ) (rest rest' : List ℕ) → HasFront body ranges count rest → HasFront body ranges' count' rest' → IsSameFront ranges ranges' count count' rest rest'
+one_front body ranges ranges' count count' rest rest' front front' =
+    let a : IsReadAs body ranges count rest = front_again body ranges count rest front in
+    let b : IsReadAs body ranges' count' rest' = front_again body ranges' count' rest' front' in
     let number : length ranges ≡ length ranges' = pos_same (length ranges) (length ranges') (sym a.counted ∙ b.counted) in
-    let size : length rest ≡ length rest' = omega (arith, a.size, b.size, number) in
     record {
-      ranges_same = a.ranges_are ∙ ap (λ (n : ℕ). ranges_of (first_chunks 16 n (drop 10 bytes))) number ∙ sym b.ranges_are;
-      count_same = a.count_is ∙ ap (λ (n : ℕ). signed_at w32 0 (drop (16 * n) (drop 10 bytes))) number ∙ sym b.count_is;
-      rest_same = a.rest_is ∙ (λ i. take (size i) (drop 4 (drop (16 * number i) (drop 10 bytes)))) ∙ sym b.rest_is;
+      ranges_same = a.ranges_are ∙ ap (λ (n : ℕ). ranges_of (first_chunks 16 n (drop 4 body))) number ∙ sym b.ranges_are;
+      count_same = a.count_is ∙ ap (λ (n : ℕ). signed_at w32 0 (drop (16 * n) (drop 4 body))) number ∙ sym b.count_is;
+      rest_same = a.rest_is ∙ ap (λ (n : ℕ). drop 4 (drop (16 * n) (drop 4 body))) number ∙ sym b.rest_is;
     }
 
 -- ---- the batches of a content, one by one
@@ -70,12 +70,12 @@ run_of runs canonical o e =
     let c = is.2 in
     (omega (arith, ints, a, bounds), omega (arith, ints, c, bounds))
 
-pub all_inside : (ranges : Runs) (batches : Batches) → IsContent (content_of ranges batches) → AllByRecursion (IsInside ranges) batches
-all_inside ranges batches content = all_from_at first_offset (IsInside ranges) (pos 0) batches (bases_rise (content_of ranges batches) content) one
+pub all_inside : (start : ℤ) (ranges : Runs) (batches : Batches) → IsContent (content_of start ranges batches) → AllByRecursion (IsInside ranges) batches
+all_inside start ranges batches content = all_from_at first_offset (IsInside ranges) start batches (bases_rise (content_of start ranges batches) content) one
   where
     one : (b : BatchValue) → look_up first_offset (first_offset b) batches ≡ Some b → IsInside ranges b
     one b e =
-        let keep : IsKeepable b = kept_keepable (content_of ranges batches) (first_offset b) b content e in
+        let keep : IsKeepable b = kept_keepable (content_of start ranges batches) (first_offset b) b content e in
         let delta : pos 0 ≤ℤ b.head.last_delta = keep.0.valid.last_delta in
         let all = λ (o : ℤ) (p : first_offset b ≤ℤ o) (q : o ≤ℤ last_offset b). content.inside (first_offset b) o b e p q in
         let low = run_of ranges content.canonical (first_offset b) (all (first_offset b) (omega (arith, ints)) (omega (arith, ints, delta))) in
@@ -119,11 +119,11 @@ Ends ranges count batches rest error =
     ⊎ (((b : BatchValue) × (pos (length batches) <ℤ count) × IsNext (end_of_batches batches) b rest × ¬ CoversAll ranges (first_offset b) (last_offset b)) × (error ≡ Outside)
     ⊎ (((pos (length batches) ≡ count) × (0 < length rest)) × (error ≡ Extra) ⊎ ((pos (length batches) ≡ count) × (rest ≡ [])) × (error ≡ OutOfMemory)))
 
-pub record StopsFor (ranges : Runs) (count : ℤ) (bytes : List ℕ) (error : ImageError) : Type 0 where
+pub record StopsFor (start : ℤ) (ranges : Runs) (count : ℤ) (bytes : List ℕ) (error : ImageError) : Type 0 where
   pub batches : Batches
   pub rest : List ℕ
   pub encoded : bytes ≡ flat_map batch_encoding batches ++ rest
-  pub content : IsContent (content_of ranges batches)
+  pub content : IsContent (content_of start ranges batches)
   pub ends : Ends ranges count batches rest error
 
 -- it does not end where another batch stands next, whose span was seen
@@ -141,14 +141,14 @@ at_most ranges count batches rest error (inr (inl why)) = let e = why.0.1 in ome
 at_most ranges count batches rest error (inr (inr (inl why))) = let e = why.0.0 in omega (arith, ints)
 at_most ranges count batches rest error (inr (inr (inr why))) = let e = why.0.0 in omega (arith, ints)
 
-not_shorter : (ranges : Runs) (count : ℤ) (bytes : List ℕ) (e f : ImageError) → (s : StopsFor ranges count bytes e) → (t : StopsFor ranges count bytes f) → length s.batches < length t.batches → ⊥
-not_shorter ranges count bytes e f s t less = by g.later g.is g.left
+not_shorter : (start : ℤ) (ranges : Runs) (count : ℤ) (bytes : List ℕ) (e f : ImageError) → (s : StopsFor start ranges count bytes e) → (t : StopsFor start ranges count bytes f) → length s.batches < length t.batches → ⊥
+not_shorter start ranges count bytes e f s t less = by g.later g.is g.left
   where
     inside_s : AllByRecursion (IsInside ranges) s.batches
-    inside_s = all_inside ranges s.batches s.content
+    inside_s = all_inside start ranges s.batches s.content
 
     inside_t : AllByRecursion (IsInside ranges) t.batches
-    inside_t = all_inside ranges t.batches t.content
+    inside_t = all_inside start ranges t.batches t.content
 
     g : GoesOn s.batches t.batches s.rest t.rest
     g = goes_on s.batches t.batches s.rest t.rest (all_writable ranges s.batches inside_s) (all_writable ranges t.batches inside_t) (omega (arith, less)) (sym s.encoded ∙ t.encoded)
@@ -157,7 +157,7 @@ not_shorter ranges count bytes e f s t less = by g.later g.is g.left
     by [] is left = omega (arith, less, ap length is, length-append s.batches [])
     by (b ∷ later) is left =
         let inside : IsInside ranges b = (all_after (IsInside ranges) s.batches (b ∷ later) (subst (AllByRecursion (IsInside ranges)) is inside_t)).0 in
-        let rises : end_of_batches s.batches ≤ℤ first_offset b = rises_after (pos 0) s.batches b later (subst (SpansRise (pos 0)) is t.content.disjoint) in
+        let rises : end_of_batches s.batches ≤ℤ first_offset b = rises_after (pos 0) s.batches b later (subst (SpansRise (pos 0)) is (rise_from_0 start ranges t.batches t.content)) in
         let most = at_most ranges count t.batches t.rest f t.ends in
         let few : pos (length s.batches) <ℤ count = omega (arith, ints, less, most) in
         let next : IsNext (end_of_batches s.batches) b s.rest = record {
@@ -187,13 +187,13 @@ one_end ranges count batches rest e f (inr (inr (inr why))) (inr (inl other)) = 
 one_end ranges count batches rest e f (inr (inr (inr why))) (inr (inr (inl other))) = let a = other.0.1 in absurd (omega (arith, ap length why.0.1))
 one_end ranges count batches rest e f (inr (inr (inr why))) (inr (inr (inr other))) = why.1 ∙ sym other.1
 
-pub one_stop : (ranges : Runs) (count : ℤ) (bytes : List ℕ) (e f : ImageError) → StopsFor ranges count bytes e → StopsFor ranges count bytes f → e ≡ f
-one_stop ranges count bytes e f s t =
+pub one_stop : (start : ℤ) (ranges : Runs) (count : ℤ) (bytes : List ℕ) (e f : ImageError) → StopsFor start ranges count bytes e → StopsFor start ranges count bytes f → e ≡ f
+one_stop start ranges count bytes e f s t =
     elim (cases_lt (length s.batches) (length t.batches)) [
-      | inl less ↦ absurd (not_shorter ranges count bytes e f s t less)
+      | inl less ↦ absurd (not_shorter start ranges count bytes e f s t less)
       | inr le ↦ (elim (cases_lt (length t.batches) (length s.batches)) [
-        | inl less ↦ absurd (not_shorter ranges count bytes f e t s less)
-        | inr ge ↦ by (omega (arith, le, ge)) (goes_on s.batches t.batches s.rest t.rest (all_writable ranges s.batches (all_inside ranges s.batches s.content)) (all_writable ranges t.batches (all_inside ranges t.batches t.content)) ge (sym s.encoded ∙ t.encoded))
+        | inl less ↦ absurd (not_shorter start ranges count bytes f e t s less)
+        | inr ge ↦ by (omega (arith, le, ge)) (goes_on s.batches t.batches s.rest t.rest (all_writable ranges s.batches (all_inside start ranges s.batches s.content)) (all_writable ranges t.batches (all_inside start ranges t.batches t.content)) ge (sym s.encoded ∙ t.encoded))
       ])
     ]
   where

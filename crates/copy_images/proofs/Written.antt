@@ -11,7 +11,7 @@ use Rattle.batch_codec.specs.Grammar.{fields, signed, batch_encoding}
 use Rattle.cover_ranges.specs.Runs.{Runs}
 use Rattle.content.specs.Content.{Content}
 use Rattle.copy_images.specs.declared.layout.TheConstants.{MARK, VERSION, MAX_COUNT}
-use Rattle.copy_images.specs.Images.{range_encoding, front_of, with_crc, image_of}
+use Rattle.copy_images.specs.Images.{head_of, range_encoding, front_of, with_crc, image_of}
 
 -- one more of the elements that are written one after the other
 pub next_written : {X : Type 0} (enc : X → List ℕ) (old out new : List ℕ) (i : ℕ) (xs : List X) (x : X) → i < length xs → out ≡ old ++ flat_map enc (take i xs)
@@ -49,40 +49,42 @@ range_put (Ok x) old mid new first last range f g one two m n =
     let b : last ≡ to_be_bytes w64 (cast_unsigned w64 range.1) = two ∙ ap (λ (z : ℤ). to_be_bytes w64 (cast_unsigned w64 z)) (to_z-of_z w64 range.1 g) in
     n ∙ ap (λ (y : List ℕ). y ++ last) m ∙ append_assoc old first last ∙ (λ i. old ++ (a i ++ (b ∙ sym (append-nil (to_be_bytes w64 (cast_unsigned w64 range.1)))) i))
 
--- the fields before the ranges, as code writes them
-pub head_put : {T E : Type 0} (r : Result T E) (old a b new mark version number : List ℕ) (count : ℤ) → FitsSigned w32 count
-    → mark ≡ fields ((w32, MARK) ∷ []) → version ≡ fields (signed w16 VERSION ∷ []) → number ≡ fields (signed w32 (cast_signed w32 (cast_unsigned w32 count)) ∷ [])
-    → a ≡ old ++ mark → b ≡ a ++ version → new ≡ (if is_ok r then b ++ number else b) → OnOk r (new ≡ old ++ fields ((w32, MARK) ∷ signed w16 VERSION ∷ signed w32 count ∷ []))
-head_put (Err e) old a b new mark version number count f one two three p q n = tt
-head_put (Ok x) old a b new mark version number count f one two three p q n =
-    let same = to_z-of_z w32 count f in
+-- the head, as code writes it
+pub head_put : {T E : Type 0} (r : Result T E) (old a b new mark version number : List ℕ) (start : ℤ) → FitsSigned w64 start
+    → mark ≡ fields ((w32, MARK) ∷ []) → version ≡ fields (signed w16 VERSION ∷ []) → number ≡ fields (signed w64 (cast_signed w64 (cast_unsigned w64 start)) ∷ [])
+    → a ≡ old ++ mark → b ≡ a ++ version → new ≡ (if is_ok r then b ++ number else b) → OnOk r (new ≡ old ++ head_of start)
+unfolding head_of
+head_put (Err e) old a b new mark version number start f one two three p q n = tt
+head_put (Ok x) old a b new mark version number start f one two three p q n =
+    let same = to_z-of_z w64 start f in
     n ∙ ap (λ (y : List ℕ). y ++ number) (q ∙ ap (λ (y : List ℕ). y ++ version) p) ∙ append_assoc (old ++ mark) version number ∙ append_assoc old mark (version ++ number)
-    ∙ (λ i. old ++ (one i ++ (two i ++ (three ∙ ap (λ (z : ℤ). fields (signed w32 z ∷ [])) same) i)))
+    ∙ (λ i. old ++ (one i ++ (two i ++ (three ∙ ap (λ (z : ℤ). fields (signed w64 z ∷ [])) same) i)))
 
--- what comes before the batches, as code writes it
-pub front_put : {T E : Type 0} (r : Result T E) (old a b new number : List ℕ) (ranges : Runs) (range_count batch_count : ℤ) → FitsSigned w32 range_count → FitsSigned w32 batch_count → range_count ≡ pos (length ranges)
-    → a ≡ old ++ fields ((w32, MARK) ∷ signed w16 VERSION ∷ signed w32 (cast_signed w32 (cast_unsigned w32 range_count)) ∷ []) → b ≡ a ++ flat_map range_encoding ranges
-    → number ≡ fields (signed w32 (cast_signed w32 (cast_unsigned w32 batch_count)) ∷ []) → new ≡ (if is_ok r then b ++ number else b) → OnOk r (new ≡ old ++ front_of ranges batch_count)
+-- what comes between the head and the batches, as code writes it
+pub front_put : {T E : Type 0} (r : Result T E) (old a b new first last : List ℕ) (ranges : Runs) (range_count batch_count : ℤ) → FitsSigned w32 range_count → FitsSigned w32 batch_count → range_count ≡ pos (length ranges)
+    → first ≡ fields (signed w32 (cast_signed w32 (cast_unsigned w32 range_count)) ∷ []) → a ≡ old ++ first → b ≡ a ++ flat_map range_encoding ranges
+    → last ≡ fields (signed w32 (cast_signed w32 (cast_unsigned w32 batch_count)) ∷ []) → new ≡ (if is_ok r then b ++ last else b) → OnOk r (new ≡ old ++ front_of ranges batch_count)
 unfolding front_of
-front_put (Err e) old a b new number ranges range_count batch_count f g is p q three n = tt
-front_put (Ok x) old a b new number ranges range_count batch_count f g is p q three n =
+front_put (Err e) old a b new first last ranges range_count batch_count f g is one p q two n = tt
+front_put (Ok x) old a b new first last ranges range_count batch_count f g is one p q two n =
     let middle = flat_map range_encoding ranges in
-    let head : ℤ → List ℕ = λ z. fields ((w32, MARK) ∷ signed w16 VERSION ∷ signed w32 z ∷ []) in
-    let counted : cast_signed w32 (cast_unsigned w32 range_count) ≡ pos (length ranges) = to_z-of_z w32 range_count f ∙ is in
-    let last : number ≡ fields (signed w32 batch_count ∷ []) = three ∙ ap (λ (z : ℤ). fields (signed w32 z ∷ [])) (to_z-of_z w32 batch_count g) in
-    let front : a ≡ old ++ head (pos (length ranges)) = p ∙ ap (λ (z : ℤ). old ++ head z) counted in
-    n ∙ ap (λ (y : List ℕ). y ++ number) (q ∙ ap (λ (y : List ℕ). y ++ middle) front)
-    ∙ append_assoc (old ++ head (pos (length ranges))) middle number ∙ append_assoc old (head (pos (length ranges))) (middle ++ number)
-    ∙ ap (λ (y : List ℕ). old ++ (head (pos (length ranges)) ++ (middle ++ y))) last
+    let number : ℤ → List ℕ = λ z. fields (signed w32 z ∷ []) in
+    let counted : first ≡ number (pos (length ranges)) = one ∙ ap number (to_z-of_z w32 range_count f ∙ is) in
+    let batches : last ≡ number batch_count = two ∙ ap number (to_z-of_z w32 batch_count g) in
+    n ∙ ap (λ (y : List ℕ). y ++ last) (q ∙ ap (λ (y : List ℕ). y ++ middle) p)
+    ∙ append_assoc (old ++ first) middle last ∙ append_assoc old first (middle ++ last)
+    ∙ (λ i. old ++ (counted i ++ (middle ++ batches i)))
 
 -- an image, as code writes it
-pub image_put : {T E : Type 0} (r : Result T E) (old a b new : List ℕ) (c : Content) (ranges : Runs) (count : ℤ) → FitsSigned w32 count → old ≡ [] → ranges ≡ c.cover → count ≡ pos (length c.kept)
-    → a ≡ old ++ front_of ranges (cast_signed w32 (cast_unsigned w32 count)) → b ≡ a ++ flat_map batch_encoding c.kept → OnOk r (new ≡ with_crc b) → OnOk r (new ≡ image_of c)
-image_put (Err e) old a b new c ranges count f none runs is p q n = tt
-image_put (Ok x) old a b new c ranges count f none runs is p q n =
+pub image_put : {T E : Type 0} (r : Result T E) (old a b d new : List ℕ) (c : Content) (start : ℤ) (ranges : Runs) (count : ℤ) → FitsSigned w64 start → FitsSigned w32 count → old ≡ [] → start ≡ c.start → ranges ≡ c.cover → count ≡ pos (length c.kept)
+    → a ≡ old ++ head_of (cast_signed w64 (cast_unsigned w64 start)) → b ≡ a ++ front_of ranges (cast_signed w32 (cast_unsigned w32 count)) → d ≡ b ++ flat_map batch_encoding c.kept → OnOk r (new ≡ with_crc d) → OnOk r (new ≡ image_of c)
+image_put (Err e) old a b d new c start ranges count g f none starts runs is p q s n = tt
+image_put (Ok x) old a b d new c start ranges count g f none starts runs is p q s n =
     let counted : cast_signed w32 (cast_unsigned w32 count) ≡ pos (length c.kept) = to_z-of_z w32 count f ∙ is in
-    let front : a ≡ front_of c.cover (pos (length c.kept)) = p ∙ (λ i. none i ++ front_of (runs i) (counted i)) in
-    n ∙ ap with_crc (q ∙ ap (λ (y : List ℕ). y ++ flat_map batch_encoding c.kept) front)
+    let started : cast_signed w64 (cast_unsigned w64 start) ≡ c.start = to_z-of_z w64 start g ∙ starts in
+    let head : a ≡ head_of c.start = p ∙ (λ i. none i ++ head_of (started i)) in
+    let front : b ≡ head_of c.start ++ front_of c.cover (pos (length c.kept)) = q ∙ (λ i. head i ++ front_of (runs i) (counted i)) in
+    n ∙ ap with_crc (s ∙ ap (λ (y : List ℕ). y ++ flat_map batch_encoding c.kept) front ∙ append_assoc (head_of c.start) (front_of c.cover (pos (length c.kept))) (flat_map batch_encoding c.kept))
 
 -- a count as code passes it on
 pub count_passed : (field : ℤ) (n m : ℕ) → field ≡ pos n → n ≤ MAX_COUNT → n ≡ m → cast_signed w32 (cast_unsigned w32 field) ≡ pos m

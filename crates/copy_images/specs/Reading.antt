@@ -1,10 +1,10 @@
 -- The copy that bytes are the image of, found by reading them from left to right; replies are defined by it. The law
 -- `reading_is_exact` says that it gives the content of which the bytes are the image, and else nothing.
-use Rattle.std.specs.Prelude.{ℕ, zero, suc, ◌<◌, slice_index, ◌+◌, ◌-◌, ◌*◌, ◌==◌, ℤ, pos, ◌+ℤ◌, Bool, true, false, ◌&&◌, is_some, int_le, int_lt, nat_le, unsigned_abs, List, [], ◌∷◌, length, take, drop, Option, Some, None, Result, Ok, Err, if◌then◌else◌}
+use Rattle.std.specs.Prelude.{ℕ, zero, suc, ◌<◌, slice_index, ◌+◌, ◌-◌, ◌*◌, ◌==◌, ℤ, pos, ◌+ℤ◌, Bool, true, false, ◌&&◌, ◌||◌, is_some, int_le, int_lt, nat_le, unsigned_abs, List, [], ◌∷◌, length, take, drop, Option, Some, None, Result, Ok, Err, if◌then◌else◌}
 use Rattle.std.specs.List.{list_all}
 use Rattle.std.specs.Option.{option_map}
 use Rattle.std.specs.Ordering.{int_eq}
-use Rattle.std.specs.Int.{w16, w32}
+use Rattle.std.specs.Int.{w32}
 use Rattle.std.specs.Simd.{first_chunks}
 use Rattle.checksum.specs.Crc.{crc_of}
 use Rattle.batch_codec.specs.declared.error.BatchError.{BatchError}
@@ -17,8 +17,8 @@ use Rattle.cover_ranges.specs.Runs.{Runs, has_all}
 use Rattle.cover_ranges.specs.declared.TheConstants.{OFFSETS_END}
 use Rattle.content.specs.Content.{Content}
 use Rattle.cleaner.specs.Given.{content_of}
-use Rattle.copy_images.specs.declared.layout.TheConstants.{MARK, VERSION_AT, VERSION, RANGES_AT, RANGE_SIZE, COUNT_SIZE, CRC_SIZE, LEAST_SIZE}
-use Rattle.copy_images.specs.Refusals.{range_count}
+use Rattle.copy_images.specs.declared.layout.TheConstants.{MARK, VERSION, FIRST_VERSION, RANGE_SIZE, COUNT_SIZE, COUNTS_SIZE, CRC_SIZE, LEAST_SIZE}
+use Rattle.copy_images.specs.Refusals.{version_in, start_in, body_in, range_count}
 use Rattle.copy_images.specs.Judging.{ranges_of}
 
 -- each number is a byte's
@@ -27,14 +27,15 @@ IsBytes bytes = (i : ℕ) → slice_index bytes i < 256
 
 -- ---- the front
 
--- the size, the mark, the version and the crc are those of an image
+-- the size, the mark, the version, the crc and the log start are those of an image
 abbrev pub has_frame : List ℕ → Bool
 has_frame bytes =
     let end = length bytes - CRC_SIZE in
     nat_le LEAST_SIZE (length bytes)
     && (unsigned_at w32 0 bytes == MARK
-    && (int_eq (signed_at w16 VERSION_AT bytes) VERSION
-    && unsigned_at w32 end bytes == crc_of (take end bytes)))
+    && ((int_eq (version_in bytes) VERSION || int_eq (version_in bytes) FIRST_VERSION)
+    && (unsigned_at w32 end bytes == crc_of (take end bytes)
+    && (int_le (pos 0) (start_in bytes) && int_le (start_in bytes) OFFSETS_END))))
 
 -- maximal runs, the first of which starts at `low` or later
 abbrev pub are_runs : (low : ℤ) → Runs → Bool
@@ -43,18 +44,16 @@ are_runs low (run ∷ runs) =
     int_le low run.0 && (int_le run.0 run.1 && (int_lt run.1 OFFSETS_END && are_runs (run.1 +ℤ pos 2) runs))
 
 -- so many ranges
-abbrev pub ranges_in : ℕ → List ℕ → Runs
-ranges_in n bytes = ranges_of (first_chunks RANGE_SIZE n (take (RANGE_SIZE * n) (drop RANGES_AT bytes)))
+abbrev pub ranges_in : ℕ → (body : List ℕ) → Runs
+ranges_in n body = ranges_of (first_chunks RANGE_SIZE n (take (RANGE_SIZE * n) (drop COUNT_SIZE body)))
 
 -- the count of the batches, behind so many ranges
-abbrev pub batch_count : ℕ → List ℕ → ℤ
-batch_count n bytes = signed_at w32 (RANGES_AT + RANGE_SIZE * n) bytes
+abbrev pub batch_count : ℕ → (body : List ℕ) → ℤ
+batch_count n body = signed_at w32 (COUNT_SIZE + RANGE_SIZE * n) body
 
--- what lies between that count and the crc
-abbrev pub batch_bytes : ℕ → List ℕ → List ℕ
-batch_bytes n bytes =
-    let start = RANGES_AT + RANGE_SIZE * n + COUNT_SIZE in
-    take (length bytes - CRC_SIZE - start) (drop start bytes)
+-- what lies behind that count
+abbrev pub batch_bytes : ℕ → (body : List ℕ) → List ℕ
+batch_bytes n body = drop (COUNTS_SIZE + RANGE_SIZE * n) body
 
 -- ---- the batches
 
@@ -89,15 +88,18 @@ batches_at ranges (suc n) from bytes = sized_batches ranges from bytes (size_at 
 
 -- ---- the whole
 
--- the content of bytes with so many ranges and batches
-abbrev pub content_in : (n count : ℤ) → List ℕ → Option Content
-content_in (pos n) (pos count) bytes =
-    let ranges = ranges_in n bytes in
-    if nat_le (LEAST_SIZE + RANGE_SIZE * n) (length bytes) && are_runs (pos 0) ranges
-    then option_map (content_of ranges) (batches_at ranges count (pos 0) (batch_bytes n bytes))
+-- the content of a body with so many ranges and batches
+abbrev pub content_in : (start n count : ℤ) → (body : List ℕ) → Option Content
+content_in start (pos n) (pos count) body =
+    let ranges = ranges_in n body in
+    if nat_le (COUNTS_SIZE + RANGE_SIZE * n) (length body) && are_runs start ranges
+    then option_map (content_of start ranges) (batches_at ranges count (pos 0) (batch_bytes n body))
     else None
-content_in n count bytes = None
+content_in start n count body = None
+
+abbrev pub content_in_body : (start : ℤ) → (body : List ℕ) → Option Content
+content_in_body start body =
+    content_in start (range_count body) (batch_count (unsigned_abs (range_count body)) body) body
 
 unfoldable pub image_at : List ℕ → Option Content
-image_at bytes =
-    if has_frame bytes then content_in (range_count bytes) (batch_count (unsigned_abs (range_count bytes)) bytes) bytes else None
+image_at bytes = if has_frame bytes then content_in_body (start_in bytes) (body_in bytes) else None

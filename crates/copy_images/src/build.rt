@@ -3,7 +3,7 @@
 ghost use Rattle.std.specs.Prelude.{◌≡◌, ◌++◌, List, ℕ, IfOk};
 ghost use Rattle.batch_codec.specs.Values.{BatchValue};
 ghost use Rattle.batch_codec.specs.Grammar.{Writable, batch_encoding};
-ghost use Rattle.copy_images.specs.Judging.{ranges_of, IsEncoded, HoldsBatches, IsBuilt};
+ghost use Rattle.copy_images.specs.Judging.{ranges_of, IsEncoded, AreJudged, IsBuilt};
 
 use crate::front::Parts;
 use crate::ranges::build_cover;
@@ -50,11 +50,12 @@ pub(crate) fn build<S: BatchStore>(
     alloc: S::Alloc,
     parts: &Parts<'_>,
 ) -> Result<PartitionLog<S>, AllocError>
-    requires { HoldsBatches (ranges_of parts.now.ranges.now) parts.now.count
+    requires { AreJudged parts.now.start (ranges_of parts.now.ranges.now) parts.now.count
         parts.now.batches.now }
-    ensures { IfOk result (IsBuilt (ranges_of parts.now.ranges.now) parts.now.batches.now) }
+    ensures { IfOk result
+        (IsBuilt parts.now.start (ranges_of parts.now.ranges.now) parts.now.batches.now) }
 {
     let cover = build_cover(alloc, parts.ranges)?;
     let batches = build_store(alloc, parts.batches)?;
-    Ok(PartitionLog::from_store(alloc, cover, batches))
+    Ok(PartitionLog::from_store(alloc, cover, parts.start, batches))
 }

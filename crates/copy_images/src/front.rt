@@ -1,21 +1,24 @@
 //! What comes before the batches of an image.
 
-ghost use Rattle.std.specs.Prelude.{IfOk, IfErr, OnOk};
-ghost use Rattle.copy_images.specs.Refusals.{HasCrc, HasFront, Refuses};
+ghost use Rattle.std.specs.Prelude.{◌≡◌, IsTrue, IfOk, IfErr, OnOk, ◌↔◌};
+ghost use Rattle.copy_images.specs.Refusals.{HasSize, HasCrc, IsLogStart, HasStart, has_start, start_in, body_in, HasFront, Refuses};
 ghost use Rattle.copy_images.specs.Judging.{ranges_of};
 
 use crate::error::ImageError;
 use crate::layout::{
-    COUNT_SIZE, CRC_SIZE, LEAST_SIZE, MARK, RANGE_COUNT_AT, RANGE_SIZE, RANGES_AT, VERSION,
-    VERSION_AT,
+    BODY_AT, COUNT_SIZE, COUNTS_SIZE, CRC_SIZE, FIRST_BODY_AT, FIRST_VERSION, LEAST_SIZE, MARK,
+    RANGE_SIZE, START_AT, VERSION, VERSION_AT,
 };
 use crate::ranges::RangeBytes;
-use batch_codec::numbers::{be_i16_at, be_i32_at, be_u32_at};
+use batch_codec::numbers::{be_i16_at, be_i32_at, be_i64_at, be_u32_at};
 use checksum::crc32c;
+use cover_ranges::OFFSETS_END;
 
 /// The parts of an image, borrowed from its bytes.
 #[derive(Drop)]
 pub(crate) struct Parts<'a> {
+    /// The log start.
+    pub start: i64,
     /// The ranges, in order.
     pub ranges: &'a [RangeBytes],
     /// How many batches should follow.
@@ -35,7 +38,8 @@ pub(crate) fn check_frame(bytes: &[u8]) -> Result<(), ImageError>
     if be_u32_at(bytes, 0) != MARK {
         return Err(ImageError::BadMark);
     }
-    if be_i16_at(bytes, VERSION_AT) != VERSION {
+    let version = be_i16_at(bytes, VERSION_AT);
+    if version != VERSION && version != FIRST_VERSION {
         return Err(ImageError::BadVersion);
     }
     let end = bytes.len() - CRC_SIZE;
@@ -45,25 +49,76 @@ pub(crate) fn check_frame(bytes: &[u8]) -> Result<(), ImageError>
     Ok(())
 }
 
+/// Whether an image has a log start: in version 0 it has none.
+fn has_start(bytes: &[u8]) -> bool
+    requires { HasSize bytes.now }
+    ensures { result ≡ has_start bytes.now }
+{
+    be_i16_at(bytes, VERSION_AT) == VERSION
+}
+
+/// The log start of an image, which is 0 in version 0.
+fn start_of(bytes: &[u8]) -> i64
+    requires { HasSize bytes.now }
+    ensures { result ≡ start_in bytes.now }
+{
+    if has_start(bytes) {
+        be_i64_at(bytes, START_AT)
+    } else {
+        0
+    }
+}
+
+/// What stands between the head of an image and its crc.
+fn body_of(bytes: &[u8]) -> &[u8]
+    requires { HasSize bytes.now }
+    ensures { result.now ≡ body_in bytes.now }
+{
+    let body_at = if has_start(bytes) {
+        BODY_AT
+    } else {
+        FIRST_BODY_AT
+    };
+    &bytes[body_at..bytes.len() - CRC_SIZE]
+}
+
+/// Whether a copy may start at an offset.
+fn is_log_start(start: i64) -> bool
+    ensures { IsTrue result ↔ IsLogStart start }
+{
+    0 <= start && start <= OFFSETS_END
+}
+
 /// Cuts an image into its parts.
 pub(crate) fn parts_of(bytes: &[u8]) -> Result<Parts<'_>, ImageError>
     requires { HasCrc bytes.now }
+    ensures starts { OnOk result (HasStart bytes.now) }
+    ensures start { IfOk result (λ parts. parts.start ≡ start_in bytes.now) }
     ensures finds { IfOk result (λ parts.
-        HasFront bytes.now (ranges_of parts.ranges.now) parts.count parts.batches.now) }
+        HasFront (body_in bytes.now) (ranges_of parts.ranges.now) parts.count parts.batches.now) }
     ensures refuses { IfErr result (Refuses bytes.now) }
 {
-    let Ok(count) = usize::try_from(be_i32_at(bytes, RANGE_COUNT_AT)) else {
+    let start = start_of(bytes);
+    if !is_log_start(start) {
+        return Err(ImageError::BadCover);
+    }
+    let body = body_of(bytes);
+    if body.len() < COUNT_SIZE {
+        return Err(ImageError::Short);
+    }
+    let Ok(count) = usize::try_from(be_i32_at(body, 0)) else {
         return Err(ImageError::BadCover);
     };
     let ranges_size = RANGE_SIZE * count;
-    if bytes.len() < LEAST_SIZE + ranges_size {
+    if body.len() < COUNTS_SIZE + ranges_size {
         return Err(ImageError::Short);
     }
-    let ranges_end = RANGES_AT + ranges_size;
-    let (ranges, _) = bytes[RANGES_AT..ranges_end].as_chunks::<RANGE_SIZE>();
+    let ranges_end = COUNT_SIZE + ranges_size;
+    let (ranges, _) = body[COUNT_SIZE..ranges_end].as_chunks::<RANGE_SIZE>();
     Ok(Parts {
+        start,
         ranges,
-        count: be_i32_at(bytes, ranges_end),
-        batches: &bytes[ranges_end + COUNT_SIZE..bytes.len() - CRC_SIZE],
+        count: be_i32_at(body, ranges_end),
+        batches: &body[ranges_end + COUNT_SIZE..],
     })
 }

@@ -1,7 +1,8 @@
 //! Images of copies of a partition: a copy as bytes, to be kept in a file or sent.
 //!
 //! [`write_image`] makes the image of a copy, and [`read_image`] makes the copy of an image. Each copy
-//! has one image, and bytes that are not an image are refused for the first fault that stands in them.
+//! has one image of version 1, which is written; of a copy that starts at 0 there is one of version 0
+//! too, which is read. Bytes that are not an image are refused for the first fault that stands in them.
 //!
 //! ```
 //! let image = write_image(alloc, &copy)?;

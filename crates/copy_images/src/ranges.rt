@@ -1,7 +1,8 @@
 //! The ranges of an image, judged where they stand in its bytes.
 
-ghost use Rattle.std.specs.Prelude.{◌≡◌, IfOk, MatchBool};
+ghost use Rattle.std.specs.Prelude.{◌≡◌, ◌≤ℤ◌, pos, IfOk, MatchBool};
 ghost use Rattle.cover_ranges.specs.Runs.{IsCanonical};
+ghost use Rattle.copy_images.specs.Refusals.{IsCoverFrom};
 ghost use Rattle.copy_images.specs.Judging.{range_at, ranges_of, ending_from, first_holds};
 
 use crate::layout::RANGE_SIZE;
@@ -20,14 +21,15 @@ fn range_at(bytes: &RangeBytes) -> (i64, i64)
     (be_i64_at(bytes, 0), be_i64_at(bytes, 8))
 }
 
-/// Whether these are the maximal ranges of a set of offsets.
-pub(crate) fn is_cover(ranges: &[RangeBytes]) -> bool
+/// Whether these are the maximal ranges of a set of offsets from `start` on.
+pub(crate) fn is_cover(ranges: &[RangeBytes], start: i64) -> bool
+    requires { pos 0 ≤ℤ start }
     ensures { MatchBool result
-        (IsCanonical (ranges_of ranges.now))
-        (¬ IsCanonical (ranges_of ranges.now)) }
+        (IsCoverFrom start (ranges_of ranges.now))
+        (¬ IsCoverFrom start (ranges_of ranges.now)) }
 {
     // The least offset that the next range may begin at.
-    let mut least = 0;
+    let mut least = start;
     for bytes in ranges {
         let (first, last) = range_at(bytes);
         if first < least || last < first || last >= OFFSETS_END {

@@ -1,9 +1,9 @@
 //! A copy made of its image.
 
-ghost use Rattle.std.specs.Prelude.{IfOk, IfErr};
+ghost use Rattle.std.specs.Prelude.{◌≡◌, IfOk, IfErr, OnOk};
 ghost use Rattle.copy_images.specs.Images.{IsImage};
-ghost use Rattle.copy_images.specs.Refusals.{HasFront, Refuses};
-ghost use Rattle.copy_images.specs.Judging.{ranges_of, HoldsBatches};
+ghost use Rattle.copy_images.specs.Refusals.{HasStart, start_in, body_in, HasFront, Refuses};
+ghost use Rattle.copy_images.specs.Judging.{ranges_of, AreJudged};
 
 use crate::batches::judge_batches;
 use crate::build::build;
@@ -15,15 +15,17 @@ use segment::BatchStore;
 
 /// Judges bytes as an image, and takes no memory.
 fn judge(bytes: &[u8]) -> Result<Parts<'_>, ImageError>
+    ensures starts { OnOk result (HasStart bytes.now) }
+    ensures start { IfOk result (λ parts. parts.start ≡ start_in bytes.now) }
     ensures front { IfOk result (λ parts.
-        HasFront bytes.now (ranges_of parts.ranges.now) parts.count parts.batches.now) }
-    ensures batches { IfOk result (λ parts.
-        HoldsBatches (ranges_of parts.ranges.now) parts.count parts.batches.now) }
+        HasFront (body_in bytes.now) (ranges_of parts.ranges.now) parts.count parts.batches.now) }
+    ensures judged { IfOk result (λ parts.
+        AreJudged parts.start (ranges_of parts.ranges.now) parts.count parts.batches.now) }
     ensures refuses { IfErr result (Refuses bytes.now) }
 {
     check_frame(bytes)?;
     let parts = parts_of(bytes)?;
-    if !is_cover(parts.ranges) {
+    if !is_cover(parts.ranges, parts.start) {
         return Err(ImageError::BadCover);
     }
     let Ok(count) = u32::try_from(parts.count) else {

@@ -2,11 +2,10 @@
 
 ghost use Rattle.std.specs.Prelude.{◌≡◌, ◌↔◌, ◌++◌, ◌≤◌, ◌∷◌, [], pos, ◌+◌, ◌*◌, min, length, IfOk, OnOk, IsTrue};
 ghost use Rattle.std.specs.List.{flat_map};
-ghost use Rattle.std.specs.Int.{w16, w32};
-ghost use Rattle.batch_codec.specs.Grammar.{fields, signed, batch_encoding};
-ghost use Rattle.copy_images.specs.Images.{range_encoding, front_of, with_crc, image_of};
+ghost use Rattle.batch_codec.specs.Grammar.{batch_encoding};
+ghost use Rattle.copy_images.specs.Images.{head_of, range_encoding, front_of, with_crc, image_of};
 
-use crate::layout::{LEAST_SIZE, MARK, MAX_COUNT, RANGE_SIZE, VERSION};
+use crate::layout::{EMPTY_SIZE, MARK, MAX_COUNT, RANGE_SIZE, VERSION};
 use checksum::crc32c;
 use partition_log::PartitionLog;
 use segment::BatchStore;
@@ -22,9 +21,9 @@ fn count_field(count: usize) -> Result<i32, AllocError>
 
 /// How many bytes an image has beside its batches; where that is no `usize`, the greatest one.
 fn fixed_size(ranges: usize) -> usize
-    ensures { result ≡ min (18 + 16 * ranges) 18446744073709551615 }
+    ensures { result ≡ min (26 + 16 * ranges) 18446744073709551615 }
 {
-    LEAST_SIZE.saturating_add(ranges.saturating_mul(RANGE_SIZE))
+    EMPTY_SIZE.saturating_add(ranges.saturating_mul(RANGE_SIZE))
 }
 
 /// How many bytes the image has; where that is no `usize`, the greatest one.
@@ -38,14 +37,14 @@ fn size_of<S: BatchStore>(copy: &PartitionLog<S>) -> usize
     size
 }
 
-/// Appends what comes before the ranges.
-fn put_head<A: Allocator + Copy>(out: &mut Vec<u8, A>, range_count: i32) -> Result<(), AllocError>
-    ensures { OnOk result (out.new.items ≡ out.old.items
-        ++ fields ((w32, MARK) ∷ signed w16 VERSION ∷ signed w32 range_count ∷ [])) }
+/// Appends what an image begins with.
+#[tactic(auto, unfolding(crate::specs::Images::head_of))]
+fn put_head<A: Allocator + Copy>(out: &mut Vec<u8, A>, start: i64) -> Result<(), AllocError>
+    ensures { OnOk result (out.new.items ≡ out.old.items ++ head_of start) }
 {
     out.extend_from_slice(&MARK.to_be_bytes())?;
     out.extend_from_slice(&VERSION.to_be_bytes())?;
-    out.extend_from_slice(&range_count.to_be_bytes())
+    out.extend_from_slice(&start.to_be_bytes())
 }
 
 /// Appends a range.
@@ -97,7 +96,7 @@ fn put_crc<A: Allocator + Copy>(out: &mut Vec<u8, A>) -> Result<(), AllocError>
     out.extend_from_slice(&crc.to_be_bytes())
 }
 
-/// Appends what comes before the batches.
+/// Appends what comes between the head and the batches.
 fn put_front<A: Allocator + Copy>(
     out: &mut Vec<u8, A>,
     ranges: &[(i64, i64)],
@@ -107,7 +106,7 @@ fn put_front<A: Allocator + Copy>(
     requires { range_count ≡ pos (length ranges.now) }
     ensures { OnOk result (out.new.items ≡ out.old.items ++ front_of ranges.now batch_count) }
 {
-    put_head(out, range_count)?;
+    out.extend_from_slice(&range_count.to_be_bytes())?;
     put_ranges(out, ranges)?;
     out.extend_from_slice(&batch_count.to_be_bytes())
 }
@@ -124,6 +123,7 @@ fn put_image<A: Allocator + Copy, S: BatchStore>(
     requires batches { batch_count ≡ pos (length copy.now.kept) }
     ensures { OnOk result (out.new.items ≡ image_of copy.now) }
 {
+    put_head(out, copy.start())?;
     put_front(out, copy.cover().ranges(), range_count, batch_count)?;
     put_batches(out, copy)?;
     put_crc(out)
