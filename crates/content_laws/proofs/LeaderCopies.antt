@@ -14,11 +14,11 @@ use Rattle.batch_codec.specs.declared.head.BatchHead.{BatchHead}
 use Rattle.batch_codec.specs.Values.{BatchValue}
 use Rattle.batch_codec.specs.Offsets.{first_offset, last_offset}
 use Rattle.cover_ranges.specs.Runs.{covers, has_all, is_within}
-use Rattle.cover_ranges.proofs.RunSets.{range_covers}
+use Rattle.cover_ranges.proofs.RunSets.{range_covers, cut_covers}
 use Rattle.cover_ranges.proofs.RunEnds.{has_all_covers, covers_has_all}
 use Rattle.content.specs.ByOffset.{look_up, Rises}
 use Rattle.content.specs.Windows.{heads, is_in_window, window, heads_from, EpochsNeverFall}
-use Rattle.content.specs.Content.{Content, IsContent, has_seen_all, with_batch, HasSeenNone, add}
+use Rattle.content.specs.Content.{Content, IsContent, has_seen_all, with_batch, HasSeenNone, add, cut, IsAcceptedStart}
 use Rattle.content.specs.Cleaning.{clean}
 use Rattle.content.specs.Logs.{IsPlainLog, IsBoundary, next_offset, is_inside, heads_inside}
 use Rattle.content.specs.LegalLogs.{IsNew, IsLegalAfter, IsLeaderCopy}
@@ -27,11 +27,13 @@ use Rattle.content_laws.proofs.ByOffset.{look_up-low, look_up-filter, rises-filt
 use Rattle.content_laws.proofs.Windows.{Heads, base_of, from, filter_same, window_is}
 use Rattle.content_laws.proofs.WindowPart.{newest_part}
 use Rattle.content_laws.proofs.Epochs.{never_falls_is}
-use Rattle.content_laws.proofs.Legal.{legal_epochs, legal-push, plain_rises}
+use Rattle.content_laws.proofs.Legal.{legal_epochs, legal-push, legal_raise, plain_rises}
 use Rattle.content_laws.proofs.PlainLogs.{Batches, IsIn, log_batch, span_of, plain-rises, at_base, below_end}
-use Rattle.content_laws.proofs.ContentSteps.{content_with_batch}
+use Rattle.content_laws.proofs.ContentSteps.{content_with_batch, content_cut}
 use Rattle.content_laws.proofs.CopyAdd.{copy_with_batch}
 use Rattle.content_laws.proofs.CopyGrow.{plain_front, last_base, copy_of_longer}
+use Rattle.content_laws.proofs.CopyCut.{copy_of_cut}
+use Rattle.content_laws.proofs.CopyStarts.{accepted_boundary, accepted_in_range}
 use Rattle.content_laws.proofs.CopyClean.{kept_heads, look_up-heads, rises-heads, copy_of_clean}
 
 -- ---- entries that pass a test
@@ -143,6 +145,17 @@ leader_clean u d c log content plain leads = record {
   whole = leads.whole;
   legal = leads.legal;
 }
+
+pub leader_cut : (c : Content) (start : ℤ) (log : Batches) → IsContent c → IsPlainLog log → IsLeaderCopy c log → IsAcceptedStart c start → IsLeaderCopy (cut start c) log
+leader_cut c start log content plain leads accepted = record {
+  copy = copy_of_cut c start log content plain leads.copy (accepted_boundary c log content plain leads.copy start accepted) accepted.from_start
+      (content_cut c start content accepted.from_start (accepted_in_range c log content plain leads.copy start accepted));
+  whole = λ o. cut_covers start c.cover o ∙ ap (λ (t : Bool). t && int_le start o) (leads.whole o) ∙ later c.start start (next_offset log) o accepted.from_start;
+  legal = (leads.legal.0, legal_raise c.start start (pos 0) [] (heads log) leads.legal.0 accepted.from_start leads.legal.1);
+}
+  where
+    later : (s t e o : ℤ) → s ≤ℤ t → ((int_le s o && int_lt o e) && int_le t o) ≡ (int_le t o && int_lt o e)
+    later s t e o less = grind (arith, ints, less)
 
 end_of_longer : (log : Batches) (b : BatchValue) → next_offset (log ++ b ∷ []) ≡ last_offset b +ℤ pos 1
 end_of_longer log b = fold-append (λ _ (x : BatchValue). last_offset x +ℤ pos 1) (pos 0) log (b ∷ [])
