@@ -18,12 +18,12 @@ use Rattle.content_laws.proofs.CopyFacts.{all_or_none}
 use Rattle.cluster.specs.declared.event.Outcome.{Outcome}
 use Rattle.cluster.specs.declared.event.Outcome.TheVariants as outcome
 use Rattle.cluster.specs.declared.event.EventError.{EventError}
-use Rattle.cluster.specs.declared.event.EventError.TheVariants.{NoCopy, LeaderCopy, NoBatch, NoImage, BadBatch, Extra, Append, OutOfMemory}
+use Rattle.cluster.specs.declared.event.EventError.TheVariants.{NoCopy, LeaderCopy, NoBatch, NoImage, BadBatch, Extra, Append, Trim, OutOfMemory}
 use Rattle.cluster.specs.Worlds.{World, copy_at, with_copy}
 use Rattle.cluster.specs.Events.{IsFollower, RefusesFollower, RefusesDelivery, RefusesMerge, Delivers, Merges}
 use Rattle.cluster.specs.Parts.{DeliversTo}
 use Rattle.cluster.specs.Headline.{IsCopyOf, IsConsistent}
-use Rattle.cluster.proofs.WorldSteps.{copy_is, after_change, start_of_add}
+use Rattle.cluster.proofs.WorldSteps.{copy_is, after_change}
 
 -- ---- a delivery
 
@@ -57,7 +57,7 @@ module _ (c : Content) (b : BatchValue) (log : List BatchValue) (plain : IsPlain
   never_out_of_range not = not.2 is_log_batch.in_range
 
   pub added_copy : IsCopyOf log (add c b)
-  added_copy = (content_add c b copy.0 is_log_batch (all_or_none c log copy.0 plain copy.1 b there), copy_of_add c b log copy.0 plain copy.1 there, start_of_add c b copy.2)
+  added_copy = (content_add c b copy.0 is_log_batch (all_or_none c log copy.0 plain copy.1 b there), copy_of_add c b log copy.0 plain copy.1 there)
 
 -- a batch of a log is found by its base offset
 on_log_from : (low : ℤ) (log : List BatchValue) (i : ℕ) (b : BatchValue) → Rises first_offset low log → slice_get log i ≡ Some b → look_up first_offset (first_offset b) log ≡ Some b
@@ -113,6 +113,7 @@ module _ (w : World) (is : IsConsistent w) (copy i batch : ℕ) (c : Content) (n
   was_delivered b after (Ok (outcome.Cleaned x)) does = absurd does
   was_delivered b after (Ok (outcome.Sent x)) does = absurd does
   was_delivered b after (Ok outcome.Merged) does = absurd does
+  was_delivered b after (Ok outcome.Trimmed) does = absurd does
   was_delivered b after (Err NoCopy) does = absurd does
   was_delivered b after (Err LeaderCopy) does = absurd does
   was_delivered b after (Err NoBatch) does = absurd does
@@ -120,6 +121,7 @@ module _ (w : World) (is : IsConsistent w) (copy i batch : ℕ) (c : Content) (n
   was_delivered b after (Err (BadBatch x)) does = absurd does
   was_delivered b after (Err Extra) does = absurd does
   was_delivered b after (Err (Append x)) does = absurd does
+  was_delivered b after (Err (Trim x)) does = absurd does
 
   pub delivered_consistent : (b : BatchValue) (after : Content) (r : Result Outcome EventError) → slice_get w.log batch ≡ Some b → DeliversTo c b after r → IsConsistent (changed after)
   delivered_consistent b after r at does = by (was_delivered b after r does)
@@ -172,6 +174,7 @@ refuses_delivery w copy batch NoImage refuses = absurd refuses
 refuses_delivery w copy batch (BadBatch x) refuses = absurd refuses
 refuses_delivery w copy batch Extra refuses = absurd refuses
 refuses_delivery w copy batch (Append x) refuses = absurd refuses
+refuses_delivery w copy batch (Trim x) refuses = absurd refuses
 refuses_delivery w copy batch OutOfMemory refuses = absurd refuses
 
 refuses_merge : (w : World) (copy image : ℕ) (e : EventError) → RefusesFollower w copy e → RefusesMerge w copy image e
@@ -182,6 +185,7 @@ refuses_merge w copy image NoImage refuses = absurd refuses
 refuses_merge w copy image (BadBatch x) refuses = absurd refuses
 refuses_merge w copy image Extra refuses = absurd refuses
 refuses_merge w copy image (Append x) refuses = absurd refuses
+refuses_merge w copy image (Trim x) refuses = absurd refuses
 refuses_merge w copy image OutOfMemory refuses = absurd refuses
 
 pub no_delivery : (w : World) (copy batch : ℕ) (r : Result Outcome EventError) (e : EventError) → IsErrAnd r (λ x. x ≡ e) → RefusesFollower w copy e → Delivers w copy batch w r

@@ -1,5 +1,5 @@
 -- What sending and merging an image make of the world.
-use Rattle.std.proofs.Common.{◌≡◌, ℕ, zero, suc, ◌+◌, ◌<◌, ◌≤◌, pos, inl, inr, ◌⊎◌, Result, Ok, Err, List, [], ◌∷◌, ◌++◌, length, get_or, set, Some, None, refl, sym, ap, subst, ◌∙◌, arith}
+use Rattle.std.proofs.Common.{◌≡◌, ℕ, zero, suc, ◌+◌, ◌<◌, ◌≤◌, inl, inr, ◌⊎◌, Result, Ok, Err, List, [], ◌∷◌, ◌++◌, length, get_or, set, Some, None, refl, sym, ap, subst, ◌∙◌, arith}
 use Rattle.std.specs.Prelude.{slice_get, replicate}
 use Rattle.std.specs.List.{AllByRecursion}
 use Rattle.std.proofs.lemmas.Int.{ints}
@@ -17,18 +17,18 @@ use Rattle.cluster.specs.Parts.{WritesImage, KeepsImage, MergesImage}
 use Rattle.cluster.specs.declared.event.Outcome.{Outcome}
 use Rattle.cluster.specs.declared.event.Outcome.TheVariants as outcome
 use Rattle.cluster.specs.declared.event.EventError.{EventError}
-use Rattle.cluster.specs.declared.event.EventError.TheVariants.{NoCopy, LeaderCopy, NoBatch, NoImage, BadBatch, Extra, Append, OutOfMemory}
+use Rattle.cluster.specs.declared.event.EventError.TheVariants.{NoCopy, LeaderCopy, NoBatch, NoImage, BadBatch, Extra, Append, Trim, OutOfMemory}
 use Rattle.cluster.proofs.EventSteps.{at_index, a_follower, is_follower, follower_copy, changed, changed_is, unchanged_is}
 use Rattle.cluster.proofs.WorldSteps.{copy_is, image_is, after_image, after_change, merged_copy, copies_merge}
 
-pub sent_image : (c : Content) → IsContent c → c.start ≡ pos 0 → length c.cover ≤ MAX_COUNT → length c.kept ≤ MAX_COUNT → IsImage (image_of c) c
-sent_image c content start few_ranges few_batches = record { content = content; start = start; ranges = few_ranges; batches = few_batches; encoded = refl }
+pub sent_image : (c : Content) → IsContent c → length c.cover ≤ MAX_COUNT → length c.kept ≤ MAX_COUNT → IsImage (image_of c) c
+sent_image c content few_ranges few_batches = record { content = content; ranges = few_ranges; batches = few_batches; encoded = inl refl }
 
 kept_steps : (w : World) → IsConsistent w → (copy : ℕ) (bytes : List ℕ) (after : List (List ℕ)) (r : Result Outcome EventError) → WritesImage w copy bytes → KeepsImage w.images bytes after r
     → IsConsistent (record w { images = after }) × Sends w copy (record w { images = after }) r
 kept_steps w is copy bytes after (Ok (outcome.Sent number)) (c, there, few_ranges, few_batches, encoded) (grows, counted) =
     let copies : IsCopyOf w.log c = copy_is w is copy c there in
-    let image : IsImage (image_of c) c = sent_image c copies.0 copies.2 few_ranges few_batches in
+    let image : IsImage (image_of c) c = sent_image c copies.0 few_ranges few_batches in
     let same : after ≡ w.images ++ image_of c ∷ [] = grows ∙ ap (λ (x : List ℕ). w.images ++ x ∷ []) encoded in (
       subst (λ (x : List (List ℕ)). IsConsistent (record w { images = x })) (sym same) (after_image w is c copies image),
       (c, there, image, ap (λ (x : List (List ℕ)). record w { images = x }) same, counted),
@@ -39,6 +39,7 @@ kept_steps w is copy bytes after (Ok (outcome.Based x y)) writes keeps = absurd 
 kept_steps w is copy bytes after (Ok (outcome.Delivered x)) writes keeps = absurd keeps
 kept_steps w is copy bytes after (Ok (outcome.Cleaned x)) writes keeps = absurd keeps
 kept_steps w is copy bytes after (Ok outcome.Merged) writes keeps = absurd keeps
+kept_steps w is copy bytes after (Ok outcome.Trimmed) writes keeps = absurd keeps
 kept_steps w is copy bytes after (Err NoCopy) writes keeps = absurd keeps
 kept_steps w is copy bytes after (Err LeaderCopy) writes keeps = absurd keeps
 kept_steps w is copy bytes after (Err NoBatch) writes keeps = absurd keeps
@@ -46,6 +47,7 @@ kept_steps w is copy bytes after (Err NoImage) writes keeps = absurd keeps
 kept_steps w is copy bytes after (Err (BadBatch x)) writes keeps = absurd keeps
 kept_steps w is copy bytes after (Err Extra) writes keeps = absurd keeps
 kept_steps w is copy bytes after (Err (Append x)) writes keeps = absurd keeps
+kept_steps w is copy bytes after (Err (Trim x)) writes keeps = absurd keeps
 
 -- the same, as code finds the images
 pub after_kept : (W w : World) (copy : ℕ) (bytes : List ℕ) (images : List (List ℕ)) (r : Result Outcome EventError) → W ≡ w → IsConsistent W → WritesImage w copy bytes → KeepsImage W.images bytes images r
@@ -61,13 +63,13 @@ new_consistent log leader followers images n no_log no_leader no_followers no_im
     subst IsConsistent (λ k. record { log = sym no_log k; leader = sym no_leader k; followers = sym no_followers k; images = sym no_images k }) (record {
       plain = tt;
       leads = record { copy = copy [] tt; whole = λ o. grind (arith, ints); legal = ([], tt) };
-      copies = ((content, copy [] tt, refl), every n);
+      copies = ((content, copy [] tt), every n);
       images = tt;
     })
   where
     every : (m : ℕ) → AllByRecursion (IsCopyOf []) (replicate m empty)
     every zero = tt
-    every (suc m) = ((content, copy [] tt, refl), every m)
+    every (suc m) = ((content, copy [] tt), every m)
 
 -- ---- a merge
 
@@ -85,6 +87,7 @@ module _ (w : World) (is : IsConsistent w) (copy i image : ℕ) (c : Content) (n
   was_merged bytes after (Ok (outcome.Cleaned x)) does = absurd does
   was_merged bytes after (Ok (outcome.Sent x)) does = absurd does
   was_merged bytes after (Ok (outcome.Delivered x)) does = absurd does
+  was_merged bytes after (Ok outcome.Trimmed) does = absurd does
   was_merged bytes after (Err NoCopy) does = absurd does
   was_merged bytes after (Err LeaderCopy) does = absurd does
   was_merged bytes after (Err NoBatch) does = absurd does
@@ -92,6 +95,7 @@ module _ (w : World) (is : IsConsistent w) (copy i image : ℕ) (c : Content) (n
   was_merged bytes after (Err (BadBatch x)) does = absurd does
   was_merged bytes after (Err Extra) does = absurd does
   was_merged bytes after (Err (Append x)) does = absurd does
+  was_merged bytes after (Err (Trim x)) does = absurd does
 
   merged_steps : (bytes : List ℕ) (after : Content) (r : Result Outcome EventError) → slice_get w.images image ≡ Some bytes → MergesImage c bytes after r
       → IsConsistent (changed w is copy i 0 c number there after) × Merges w copy image (changed w is copy i 0 c number there after) r

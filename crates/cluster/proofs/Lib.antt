@@ -6,4 +6,5 @@ pub mod EventLists
 pub mod EventSteps
 pub mod AppendSteps
 pub mod CleanSteps
+pub mod TrimSteps
 pub mod OnTheWay

@@ -1,16 +1,16 @@
 -- Each event leads from a consistent world to one, so the headline holds after each front of a list of events.
 use Rattle.std.proofs.Common.{◌≡◌, ℕ, zero, suc, ℤ, Result, Ok, Err, List, [], ◌∷◌, Some, refl, sym, subst, arith, true, false}
-use Rattle.content.specs.Content.{Content}
+use Rattle.content.specs.Content.{Content, cut, IsAcceptedStart}
 use Rattle.content.specs.Cleaning.{clean}
 use Rattle.cluster.specs.declared.event.Event.{Event}
-use Rattle.cluster.specs.declared.event.Event.TheVariants.{Produce, Deliver, Clean, Send, Merge}
+use Rattle.cluster.specs.declared.event.Event.TheVariants.{Produce, Deliver, Clean, Send, Merge, Trim}
 use Rattle.cluster.specs.declared.event.Outcome.{Outcome}
-use Rattle.cluster.specs.declared.event.Outcome.TheVariants.{Based, Delivered, Cleaned, Sent, Merged}
+use Rattle.cluster.specs.declared.event.Outcome.TheVariants.{Based, Delivered, Cleaned, Sent, Merged, Trimmed}
 use Rattle.cluster.specs.declared.event.EventError.{EventError}
 use Rattle.cluster.specs.Worlds.{World, copy_at, with_copy}
-use Rattle.cluster.specs.Events.{Produces, Delivers, Cleans, Sends, Merges, Steps, Runs}
+use Rattle.cluster.specs.Events.{Produces, Delivers, Cleans, Sends, Merges, Trims, Steps, Runs}
 use Rattle.cluster.specs.Headline.{IsConsistent, HoldsOnTheWay}
-use Rattle.cluster.proofs.WorldSteps.{copy_is, image_is, after_change, after_image, cleaned_copy, after_leader_cleaning, merged_copy}
+use Rattle.cluster.proofs.WorldSteps.{copy_is, image_is, after_change, after_image, cleaned_copy, after_leader_cleaning, trimmed_copy, after_leader_trim, merged_copy}
 use Rattle.cluster.proofs.EventSteps.{on_log, added_copy}
 use Rattle.cluster.proofs.AppendSteps.{after_new}
 use Rattle.cluster.proofs.Headlines.{headline_of}
@@ -32,6 +32,7 @@ module _ (w : World) (is : IsConsistent w) where
   produced bytes after (Ok (Cleaned x)) d = absurd d
   produced bytes after (Ok (Sent x)) d = absurd d
   produced bytes after (Ok Merged) d = absurd d
+  produced bytes after (Ok Trimmed) d = absurd d
   produced bytes after (Err e) d = same after d.1
 
   delivered : (copy batch : ℕ) (after : World) (r : Result Outcome EventError) → Delivers w copy batch after r → IsConsistent after
@@ -41,6 +42,7 @@ module _ (w : World) (is : IsConsistent w) where
   delivered copy batch after (Ok (Cleaned x)) d = absurd d
   delivered copy batch after (Ok (Sent x)) d = absurd d
   delivered copy batch after (Ok Merged) d = absurd d
+  delivered copy batch after (Ok Trimmed) d = absurd d
   delivered copy batch after (Err e) d = same after d.1
 
   cleaned_one : (copy : ℕ) (upto tomb_before : ℤ) (c : Content) → copy_at w copy ≡ Some c → IsConsistent (with_copy copy (clean upto tomb_before c) w)
@@ -53,6 +55,7 @@ module _ (w : World) (is : IsConsistent w) where
   cleaned copy upto tomb_before after (Ok (Delivered x)) d = absurd d
   cleaned copy upto tomb_before after (Ok (Sent x)) d = absurd d
   cleaned copy upto tomb_before after (Ok Merged) d = absurd d
+  cleaned copy upto tomb_before after (Ok Trimmed) d = absurd d
   cleaned copy upto tomb_before after (Err e) d = same after d.1
 
   sent : (copy : ℕ) (after : World) (r : Result Outcome EventError) → Sends w copy after r → IsConsistent after
@@ -61,6 +64,7 @@ module _ (w : World) (is : IsConsistent w) where
   sent copy after (Ok (Delivered x)) d = absurd d
   sent copy after (Ok (Cleaned x)) d = absurd d
   sent copy after (Ok Merged) d = absurd d
+  sent copy after (Ok Trimmed) d = absurd d
   sent copy after (Err e) d = same after d.1
 
   merged : (copy image : ℕ) (after : World) (r : Result Outcome EventError) → Merges w copy image after r → IsConsistent after
@@ -70,7 +74,23 @@ module _ (w : World) (is : IsConsistent w) where
   merged copy image after (Ok (Delivered x)) d = absurd d
   merged copy image after (Ok (Cleaned x)) d = absurd d
   merged copy image after (Ok (Sent x)) d = absurd d
+  merged copy image after (Ok Trimmed) d = absurd d
   merged copy image after (Err e) d = same after d.1
+
+  trimmed_one : (copy : ℕ) (start : ℤ) (c : Content) → copy_at w copy ≡ Some c → IsAcceptedStart c start → IsConsistent (with_copy copy (cut start c) w)
+  trimmed_one zero start c there accepted =
+      let here : w.leader ≡ c = some_is w.leader c there in
+      subst (λ (x : Content). IsConsistent (with_copy 0 (cut start x) w)) here (after_leader_trim w is start (subst (λ (x : Content). IsAcceptedStart x start) (sym here) accepted))
+  trimmed_one (suc i) start c there accepted = after_change w is (suc i) _ (omega arith) (trimmed_copy w is start c (copy_is w is (suc i) c there) accepted)
+
+  trimmed : (copy : ℕ) (start : ℤ) (after : World) (r : Result Outcome EventError) → Trims w copy start after r → IsConsistent after
+  trimmed copy start after (Ok Trimmed) (c, there, accepted, e) = another after _ e (trimmed_one copy start c there accepted)
+  trimmed copy start after (Ok (Based x y)) d = absurd d
+  trimmed copy start after (Ok (Delivered x)) d = absurd d
+  trimmed copy start after (Ok (Cleaned x)) d = absurd d
+  trimmed copy start after (Ok (Sent x)) d = absurd d
+  trimmed copy start after (Ok Merged) d = absurd d
+  trimmed copy start after (Err e) d = same after d.1
 
   pub stepped : {A : Type 0} (event : Event A) (after : World) (r : Result Outcome EventError) → Steps w event after r → IsConsistent after
   stepped (Produce bytes) after r does = produced bytes.items after r does
@@ -78,6 +98,7 @@ module _ (w : World) (is : IsConsistent w) where
   stepped (Clean copy upto tomb_before) after r does = cleaned copy upto tomb_before after r does
   stepped (Send copy) after r does = sent copy after r does
   stepped (Merge copy image) after r does = merged copy image after r does
+  stepped (Trim copy start) after r does = trimmed copy start after r does
 
 pub on_the_way : {A : Type 0} (w : World) (events : List (Event A)) (results : List (Result Outcome EventError)) (after : World) → IsConsistent w → Runs w events results after → HoldsOnTheWay w events results after
 on_the_way w events results after is runs zero = (w, refl, headline_of w is, runs)

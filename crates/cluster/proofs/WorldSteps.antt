@@ -1,22 +1,22 @@
 -- Each event leaves every copy and every image a copy of the log.
-use Rattle.std.proofs.Common.{◌≡◌, ℕ, zero, suc, ◌<◌, ℤ, Bool, ◌∙◌, inl, inr, List, [], ◌∷◌, ◌++◌, set, Some, subst, arith, cond, true, false, pos}
+use Rattle.std.proofs.Common.{◌≡◌, ℕ, zero, suc, ◌<◌, ℤ, inl, inr, List, [], ◌∷◌, ◌++◌, set, Some, subst, arith}
 use Rattle.std.specs.Prelude.{slice_get}
 use Rattle.std.specs.List.{AllByRecursion}
-use Rattle.std.proofs.lemmas.Int.{ints, clamps}
 use Rattle.batch_codec.specs.Values.{BatchValue}
 use Rattle.batch_codec.specs.Offsets.{first_offset}
 use Rattle.content.specs.Windows.{heads}
-use Rattle.content.specs.Content.{Content, IsContent, IsLogBatch, add, with_batch, has_seen_all}
+use Rattle.content.specs.Content.{Content, IsContent, IsLogBatch, add, cut, IsAcceptedStart}
 use Rattle.content.specs.Cleaning.{clean}
-use Rattle.content.specs.Joins.{join, Agree, greater_start}
+use Rattle.content.specs.Joins.{join, Agree}
 use Rattle.content.specs.Logs.{IsPlainLog, next_offset}
 use Rattle.content.specs.LegalLogs.{IsNew, IsLeaderCopy}
-use Rattle.content_laws.proofs.Slots.{join_start}
-use Rattle.content_laws.proofs.ContentSteps.{content_clean, content_join}
+use Rattle.content_laws.proofs.ContentSteps.{content_clean, content_cut, content_join}
 use Rattle.content_laws.proofs.CopyGrow.{copy_of_longer}
 use Rattle.content_laws.proofs.CopyClean.{copy_of_clean}
+use Rattle.content_laws.proofs.CopyCut.{copy_of_cut}
+use Rattle.content_laws.proofs.CopyStarts.{accepted_boundary, accepted_in_range}
 use Rattle.content_laws.proofs.CopyJoin.{copies_agree, copy_of_join}
-use Rattle.content_laws.proofs.LeaderCopies.{leader_append, leader_clean}
+use Rattle.content_laws.proofs.LeaderCopies.{leader_append, leader_clean, leader_cut}
 use Rattle.copy_images.specs.Images.{image_of, IsImage}
 use Rattle.cluster.specs.Worlds.{World, copy_at, with_copy, with_appended, with_image_of}
 use Rattle.cluster.specs.Headline.{IsCopyOf, IsImageOfCopy, IsConsistent, IsHeld}
@@ -46,16 +46,6 @@ module _ {X : Type 0} (P : X → Type 0) where
   pub all_imply : (Q : X → Type 0) (xs : List X) → ((x : X) → P x → Q x) → AllByRecursion P xs → AllByRecursion Q xs
   all_imply Q [] each all = tt
   all_imply Q (x ∷ xs) each all = (each x all.0, all_imply Q xs each all.1)
-
-pub start_of_add : (c : Content) (b : BatchValue) → c.start ≡ pos 0 → (add c b).start ≡ pos 0
-start_of_add c b zero_start = by (has_seen_all c b)
-  where
-    by : (t : Bool) → (cond t c (with_batch c b)).start ≡ pos 0
-    by true = zero_start
-    by false = zero_start
-
-pub start_of_join : (a b : Content) → a.start ≡ pos 0 → b.start ≡ pos 0 → (join a b).start ≡ pos 0
-start_of_join a b left right = let same : greater_start a b ≡ pos 0 = omega (arith, ints, clamps, left, right) in join_start a b ∙ same
 
 -- ---- the copies of a consistent world
 
@@ -95,7 +85,7 @@ module _ (w : World) (is : IsConsistent w) where
   }
 
   pub cleaned_copy : (upto tomb_before : ℤ) (c : Content) → IsCopyOf w.log c → IsCopyOf w.log (clean upto tomb_before c)
-  cleaned_copy upto tomb_before c copy = (content_clean upto tomb_before c copy.0, copy_of_clean upto tomb_before c w.log copy.0 is.plain copy.1, copy.2)
+  cleaned_copy upto tomb_before c copy = (content_clean upto tomb_before c copy.0, copy_of_clean upto tomb_before c w.log copy.0 is.plain copy.1)
 
   pub after_leader_cleaning : (upto tomb_before : ℤ) → IsConsistent (with_copy 0 (clean upto tomb_before w.leader) w)
   after_leader_cleaning upto tomb_before = record {
@@ -105,11 +95,25 @@ module _ (w : World) (is : IsConsistent w) where
     images = is.images;
   }
 
+  pub trimmed_copy : (start : ℤ) (c : Content) → IsCopyOf w.log c → IsAcceptedStart c start → IsCopyOf w.log (cut start c)
+  trimmed_copy start c copy accepted = (content, copy_of_cut c start w.log copy.0 is.plain copy.1 (accepted_boundary c w.log copy.0 is.plain copy.1 start accepted) accepted.from_start content)
+    where
+      content : IsContent (cut start c)
+      content = content_cut c start copy.0 accepted.from_start (accepted_in_range c w.log copy.0 is.plain copy.1 start accepted)
+
+  pub after_leader_trim : (start : ℤ) → IsAcceptedStart w.leader start → IsConsistent (with_copy 0 (cut start w.leader) w)
+  after_leader_trim start accepted = record {
+    plain = is.plain;
+    leads = leader_cut w.leader start w.log leader_copy.0 is.plain is.leads accepted;
+    copies = (trimmed_copy start w.leader leader_copy accepted, is.copies.1);
+    images = is.images;
+  }
+
   pub copies_merge : (a b : Content) → IsCopyOf w.log a → IsCopyOf w.log b → Agree a b
   copies_merge a b left right = copies_agree a b w.log left.0 right.0 is.plain left.1 right.1
 
   pub merged_copy : (a b : Content) → IsCopyOf w.log a → IsCopyOf w.log b → IsCopyOf w.log (join a b)
-  merged_copy a b left right = (content_join a b left.0 right.0, copy_of_join a b w.log left.0 right.0 is.plain left.1 right.1, start_of_join a b left.2 right.2)
+  merged_copy a b left right = (content_join a b left.0 right.0, copy_of_join a b w.log left.0 right.0 is.plain left.1 right.1)
 
   -- the leader appends a batch that is new
   pub after_append : (b : BatchValue) → IsLogBatch b → first_offset b ≡ next_offset w.log → IsContent (add w.leader b) → IsNew (heads w.log) w.leader.start b.head
@@ -117,7 +121,7 @@ module _ (w : World) (is : IsConsistent w) where
   after_append b log_batch first content new = record {
     plain = plain;
     leads = leads;
-    copies = ((content, leads.copy, start_of_add w.leader b leader_copy.2), all_imply (IsCopyOf w.log) (IsCopyOf (w.log ++ b ∷ [])) w.followers longer is.copies.1);
+    copies = ((content, leads.copy), all_imply (IsCopyOf w.log) (IsCopyOf (w.log ++ b ∷ [])) w.followers longer is.copies.1);
     images = all_imply (IsImageOfCopy w.log) (IsImageOfCopy (w.log ++ b ∷ [])) w.images (λ bytes held. (held.0, held.1, longer held.0 held.2)) is.images;
   }
     where
@@ -128,4 +132,4 @@ module _ (w : World) (is : IsConsistent w) where
       leads = leader_append w.leader b w.log leader_copy.0 plain is.leads new
 
       longer : (c : Content) → IsCopyOf w.log c → IsCopyOf (w.log ++ b ∷ []) c
-      longer c copy = (copy.0, copy_of_longer c w.log b copy.0 plain copy.1, copy.2)
+      longer c copy = (copy.0, copy_of_longer c w.log b copy.0 plain copy.1)

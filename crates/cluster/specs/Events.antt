@@ -1,6 +1,6 @@
 -- What an event does in the world of a partition's copies, and when it is refused. Kafka's design documentation,
 -- "Replication", "Log Compaction" and "Message Delivery Semantics"; images are this project's own.
-use Rattle.std.specs.Prelude.{ℕ, ◌≡◌, ◌<◌, ◌≤◌, ◌⊎◌, ◌<ℤ◌, ◌+ℤ◌, ◌↔◌, ◌^◌, ℤ, pos, true, false, Bool, List, length, Some, None, slice_get, Result, Ok, Err, [], ◌∷◌}
+use Rattle.std.specs.Prelude.{ℕ, ◌≡◌, ◌≢◌, ◌<◌, ◌≤◌, ◌⊎◌, ◌<ℤ◌, ◌+ℤ◌, ◌↔◌, ◌^◌, ℤ, pos, true, false, Bool, List, length, Some, None, slice_get, Result, Ok, Err, [], ◌∷◌}
 use Rattle.batch_codec.specs.Values.{BatchValue}
 use Rattle.batch_codec.specs.Grammar.{Writable, batch_encoding, StartsWith}
 use Rattle.batch_codec.specs.Offsets.{IsWhole, HasKeys}
@@ -10,7 +10,7 @@ use Rattle.content.specs.Verdicts.{verdict_on}
 use Rattle.content.specs.declared.verdict.Verdict.{Verdict}
 use Rattle.content.specs.declared.verdict.Verdict.TheVariants as verdict
 use Rattle.content.specs.declared.delivery.Delivered.TheVariants.{Repeat}
-use Rattle.content.specs.Content.{Content, add, has_seen_all, HasSeenNone}
+use Rattle.content.specs.Content.{Content, add, has_seen_all, HasSeenNone, cut, IsAcceptedStart}
 use Rattle.content.specs.Cleaning.{clean, clean_report}
 use Rattle.content.specs.Joins.{join}
 use Rattle.content.specs.Logs.{next_offset}
@@ -18,12 +18,15 @@ use Rattle.copy_images.specs.Images.{IsImage, image_of}
 use Rattle.partition_log.specs.Appends.{IsProducerValid, IsSendable}
 use Rattle.partition_log.specs.declared.leader.AppendError.{AppendError}
 use Rattle.partition_log.specs.declared.leader.AppendError.TheVariants as append
+use Rattle.partition_log.specs.Trims.{RefusesTrim}
+use Rattle.partition_log.specs.declared.trim.TrimError.TheVariants as trim
 use Rattle.cluster.specs.declared.event.Event.{Event}
-use Rattle.cluster.specs.declared.event.Event.TheVariants.{Produce, Deliver, Clean, Send, Merge}
+use Rattle.cluster.specs.declared.event.Event.TheVariants.{Produce, Deliver, Clean, Send, Merge, Trim}
 use Rattle.cluster.specs.declared.event.Outcome.{Outcome}
-use Rattle.cluster.specs.declared.event.Outcome.TheVariants.{Based, Delivered, Cleaned, Sent, Merged}
+use Rattle.cluster.specs.declared.event.Outcome.TheVariants.{Based, Delivered, Cleaned, Sent, Merged, Trimmed}
 use Rattle.cluster.specs.declared.event.EventError.{EventError}
 use Rattle.cluster.specs.declared.event.EventError.TheVariants.{NoCopy, LeaderCopy, NoBatch, NoImage, BadBatch, Extra, Append, OutOfMemory}
+use Rattle.cluster.specs.declared.event.EventError.TheVariants as refusal
 use Rattle.cluster.specs.declared.event.ClusterError.{ClusterError}
 use Rattle.cluster.specs.declared.event.ClusterError.TheVariants as cluster
 use Rattle.cluster.specs.declared.TheConstants.{MAX_COPIES}
@@ -134,6 +137,20 @@ Merges w copy image after (Ok Merged) =
 Merges w copy image after (Ok _) = ⊥
 Merges w copy image after (Err error) = RefusesMerge w copy image error × (after ≡ w)
 
+-- why a copy's start stays where it is: the first fault in the order of the checks. No memory is needed.
+abbrev pub RefusesStart : World → (copy : ℕ) (start : ℤ) → EventError → Type 0
+RefusesStart w copy start NoCopy = copy_at w copy ≡ None
+RefusesStart w copy start (refusal.Trim why) =
+    (c : Content) × (copy_at w copy ≡ Some c) × RefusesTrim c start why × (why ≢ trim.OutOfMemory)
+RefusesStart w copy start _ = ⊥
+
+-- the log is never cut
+abbrev pub Trims : World → (copy : ℕ) (start : ℤ) → World → Result Outcome EventError → Type 0
+Trims w copy start after (Ok Trimmed) =
+    (c : Content) × (copy_at w copy ≡ Some c) × IsAcceptedStart c start × (after ≡ with_copy copy (cut start c) w)
+Trims w copy start after (Ok _) = ⊥
+Trims w copy start after (Err error) = RefusesStart w copy start error × (after ≡ w)
+
 -- one event, whichever it is
 abbrev pub Steps : {A : Type 0} → World → Event A → World → Result Outcome EventError → Type 0
 Steps w (Produce bytes) after result = Produces w bytes.items after result
@@ -141,6 +158,7 @@ Steps w (Deliver copy batch) after result = Delivers w copy batch after result
 Steps w (Clean copy upto tomb_before) after result = Cleans w copy upto tomb_before after result
 Steps w (Send copy) after result = Sends w copy after result
 Steps w (Merge copy image) after result = Merges w copy image after result
+Steps w (Trim copy start) after result = Trims w copy start after result
 
 -- ---- lists of events
 

@@ -22,7 +22,7 @@ use Rattle.cluster.specs.Worlds.{World, copy_at}
 use Rattle.cluster.specs.Events.{Runs}
 
 abbrev pub IsCopyOf : List BatchValue → Content → Type 0
-IsCopyOf log c = IsContent c × IsCopy c log × (c.start ≡ pos 0)
+IsCopyOf log c = IsContent c × IsCopy c log
 
 -- bytes that are the image of a copy of the log
 abbrev pub IsImageOfCopy : List BatchValue → List ℕ → Type 0

@@ -12,11 +12,13 @@ use Rattle.copy_images.specs.Images.{image_of, IsImage}
 use Rattle.partition_log.specs.Appends.{IsSendable, kept_verdict, at_end, IsNew, RefusesAppend}
 use Rattle.partition_log.specs.declared.leader.AppendError.{AppendError}
 use Rattle.partition_log.specs.declared.leader.AppendError.TheVariants as append
+use Rattle.partition_log.specs.declared.trim.TrimError.{TrimError}
+use Rattle.partition_log.specs.declared.trim.TrimError.TheVariants as trim
 use Rattle.cluster.specs.Worlds.{World, copy_at}
 use Rattle.cluster.specs.declared.event.Outcome.{Outcome}
-use Rattle.cluster.specs.declared.event.Outcome.TheVariants.{Based, Delivered, Cleaned, Sent, Merged}
+use Rattle.cluster.specs.declared.event.Outcome.TheVariants.{Based, Delivered, Cleaned, Sent, Merged, Trimmed}
 use Rattle.cluster.specs.declared.event.EventError.{EventError}
-use Rattle.cluster.specs.declared.event.EventError.TheVariants.{Append, OutOfMemory}
+use Rattle.cluster.specs.declared.event.EventError.TheVariants.{Append, Trim, OutOfMemory}
 
 -- out of memory in a part of an event is out of memory for the event
 abbrev pub append_refusal : AppendError → EventError
@@ -39,6 +41,16 @@ AppendsTo c log b after longer (Err _) = ⊥
 abbrev pub clean_outcome : Result CleanReport AllocError → Result Outcome EventError
 clean_outcome (Ok report) = Ok (Cleaned report)
 clean_outcome (Err error) = Err OutOfMemory
+
+-- out of memory while a start moves is out of memory for the event
+abbrev pub trim_refusal : TrimError → EventError
+trim_refusal trim.OutOfMemory = OutOfMemory
+trim_refusal why = Trim why
+
+-- the outcome of a start that was to move
+abbrev pub trim_outcome : Result (Unit {0}) TrimError → Result Outcome EventError
+trim_outcome (Ok done) = Ok Trimmed
+trim_outcome (Err why) = Err (trim_refusal why)
 
 -- the image of a copy of the cluster, whose ranges and batches can be counted
 abbrev pub WritesImage : World → (copy : ℕ) → List ℕ → Type 0

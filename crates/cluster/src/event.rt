@@ -2,7 +2,7 @@
 
 use batch_codec::BatchError;
 use content::{CleanReport, Delivered};
-use partition_log::AppendError;
+use partition_log::{AppendError, TrimError};
 use std::alloc::{AllocError, Allocator};
 use thiserror::Error;
 
@@ -43,6 +43,13 @@ pub enum Event<A: Allocator + Copy> {
         /// The image, in the order in which they were sent.
         image: usize,
     },
+    /// A copy's start moves up: it drops what lies below.
+    Trim {
+        /// The copy.
+        copy: usize,
+        /// The log start offset that it gets; any number.
+        start: i64,
+    },
 }
 
 /// What came of an event that was not refused.
@@ -66,6 +73,8 @@ pub enum Outcome {
     },
     /// An image was merged.
     Merged,
+    /// A copy has the start that was asked.
+    Trimmed,
 }
 
 /// Why an event is refused: the first of these that applies, in the order of the variants.
@@ -92,6 +101,9 @@ pub enum EventError {
     /// The leader refuses the batch.
     #[error(transparent)]
     Append(AppendError),
+    /// The copy's start can't be the one that was asked.
+    #[error(transparent)]
+    Trim(TrimError),
     /// There is no memory for the event, or the copy that is sent has more than 2^31 - 1 ranges or batches.
     #[error("OutOfMemory")]
     OutOfMemory,

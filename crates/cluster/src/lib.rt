@@ -9,6 +9,7 @@ mod event;
 mod imaging;
 mod running;
 mod sending;
+mod trimming;
 
 pub use cluster::Cluster;
 pub use event::{ClusterError, Event, EventError, Outcome};

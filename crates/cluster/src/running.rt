@@ -24,6 +24,7 @@ impl<S: BatchStore> Cluster<S> {
             } => self.clean(*copy, *upto, *tomb_before),
             Event::Send { copy } => self.send(*copy),
             Event::Merge { copy, image } => self.merge(*copy, *image),
+            Event::Trim { copy, start } => self.trim(*copy, *start),
         }
     }
 

@@ -59,6 +59,11 @@ pub enum Line<'a> {
         copy: usize,
         image: usize,
     },
+    /// A copy's start moves up.
+    Trim {
+        copy: usize,
+        start: i64,
+    },
     /// A copy's table is printed.
     Table {
         copy: usize,
@@ -98,6 +103,12 @@ fn merge<'a>(copy: usize, words: &mut Words<'a>) -> Result<Line<'a>, BadLine> {
     Ok(Line::Merge { copy, image })
 }
 
+/// A move of a copy's start to the offset that comes next.
+fn trim<'a>(copy: usize, words: &mut Words<'a>) -> Result<Line<'a>, BadLine> {
+    let start = words.signed()?;
+    Ok(Line::Trim { copy, start })
+}
+
 /// A line of numbers, by its first word.
 fn numbers<'a>(name: &[u8], words: &mut Words<'a>) -> Result<Line<'a>, BadLine> {
     let first = words.index()?;
@@ -107,6 +118,7 @@ fn numbers<'a>(name: &[u8], words: &mut Words<'a>) -> Result<Line<'a>, BadLine> 
         b"clean" => clean(first, words),
         b"send" => Ok(Line::Send { copy: first }),
         b"merge" => merge(first, words),
+        b"trim" => trim(first, words),
         b"table" => Ok(Line::Table { copy: first }),
         b"cover" => Ok(Line::Cover { copy: first }),
         _ => Err(BadLine),

@@ -46,6 +46,7 @@ fn add_outcome<A: Allocator + Copy>(
         Outcome::Cleaned(report) => add_report(text, report),
         Outcome::Sent { image } => writeln!(text, "image {image}"),
         Outcome::Merged => writeln!(text, "merged"),
+        Outcome::Trimmed => writeln!(text, "trimmed"),
     }
 }
 

@@ -154,6 +154,7 @@ impl<S: BatchStore> Stage<S> {
             },
             Line::Send { copy } => Event::Send { copy },
             Line::Merge { copy, image } => Event::Merge { copy, image },
+            Line::Trim { copy, start } => Event::Trim { copy, start },
         };
         self.step(&event, printer)
     }

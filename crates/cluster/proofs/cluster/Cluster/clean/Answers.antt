@@ -1,12 +1,8 @@
-use Rattle.std.proofs.Common.{◌≡◌, ℕ, zero, suc, ◌≤◌, ◌+◌, refl, arith}
+use Rattle.std.proofs.Common.{◌+◌, arith}
 use Rattle.std.specs.Int.{w64}
 use Rattle.std.proofs.lemmas.Int.{to_z-of_z}
-use Rattle.cluster.proofs.CleanSteps.{clean_same}
+use Rattle.cluster.proofs.CleanSteps.{clean_same, zero_is}
 use Rattle.cluster.proofs.cluster.Cluster.clean.Goals as goal
-
-zero_is : (n : ℕ) → (1 ≤ n → ⊥) → 0 ≡ n
-zero_is zero none = refl
-zero_is (suc n) none = absurd (none (omega arith))
 
 pub returns-in-None : goal.returns-in-None
 returns-in-None g c = clean_same _ _ c.args.copy 0 c.args.upto c.args.tomb_before _ _ _ (zero_is c.args.copy c.in-None.ensures)
