@@ -46,6 +46,6 @@ trim_fits n s correlation v out after low sound number part h =
     (λ none. (
       answered no_error no_error_fits,
       sound_with s q.topic q.partition (cut q.start c) (cut_valid c q.start (content_valid s q.topic q.partition sound)
-      (passes_accepted c q.start (behind_first (unknown s q.topic q.partition) (trim_faults c q.start) (sym (none_behind (trim_work s q).early) ∙ none)))) sound,
+          (passes_accepted c q.start (behind_first (unknown s q.topic q.partition) (trim_faults c q.start) (sym (none_behind (trim_work s q).early) ∙ none)))) sound,
     ))
     h

@@ -92,7 +92,7 @@ trim_alike logs s z n q may other_may alike =
     let known : is_known s q.topic q.partition ≡ is_known z q.topic q.partition = known_same logs s z q.topic q.partition alike in
     let outside : is_outside c q.start ≡ is_outside d q.start = same_outside c d q.start (seen_same logs s z q.topic q.partition alike) in
     let faults : fault_of (is_known s q.topic q.partition) (is_outside c q.start) (is_boundary c q.start) ≡ fault_of (is_known z q.topic q.partition) (is_outside d q.start) (is_boundary d q.start) =
-        same_fault (is_known s q.topic q.partition) (is_outside c q.start) (is_boundary c q.start) (is_boundary d q.start) may (λ e. other_may (sym outside ∙ e)) ∙ (λ i. fault_of (known i) (outside i) (is_boundary d q.start)) in
+    same_fault (is_known s q.topic q.partition) (is_outside c q.start) (is_boundary c q.start) (is_boundary d q.start) may (λ e. other_may (sym outside ∙ e)) ∙ (λ i. fault_of (known i) (outside i) (is_boundary d q.start)) in
     let both = same_work logs s z (trim_work s q) (trim_work z q) alike faults (λ code. refl) (λ none. (
       refl,
       stay logs (with_content s q.topic q.partition (cut q.start c)) (with_content z q.topic q.partition (cut q.start d)) (both_cut logs s z q.topic q.partition q.start alike (accepted_in s q none) (accepted_in z q (sym faults ∙ none))),

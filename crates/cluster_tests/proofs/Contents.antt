@@ -1,16 +1,13 @@
 -- A copy's content, put together again of its parts.
-use Rattle.std.proofs.Common.{◌≡◌, ◌<◌, ◌+◌, ℕ, pos, List, [], ◌∷◌, ◌++◌, length, take, get_or, sym, ap, subst, ◌∙◌}
+use Rattle.std.proofs.Common.{◌≡◌, ◌<◌, ◌+◌, ℕ, ℤ, List, [], ◌∷◌, ◌++◌, length, take, get_or, sym, ap, subst, ◌∙◌}
 use Rattle.std.proofs.lemmas.List.{take_more}
 use Rattle.batch_codec.specs.Values.{BatchValue}
 use Rattle.cover_ranges.specs.Runs.{Runs}
 use Rattle.content.specs.Content.{Content, IsContent}
 use Rattle.cleaner.specs.Given.{content_of}
 
-pub same_content : (c : Content) (runs : Runs) (kept : List BatchValue) → runs ≡ c.cover → kept ≡ c.kept → c.start ≡ pos 0 → content_of runs kept ≡ c
-same_content c runs kept cover_is kept_is from = λ i. record { start = (sym from) i; cover = cover_is i; kept = kept_is i }
-
-pub is_content : (c : Content) (runs : Runs) (kept : List BatchValue) → runs ≡ c.cover → kept ≡ c.kept → c.start ≡ pos 0 → IsContent c → IsContent (content_of runs kept)
-is_content c runs kept cover_is kept_is from valid = subst IsContent (sym (same_content c runs kept cover_is kept_is from)) valid
+pub is_content : (c : Content) (start : ℤ) (runs : Runs) (kept : List BatchValue) → start ≡ c.start → runs ≡ c.cover → kept ≡ c.kept → IsContent c → IsContent (content_of start runs kept)
+is_content c start runs kept start_is cover_is kept_is valid = subst IsContent (λ i. record { start = sym start_is i; cover = sym cover_is i; kept = sym kept_is i }) valid
 
 -- ---- the batches, read one after another
 

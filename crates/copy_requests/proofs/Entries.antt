@@ -100,7 +100,7 @@ module _ (s : State) (q : ImportValue) where
 
 -- ---- Clean
 
-known_passes : (s : State) (name : List ℕ) (p : ℤ) → is_known s name p ≡ true → unknown s name p ≡ None
+pub known_passes : (s : State) (name : List ℕ) (p : ℤ) → is_known s name p ≡ true → unknown s name p ≡ None
 known_passes s name p known = no_fault (not (is_known s name p)) UnknownTopicOrPartition (ap not known)
 
 pub unknown_fails : (s : State) (name : List ℕ) (p : ℤ) → partition_at s name p ≡ None → unknown s name p ≡ Some UnknownTopicOrPartition

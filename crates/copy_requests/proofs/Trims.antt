@@ -1,5 +1,5 @@
 -- What the checks of a Trim find, and what becomes of the copy.
-use Rattle.std.proofs.Common.{◌≡◌, ◌≢◌, ◌⊎◌, inl, inr, ℤ, Bool, true, false, ◌||◌, not, Some, None, Option, Result, Ok, Err, refl, sym, ap, subst, ◌∙◌, true≢false, arith}
+use Rattle.std.proofs.Common.{◌≡◌, ◌≢◌, ◌⊎◌, inl, inr, ℤ, Bool, true, false, ◌||◌, not, [], ◌∷◌, ◌++◌, Some, None, Option, Result, Ok, Err, refl, sym, ap, subst, ◌∙◌, true≢false, arith}
 use Rattle.std.specs.Prelude.{◌≤ℤ◌, ◌<ℤ◌, int_lt, is_some, IsSome, IfErr, OnOk, OnErr, IsErrOf}
 use Rattle.std.specs.Ordering.{int_eq}
 use Rattle.std.proofs.lemmas.Int.{ints, by_lt_z}
@@ -12,10 +12,17 @@ use Rattle.partition_log.specs.declared.trim.TrimError.TheVariants.{BelowStart, 
 use Rattle.answering.specs.declared.codes.ErrorCode.{ErrorCode}
 use Rattle.answering.specs.declared.codes.ErrorCode.TheVariants.{OffsetOutOfRange, InvalidRequest}
 use Rattle.answering.specs.Lists.{first_some, fault_if}
-use Rattle.answering.proofs.Checks.{not_true}
+use Rattle.answering.specs.Doing.{DoesWork}
+use Rattle.answering.proofs.Checks.{not_true, none_behind, one_passes}
+use Rattle.request_frames.specs.Trim.{TrimValue}
+use Rattle.broker_state.specs.State.{State, content_at, with_content, is_known}
+use Rattle.broker_state.specs.Checks.{unknown}
+use Rattle.broker_state.specs.Changes.{ChangesAt}
+use Rattle.broker_state.proofs.OwnContent.{unchanged_at}
 use Rattle.copy_requests.specs.Codes.{trim_code}
 use Rattle.copy_requests.specs.Outcomes.{Trims}
-use Rattle.copy_requests.specs.Trim.{is_outside, is_boundary, trim_faults}
+use Rattle.copy_requests.specs.Trim.{is_outside, is_boundary, trim_faults, trimmed_answer, trim_work}
+use Rattle.copy_requests.proofs.Entries.{known_passes}
 
 -- ---- the tests
 
@@ -44,7 +51,7 @@ which_of s e o kept run test = by (int_eq o s) (int_eq o e) kept run refl refl r
 
 -- ---- the faults
 
-faults : Bool → Bool → Option ErrorCode
+abbrev faults : Bool → Bool → Option ErrorCode
 faults outside boundary = first_some (fault_if outside OffsetOutOfRange ∷ fault_if (not boundary) InvalidRequest ∷ [])
 
 no_fault : (outside boundary : Bool) → outside ≡ false → boundary ≡ true → faults outside boundary ≡ None
@@ -99,3 +106,18 @@ pub does_not_trim : (c after : Content) (start passed : ℤ) (e : TrimError) (co
     → Trims start (Err code) c after
 does_not_trim c after start passed e code same other refused stays is =
     (refused_fails c start e other (subst (λ (o : ℤ). RefusesTrim c o e) same refused) ∙ ap Some (sym is), stays)
+
+-- ---- the request
+
+-- of a known partition the first fault is the start's
+faults_are : (s : State) (q : TrimValue) → is_known s q.topic q.partition ≡ true → first_some ((trim_work s q).early ++ []) ≡ first_some (trim_faults (content_at s q.topic q.partition) q.start)
+faults_are s q known =
+    none_behind (trim_work s q).early ∙ one_passes (unknown s q.topic q.partition) (trim_faults (content_at s q.topic q.partition) q.start) (known_passes s q.topic q.partition known)
+
+pub trim_done : (s after : State) (q : TrimValue) (r : Result (Unit {0}) ErrorCode) → is_known s q.topic q.partition ≡ true → ChangesAt (Trims q.start r) s q.topic q.partition after → DoesWork (trim_work s q) trimmed_answer r s after
+trim_done s after q (Ok u) known (there, (none, cuts), changed) = (
+  faults_are s q known ∙ none,
+  (λ i. (trimmed_answer tt, (changed ∙ ap (with_content s q.topic q.partition) cuts) i)),
+)
+trim_done s after q (Err code) known (there, (fails, same), changed) =
+    (inl (faults_are s q known ∙ fails), unchanged_at s after q.topic q.partition there same changed)

@@ -1,6 +1,6 @@
-//! `from_parts`: copies made of what was seen and of the batches kept.
+//! `from_parts`: copies made of what was seen, of their start and of the batches kept.
 
-ghost use Rattle.std.specs.Prelude.{◌≡◌, pos, IfOk};
+ghost use Rattle.std.specs.Prelude.{◌≡◌, IfOk};
 ghost use Rattle.content.specs.Content.{IsContent};
 
 use batch_codec::Batch;
@@ -8,12 +8,10 @@ use partition_log::PartitionLog;
 use segment::BatchStore;
 use std::alloc::AllocError;
 
-/// A copy's content is a valid one from 0 on: this is known behind the call, which does nothing.
+/// A copy's content is a valid one: this is known behind the call, which does nothing.
 fn know_content<S: BatchStore>(copy: &PartitionLog<S>)
-    ensures is_content { IsContent copy.now }
-    ensures from_zero { copy.now.start ≡ pos 0 }
+    ensures { IsContent copy.now }
 {
-    let _ = copy.start();
     let _ = copy.end();
 }
 
@@ -38,5 +36,5 @@ pub(crate) fn rebuilt<S: BatchStore>(
 ) -> Result<PartitionLog<S>, AllocError> {
     know_content(copy);
     let batches = batches_of(alloc, copy)?;
-    PartitionLog::from_parts(alloc, copy.cover().try_clone()?, batches)
+    PartitionLog::from_parts(alloc, copy.cover().try_clone()?, copy.start(), batches)
 }

@@ -1,0 +1,12 @@
+use Rattle.std.proofs.Common.{subst}
+use Rattle.std.specs.Int.{w32}
+use Rattle.std.proofs.lemmas.Int.{to_z-of_z}
+use Rattle.broker_state.specs.Places.{IsPlaceOf}
+use Rattle.copy_requests.proofs.Trims.{trim_done}
+use Rattle.copy_requests.proofs.trim.try_trim.Goals as goal
+
+pub returns : goal.returns
+returns g c =
+    let of = subst (λ p. IsPlaceOf c.args.state.now c.args.topic.now p c.in-Some.place) (to_z-of_z w32 c.args.partition c.ranges.partition) c.in-Some.ensures.found in
+    trim_done c.args.state.now c.change_at.new.self (record { topic = c.args.topic.now; partition = c.args.partition; start = c.args.trimming.start }) c.change_at.result of.known
+    (c.change_at.ensures c.args.topic.now c.args.partition of)
