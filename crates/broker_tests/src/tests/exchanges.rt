@@ -65,6 +65,13 @@ pub(crate) const CLEAN: Exchange = Exchange {
     failed: Some(b"\0\0\0\x1e\0\0\0\x07\08\0\0\0\0\0\0\0\0\0\0\0\0\0\0\0\0\0\0\0\0\0\0\0\0"),
 };
 
+/// A Trim request for partition 0 of `t`: to offset 1.
+pub(crate) const TRIM: Exchange = Exchange {
+    request: b"\0\0\0\x19N'\0\0\0\0\0\x07\xff\xff\0\x01t\0\0\0\0\0\0\0\0\0\0\0\x01",
+    response: b"\0\0\0\x06\0\0\0\x07\0\0",
+    failed: None,
+};
+
 /// A ForgetGroup request of group `g`.
 pub(crate) const FORGET: Exchange = Exchange {
     request: b"\0\0\0\x0dN&\0\0\0\0\0\x07\xff\xff\0\x01g",

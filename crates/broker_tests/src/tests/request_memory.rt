@@ -3,7 +3,8 @@
 
 use crate::tests::brokers::new_node;
 use crate::tests::exchanges::{
-    CLEAN, COMMIT, DELIVER, Exchange, FORGET, IMAGE, MERGE, POSITION, SEEN, STORE, TAKE, VALUE,
+    CLEAN, COMMIT, DELIVER, Exchange, FORGET, IMAGE, MERGE, POSITION, SEEN, STORE, TAKE, TRIM,
+    VALUE,
 };
 use broker_core::{GROUP_TOPIC, Node, Role};
 use refusing_alloc::Refusing;
@@ -21,14 +22,14 @@ struct Run {
 static OF_A_LEADER: Run = Run {
     role: Role::Leader,
     exchanges: &[
-        STORE, COMMIT, POSITION, VALUE, SEEN, IMAGE, CLEAN, FORGET, TAKE,
+        STORE, COMMIT, POSITION, VALUE, SEEN, IMAGE, CLEAN, TRIM, FORGET, TAKE,
     ],
     ends: (1, 1, 2),
 };
 
 static OF_A_FOLLOWER: Run = Run {
     role: Role::Follower,
-    exchanges: &[DELIVER, MERGE],
+    exchanges: &[DELIVER, MERGE, TRIM],
     ends: (2, 0, 0),
 };
 

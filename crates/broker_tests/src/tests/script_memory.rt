@@ -10,11 +10,11 @@ const MOST: u64 = 200;
 /// A script with each kind of line.
 const SCRIPT: &str =
     "copies 2\nproduce a=1\nproduce-as 1 0 0 b=2 c\nsend 0\ndeliver 1 0\nmerge 1 0\n\
-clean 0 9 9\ntable 1\ncover 1\ncover 2\n";
+clean 0 9 9\ntable 1\ncover 1\ncover 2\ntrim 1 1\ncover 1\n";
 
 /// What is printed of it, worked by hand.
 const PRINTED: &str = "base 0\nbase 1\nimage 0\nadded\nmerged\ncleaned 0 1 0\na=1\nb=2\nend\n0-2\n\
-refused NoCopy\n";
+refused NoCopy\ntrimmed\n1-2\n";
 
 /// Two images behind their sizes, encoded by tests/copies.py: one has seen offset 0, the other offset 1.
 static PAIR: [u8; 232] = [

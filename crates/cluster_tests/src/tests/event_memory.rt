@@ -26,10 +26,12 @@ enum Told {
     Send(usize),
     /// An image is merged into a copy.
     Merge(usize, usize),
+    /// A copy's start moves to an offset.
+    Trim(usize, i64),
 }
 
 /// Events that happen one after the other, and their answers.
-static STEPS: [(Told, Answer); 8] = [
+static STEPS: [(Told, Answer); 9] = [
     (
         Told::Produce(&TWO),
         Ok(Outcome::Based {
@@ -67,6 +69,7 @@ static STEPS: [(Told, Answer); 8] = [
     ),
     (Told::Merge(2, 0), Ok(Outcome::Merged)),
     (Told::Send(3), Ok(Outcome::Sent { image: 1 })),
+    (Told::Trim(0, 2), Ok(Outcome::Trimmed)),
 ];
 
 /// A list of events behind these, and their answers. Their order is all the same.
@@ -108,6 +111,7 @@ fn event_of(alloc: Global, told: Told) -> Result<Event<Global>, AllocError> {
         },
         Told::Send(copy) => Event::Send { copy },
         Told::Merge(copy, image) => Event::Merge { copy, image },
+        Told::Trim(copy, start) => Event::Trim { copy, start },
     })
 }
 
