@@ -67,6 +67,12 @@ def produced_by_each():
     return produced_by(BATCHES)
 
 
+def trimmed():
+    """Those of 1,000 producers, and a start that moves to the half of them."""
+    given, wanted = produced_by(1_000)
+    return given + script([f"trim 0 {BATCHES // 2}"]), wanted + script(["trimmed"])
+
+
 CLEANED_BATCHES = 20_000
 CLEANED_RECORDS = 50
 CLEANED_KEYS = 10_000
