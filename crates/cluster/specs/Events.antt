@@ -75,7 +75,7 @@ RefusesBytes w bytes (Append why) = (b : BatchValue) × IsBatch bytes b × Refus
 RefusesBytes w bytes OutOfMemory = (b : BatchValue) × IsBatch bytes b × IsNew w b
 RefusesBytes w bytes _ = ⊥
 
--- ---- the events, each with its outcome or the first fault in the order of the checks; any may lack memory
+-- ---- the events, each with its outcome or the first fault in the order of the checks; all but a trim may lack memory
 
 abbrev pub Produces : World → List ℕ → World → Result Outcome EventError → Type 0
 Produces w bytes after (Ok (Based base repeat)) = (b : BatchValue) × IsBatch bytes b × Appends w b after base repeat
@@ -137,7 +137,7 @@ Merges w copy image after (Ok Merged) =
 Merges w copy image after (Ok _) = ⊥
 Merges w copy image after (Err error) = RefusesMerge w copy image error × (after ≡ w)
 
--- why a copy's start stays where it is: the first fault in the order of the checks. No memory is needed.
+-- why a copy's start stays where it is
 abbrev pub RefusesStart : World → (copy : ℕ) (start : ℤ) → EventError → Type 0
 RefusesStart w copy start NoCopy = copy_at w copy ≡ None
 RefusesStart w copy start (refusal.Trim why) =

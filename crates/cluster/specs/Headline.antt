@@ -28,8 +28,8 @@ IsCopyOf log c = IsContent c × IsCopy c log
 abbrev pub IsImageOfCopy : List BatchValue → List ℕ → Type 0
 IsImageOfCopy log bytes = (c : Content) × IsImage bytes c × IsCopyOf log c
 
--- The log is one as its leader appends it, the leader's copy has seen exactly its offsets and took each numbered batch as
--- new; every copy is a copy of the log, and every image is an image of one.
+-- The log is one as its leader appends it, the leader's copy has seen exactly its offsets from the copy's start on and took
+-- each numbered batch as new; every copy is a copy of the log, and every image is an image of one.
 pub record IsConsistent (w : World) : Type 0 where
   pub plain : IsPlainLog w.log
   pub leads : IsLeaderCopy w.leader w.log
