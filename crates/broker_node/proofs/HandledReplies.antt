@@ -6,7 +6,7 @@ use Rattle.request_frames.specs.declared.parsing.RequestBody.TheVariants as vari
 use Rattle.request_frames.specs.declared.metadata.request.MetadataRequest.{MetadataRequest}
 use Rattle.request_frames.specs.declared.parsing.Request.{Request}
 use Rattle.request_frames.specs.declared.parsing.RequestBody.{RequestBody}
-use Rattle.request_frames.specs.Requests.BodyValue.{produce, fetch, list_offsets, metadata, offset_commit, offset_fetch, deliver, clean, export, import, get, cover, forget_group}
+use Rattle.request_frames.specs.Requests.BodyValue.{produce, fetch, list_offsets, metadata, offset_commit, offset_fetch, deliver, clean, export, import, get, cover, forget_group, trim}
 use Rattle.request_frames.specs.Requests.{BodyValue, RequestValue}
 use Rattle.request_frames.specs.Metadata.{metadata_view}
 use Rattle.request_frames.specs.Views.{request_body, request_value}
@@ -83,6 +83,7 @@ tells s after n (import q) response r = ap answer_of (sym r.sends)
 tells s after n (get q) response r = ap answer_of (sym r.sends)
 tells s after n (cover q) response r = ap answer_of (sym r.sends)
 tells s after n (forget_group q) response r = ap answer_of (sym r.sends)
+tells s after n (trim q) response r = ap answer_of (sym r.sends)
 
 pub handled : (s after : State) (q : RequestValue) (held held' : List ℕ) (answer : Answer) → RespondsTo s q held held' after → answer ≡ answer_to q.body
     → Handles s q held held' answer after
