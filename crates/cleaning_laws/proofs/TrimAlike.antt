@@ -71,7 +71,7 @@ same_fault known false boundary other one two = ap (fault_of known false) (one r
 -- without a fault the start is accepted
 accepted_in : (s : State) (q : TrimValue) → first_some ((trim_work s q).early ++ []) ≡ None → IsAcceptedStart (content_at s q.topic q.partition) q.start
 accepted_in s q none =
-    passes_accepted (content_at s q.topic q.partition) q.start (none_first (unknown s q.topic q.partition) (trim_faults (content_at s q.topic q.partition) q.start) (none_both (trim_work s q).early [] none).0).1
+    passes_accepted (content_at s q.topic q.partition) q.start (none_first (unknown s q.topic q.partition) (first_some (trim_faults (content_at s q.topic q.partition) q.start)) (none_both (trim_work s q).early [] none).0).1
 
 both_cut : (logs : Logs) (s z : State) (name : List ℕ) (p start : ℤ) → AreAlike logs s z → IsAcceptedStart (content_at s name p) start → IsAcceptedStart (content_at z name p) start
     → AreAlike logs (with_content s name p (cut start (content_at s name p))) (with_content z name p (cut start (content_at z name p)))
