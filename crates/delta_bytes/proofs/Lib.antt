@@ -1,0 +1,4 @@
+pub mod OffsetLists
+pub mod Rising
+pub mod Covered
+pub mod NextEntry

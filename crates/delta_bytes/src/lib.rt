@@ -1,0 +1,9 @@
+//! A delta in bytes: what one copy of a partition sends another that says what it has seen. Its entries
+//! and its lists of ranges are judged where they stand, without memory, and nothing is allocated by a count
+//! that was read.
+#![tactic(auto)]
+
+mod entry;
+pub mod layout;
+mod lists;
+mod seen;
