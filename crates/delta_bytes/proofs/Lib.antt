@@ -2,3 +2,4 @@ pub mod OffsetLists
 pub mod Rising
 pub mod Covered
 pub mod NextEntry
+pub mod Walk

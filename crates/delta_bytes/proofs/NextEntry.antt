@@ -1,6 +1,6 @@
 -- From a list or a batch to an entry, and back.
 use Rattle.std.proofs.Common.{get_or, ◌≡◌, ◌≢◌, ℕ, zero, suc, ◌+◌, ◌*◌, ◌≤◌, ◌<◌, ℤ, pos, ◌+ℤ◌, Bool, true, false, List, [], ◌∷◌, ◌++◌, length, drop, refl, sym, ap, subst, ◌∙◌, arith}
-use Rattle.std.specs.Prelude.{◌<ℤ◌, ◌≤ℤ◌, IsTrue, ◌↔◌}
+use Rattle.std.specs.Prelude.{◌<ℤ◌, ◌≤ℤ◌, IsTrue, ◌↔◌, Result, Ok, Err, IfErr}
 use Rattle.std.proofs.lemmas.Int.{ints}
 use Rattle.batch_codec.specs.Values.{BatchValue}
 use Rattle.batch_codec.specs.Grammar.{batch_encoding}
@@ -8,6 +8,7 @@ use Rattle.batch_codec.specs.Offsets.{first_offset, last_offset}
 use Rattle.cover_ranges.specs.Runs.{Runs, covers, CoversAll, CoversAny}
 use Rattle.copy_images.specs.Refusals as images
 use Rattle.delta_bytes.specs.declared.layout.TheConstants.{LISTED, SENT}
+use Rattle.delta_bytes.specs.declared.entry.EntryError.{EntryError}
 use Rattle.delta_bytes.specs.declared.entry.EntryError.TheVariants.{Bad, Unseen}
 use Rattle.delta_bytes.specs.Entries.{Entry, last_listed, AreCovered, IsWithin}
 use Rattle.delta_bytes.specs.Entries.Entry.{Listed, Sent}
@@ -19,7 +20,12 @@ use Rattle.delta_bytes.proofs.OffsetLists.{length-list}
 
 listed_next : (low base : ℤ) (os : List ℤ) (bytes : List ℕ) → IsNextList low base os bytes → IsNext low (Listed base os) (LISTED ∷ bytes)
 listed_next low base os bytes next = record {
-  may_follow = (next.from_low, next.rise, next.list.listable);
+  may_follow = (next.from_low, record {
+    rise = next.rise;
+    base_fits = next.list.listable.base_fits;
+    offsets_fit = next.list.listable.offsets_fit;
+    counted = next.list.listable.counted;
+  });
   rest = next.list.rest;
   encoded = ap (λ (x : List ℕ). LISTED ∷ x) next.list.encoded;
 }
@@ -31,8 +37,16 @@ pub no_listed : (low : ℤ) (bytes : List ℕ) → ((base : ℤ) (os : List ℤ)
 no_listed low bytes none (Listed base os) next =
     none base os (record {
       from_low = next.may_follow.0;
-      rise = next.may_follow.1;
-      list = record { listable = next.may_follow.2; rest = next.rest; encoded = ap (drop 1) next.encoded };
+      rise = next.may_follow.1.rise;
+      list = record {
+        listable = record {
+          base_fits = next.may_follow.1.base_fits;
+          offsets_fit = next.may_follow.1.offsets_fit;
+          counted = next.may_follow.1.counted;
+        };
+        rest = next.rest;
+        encoded = ap (drop 1) next.encoded;
+      };
     })
 no_listed low bytes none (Sent b) next =
     let e : LISTED ≡ SENT = first_byte LISTED SENT bytes (batch_encoding b ++ next.rest) next.encoded in
@@ -108,3 +122,16 @@ no_entry low bytes none (Sent b) next = omega (arith, none, ap length next.encod
 pub no_kind : (low : ℤ) (kind : ℕ) (behind bytes : List ℕ) → bytes ≡ kind ∷ behind → kind ≢ LISTED → kind ≢ SENT → (x : Entry) → IsNext low x bytes → ⊥
 no_kind low kind behind bytes is other another (Listed base os) next = other (first_byte kind LISTED behind (list_encoding base os ++ next.rest) (sym is ∙ next.encoded))
 no_kind low kind behind bytes is other another (Sent b) next = another (first_byte kind SENT behind (batch_encoding b ++ next.rest) (sym is ∙ next.encoded))
+
+-- what was said of the bytes behind a kind, of all of them
+pub refused_list : {V : Type 0} (runs asked : Runs) (low given : ℤ) (kind : ℕ) (behind bytes : List ℕ) (r : Result V EntryError) → given ≡ low → bytes ≡ kind ∷ behind → kind ≡ LISTED
+    → IfErr r (λ fault. (a : Runs) → RefusesEntry runs a given (LISTED ∷ behind) fault) → IfErr r (RefusesEntry runs asked low bytes)
+refused_list runs asked low given kind behind bytes (Ok v) same parts is h = tt
+refused_list runs asked low given kind behind bytes (Err e) same parts is h =
+    subst (λ (x : List ℕ). RefusesEntry runs asked low x e) (sym (parts ∙ ap (λ (k : ℕ). k ∷ behind) is)) (subst (λ (z : ℤ). RefusesEntry runs asked z (LISTED ∷ behind) e) same (h asked))
+
+pub refused_batch : {V : Type 0} (runs asked : Runs) (low given : ℤ) (kind : ℕ) (behind bytes : List ℕ) (r : Result V EntryError) → given ≡ low → bytes ≡ kind ∷ behind → kind ≡ SENT
+    → IfErr r (RefusesEntry runs asked given (SENT ∷ behind)) → IfErr r (RefusesEntry runs asked low bytes)
+refused_batch runs asked low given kind behind bytes (Ok v) same parts is h = tt
+refused_batch runs asked low given kind behind bytes (Err e) same parts is h =
+    subst (λ (x : List ℕ). RefusesEntry runs asked low x e) (sym (parts ∙ ap (λ (k : ℕ). k ∷ behind) is)) (subst (λ (z : ℤ). RefusesEntry runs asked z (SENT ∷ behind) e) same h)

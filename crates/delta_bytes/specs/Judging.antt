@@ -1,10 +1,12 @@
 -- Words of private clauses: the parts of an entry as they are judged.
-use Rattle.std.specs.Prelude.{◌≡◌, ℕ, ℤ, ◌≤ℤ◌, Bool, false, int_le, List, [], ◌∷◌, ◌++◌, length, map}
+use Rattle.std.specs.Prelude.{◌≡◌, ℕ, ◌≤◌, ℤ, ◌≤ℤ◌, FitsSigned, Bool, false, int_le, List, [], ◌∷◌, ◌++◌, length, map}
+use Rattle.std.specs.List.{AllByRecursion}
 use Rattle.std.specs.Int.{w64, from_be_bytes, cast_signed}
 use Rattle.cover_ranges.specs.Runs.{Runs}
+use Rattle.copy_images.specs.declared.layout.TheConstants.{MAX_COUNT}
 use Rattle.delta_bytes.specs.declared.entry.EntryError.{EntryError}
 use Rattle.delta_bytes.specs.declared.entry.EntryError.TheVariants.{Bad, Unseen}
-use Rattle.delta_bytes.specs.Entries.{Entry, OffsetsRise, IsListable, IsWithin, entry_last}
+use Rattle.delta_bytes.specs.Entries.{Entry, OffsetsRise, IsWithin, entry_last}
 use Rattle.delta_bytes.specs.EntryBytes.{list_encoding, entry_bytes, IsNext}
 
 -- the offset that eight bytes say
@@ -13,6 +15,12 @@ offset_at bytes = cast_signed w64 (from_be_bytes w64 bytes)
 
 abbrev pub offsets_of : List (List ℕ) → List ℤ
 offsets_of parts = map offset_at parts
+
+-- a base and offsets that a list can have in bytes: of 64 bits, and no more than can be counted
+pub record IsListable (base : ℤ) (offsets : List ℤ) : Type 0 where
+  pub base_fits : FitsSigned w64 base
+  pub offsets_fit : AllByRecursion (FitsSigned w64) offsets
+  pub counted : length offsets ≤ MAX_COUNT
 
 -- a list of these offsets stands at the front, whether they rise or not
 pub record IsListAt (base : ℤ) (offsets : List ℤ) (bytes : List ℕ) : Type 0 where

@@ -1,3 +1,4 @@
 pub mod Entries
 pub mod EntryBytes
 pub mod Judging
+pub mod EntryLists

@@ -3,7 +3,10 @@
 //! that was read.
 #![tactic(auto)]
 
+mod counted;
 mod entry;
+mod error;
 pub mod layout;
 mod lists;
 mod seen;
+pub use error::EntriesError;
