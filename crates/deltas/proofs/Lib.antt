@@ -1,0 +1,4 @@
+pub mod Entries
+pub mod Sayings
+pub mod Patching
+pub mod PatchContents
