@@ -14,6 +14,7 @@
 
 pub mod contents;
 pub mod examples;
+pub mod merging;
 
 /// The most offsets that an entry can list.
 pub const MAX_LISTED: usize = 0x7fff_ffff;
