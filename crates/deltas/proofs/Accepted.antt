@@ -1,10 +1,9 @@
 -- A copy that agrees with the sender and knows what was asked may take the sender's delta: what is sent
 -- are some of the sender's batches, and each list is of a batch that the copy has seen.
-use Rattle.std.proofs.Common.{◌≡◌, ℤ, pos, ◌+ℤ◌, Bool, true, false, Option, Some, None, List, map, refl, sym, ap, subst, ◌∙◌, arith}
+use Rattle.std.proofs.Common.{◌≡◌, ℤ, ◌+ℤ◌, Bool, true, false, Option, Some, None, List, map, refl, sym, ap, subst, ◌∙◌, arith}
 use Rattle.std.specs.Prelude.{◌≤ℤ◌, ◌<ℤ◌, if◌then◌else◌}
 use Rattle.std.specs.List.{AllByRecursion}
 use Rattle.std.specs.Option.{option_map, option_and_then}
-use Rattle.std.specs.Int.{int_max}
 use Rattle.std.proofs.lemmas.Int.{ints, clamps}
 use Rattle.batch_codec.specs.declared.head.BatchHead.{BatchHead}
 use Rattle.batch_codec.specs.Values.{BatchValue}
@@ -12,17 +11,16 @@ use Rattle.batch_codec.specs.Offsets.{first_offset, last_offset}
 use Rattle.cover_ranges.specs.Runs.{Runs, covers, IsCanonical}
 use Rattle.content.specs.ByOffset.{look_up}
 use Rattle.content.specs.Content.{Content, IsContent}
-use Rattle.content.specs.Joins.{Slot, slot_at, greater_start, FitsAt, AreAlikeAt, AgreeAt, Agree}
+use Rattle.content.specs.Joins.{Slot, slot_at, greater_start, AgreeAt, Agree}
 use Rattle.content.specs.Joins.Slot.{Unknown, Kept, Gone, Below}
 use Rattle.content_laws.proofs.Windows.{each_weaker}
 use Rattle.content_laws.proofs.Slots.{bases_rise, kept_keepable, kept_covered}
-use Rattle.deltas.specs.Entries.{Entry, entry_base, batch_sent, sent}
+use Rattle.deltas.specs.Entries.{batch_sent, sent}
 use Rattle.deltas.specs.Entries.Entry.{Listed, Sent}
 use Rattle.deltas.specs.Deltas.{offsets_of, is_asked, entry_for, delta_of}
-use Rattle.deltas.specs.Patches.{Said, said_at}
 use Rattle.deltas.specs.Patches.Said.{Says, Lists}
 use Rattle.deltas.specs.Accepting.{sent_part, IsFor, ListFitsAt, Accepts}
-use Rattle.deltas.proofs.Entries.{Batches, entry_at, entries_for_rise, sent_at}
+use Rattle.deltas.proofs.Entries.{entry_at, entries_for_rise, sent_at}
 use Rattle.deltas.proofs.Offsets.{offsets_end}
 use Rattle.deltas.proofs.Asking.{asked_seen}
 use Rattle.deltas.proofs.DeltaMerges.{said_of, delta_said, slot_keeps}

@@ -1,20 +1,18 @@
 -- What a copy that knows what was asked has seen: the base of each batch that the sender only lists.
-use Rattle.std.proofs.Common.{◌≡◌, ℤ, pos, ◌+ℤ◌, Bool, true, false, ◌&&◌, ◌||◌, ◌⊎◌, inl, inr, Option, Some, None, List, [], ◌∷◌, refl, sym, ap, subst, ◌∙◌, arith}
-use Rattle.std.specs.Prelude.{◌≤ℤ◌, ◌<ℤ◌, int_lt, int_le, if◌then◌else◌}
-use Rattle.std.specs.List.{list_any}
+use Rattle.std.proofs.Common.{◌≡◌, ℤ, pos, ◌+ℤ◌, Bool, true, false, ◌&&◌, ◌||◌, inl, inr, Option, Some, None, [], ◌∷◌, refl, sym, subst, ◌∙◌, arith}
+use Rattle.std.specs.Prelude.{◌≤ℤ◌, int_lt, int_le, if◌then◌else◌}
 use Rattle.std.specs.Int.{int_max}
-use Rattle.std.proofs.lemmas.Int.{ints, clamps, by_lt_z}
+use Rattle.std.proofs.lemmas.Int.{ints, clamps}
 use Rattle.batch_codec.specs.Values.{BatchValue}
 use Rattle.batch_codec.specs.Offsets.{first_offset, last_offset}
 use Rattle.cover_ranges.specs.Runs.{Runs, covers, is_within, IsCanonical}
 use Rattle.cover_ranges.proofs.RunsFrom.{RunsFrom, canonical_from}
 use Rattle.content.specs.ByOffset.{look_up}
 use Rattle.content.specs.Content.{Content, IsContent}
-use Rattle.content.specs.Joins.{Slot, slot_from, slot_at, is_unknown, greater_start, FitsAt}
-use Rattle.content.specs.Joins.Slot.{Unknown, Kept, Gone, Below}
+use Rattle.content.specs.Joins.{slot_from, slot_at, is_unknown, greater_start, FitsAt}
+use Rattle.content.specs.Joins.Slot.{Below}
 use Rattle.content_laws.proofs.ByOffset.{look_up-offset}
 use Rattle.content_laws.proofs.Slots.{kept_covered, kept_ends}
-use Rattle.content_laws.proofs.ContentSteps.{both_bools}
 use Rattle.deltas.specs.Deltas.{covers_any, is_asked}
 use Rattle.deltas.specs.Accepting.{IsKnown, IsFor}
 

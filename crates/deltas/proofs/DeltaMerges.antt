@@ -1,25 +1,23 @@
 -- The delta of a copy has the effect of a merge with it, for a copy that knows what was asked: it says of
 -- each base offset what the sender would, or the offsets of the records that the sender has.
-use Rattle.std.proofs.Common.{◌≡◌, ℤ, pos, ◌+ℤ◌, Bool, true, false, Option, Some, None, List, [], ◌∷◌, map, refl, sym, ap, subst, ◌∙◌, arith}
-use Rattle.std.specs.Prelude.{◌≤ℤ◌, ◌<ℤ◌, int_lt, if◌then◌else◌}
+use Rattle.std.proofs.Common.{◌≡◌, ℤ, Bool, true, false, Option, Some, None, [], ◌∷◌, map, refl, sym, ap, ◌∙◌, arith}
+use Rattle.std.specs.Prelude.{int_lt, if◌then◌else◌}
 use Rattle.std.specs.List.{AllByRecursion, filter, filter_map}
-use Rattle.std.specs.Option.{option_map, option_and_then}
-use Rattle.std.proofs.lemmas.Int.{ints, clamps}
-use Rattle.batch_codec.specs.declared.head.BatchHead.{BatchHead}
+use Rattle.std.specs.Option.{option_map}
 use Rattle.batch_codec.specs.Values.{BatchValue}
-use Rattle.batch_codec.specs.Offsets.{first_offset, last_offset}
+use Rattle.batch_codec.specs.Offsets.{first_offset}
 use Rattle.cover_ranges.specs.Runs.{Runs, covers, IsCanonical, union_of, cut_below}
-use Rattle.content.specs.ByOffset.{look_up, Rises, put_all}
+use Rattle.content.specs.ByOffset.{look_up, put_all}
 use Rattle.content.specs.Records.{with_common_records}
 use Rattle.content.specs.Content.{Content, IsContent}
-use Rattle.content.specs.Joins.{Slot, slot_from, slot_at, slot_join, batch_of_slot, is_unknown, merged_batch, greater_start, join, FitsAt, AgreeAt, Agree}
+use Rattle.content.specs.Joins.{Slot, slot_from, slot_at, slot_join, batch_of_slot, is_unknown, merged_batch, greater_start, join, FitsAt, Agree}
 use Rattle.content.specs.Joins.Slot.{Unknown, Kept, Gone, Below}
 use Rattle.content_laws.proofs.ByOffset.{look_up-offset, all_from_at}
 use Rattle.content_laws.proofs.Slots.{bases_rise}
-use Rattle.deltas.specs.Entries.{Entry, entry_base, sent}
+use Rattle.deltas.specs.Entries.{Entry, sent}
 use Rattle.deltas.specs.Entries.Entry.{Listed, Sent}
 use Rattle.deltas.specs.Deltas.{offsets_of, is_asked, entry_for, delta_of}
-use Rattle.deltas.specs.Patches.{Said, said_by, said_at, with_listed, slot_patch, patched_batch, patch}
+use Rattle.deltas.specs.Patches.{Said, said_by, said_at, slot_patch, patched_batch, patch}
 use Rattle.deltas.specs.Patches.Said.{Says, Lists}
 use Rattle.deltas.specs.Accepting.{IsFor}
 use Rattle.deltas.proofs.Entries.{Batches, entry_at}

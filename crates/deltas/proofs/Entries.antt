@@ -1,15 +1,15 @@
 -- The entries of a delta: they rise by base, and each ends before the next one begins.
 use Rattle.std.proofs.Common.{◌≡◌, ℤ, pos, ◌+ℤ◌, Bool, true, false, cond, List, [], ◌∷◌, map, Option, Some, None, refl, sym, ap, subst, ◌∙◌, arith}
 use Rattle.std.specs.Prelude.{◌≤ℤ◌, ◌<ℤ◌, if◌then◌else◌}
-use Rattle.std.specs.List.{AllByRecursion, cons_option}
+use Rattle.std.specs.List.{AllByRecursion}
 use Rattle.std.specs.Option.{option_map, option_and_then}
 use Rattle.std.specs.Ordering.{int_eq}
 use Rattle.std.proofs.lemmas.Int.{ints, by_lt_z}
 use Rattle.batch_codec.specs.Values.{BatchValue}
-use Rattle.batch_codec.specs.Offsets.{first_offset, last_offset}
+use Rattle.batch_codec.specs.Offsets.{first_offset}
 use Rattle.cover_ranges.specs.Runs.{Runs}
 use Rattle.content.specs.ByOffset.{look_up, Rises}
-use Rattle.content_laws.proofs.ByOffset.{look_up-offset, look_up-low, rises-lower, all_at}
+use Rattle.content_laws.proofs.ByOffset.{look_up-low, rises-lower, all_at}
 use Rattle.deltas.specs.Entries.{Entry, OffsetsRise, last_listed, entry_base, entry_last, batch_sent, sent, MayFollow, IsWithin, AreEntries}
 use Rattle.deltas.specs.Entries.Entry.{Listed, Sent}
 use Rattle.deltas.specs.Deltas.{is_asked, entry_for, offsets_of}

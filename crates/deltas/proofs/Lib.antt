@@ -1,8 +1,12 @@
 pub mod Entries
 pub mod Sayings
-pub mod Patching
+pub mod PatchSlots
 pub mod PatchContents
 pub mod Offsets
 pub mod Asking
 pub mod DeltaMerges
 pub mod Accepted
+pub mod Validity
+pub mod SentParts
+pub mod Known
+pub mod PatchLaws

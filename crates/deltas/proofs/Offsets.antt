@@ -1,7 +1,7 @@
 -- The offsets that an entry lists of a batch: they rise from its base and end in its span, and which of
 -- another batch's records they name goes by offset deltas, where the two have one base.
-use Rattle.std.proofs.Common.{◌≡◌, ℕ, ◌≤◌, ℤ, pos, negsuc, ◌+ℤ◌, Bool, true, false, List, [], ◌∷◌, map, length, Option, Some, None, refl, sym, ap, subst, ◌∙◌, arith}
-use Rattle.std.specs.Prelude.{◌≤ℤ◌, ◌<ℤ◌, is_some}
+use Rattle.std.proofs.Common.{◌≡◌, ℤ, pos, negsuc, ◌+ℤ◌, [], ◌∷◌, map, refl, ap, subst, ◌∙◌, arith}
+use Rattle.std.specs.Prelude.{◌≤ℤ◌, is_some}
 use Rattle.std.specs.List.{AllByRecursion, list_any, filter}
 use Rattle.std.specs.Ordering.{int_eq}
 use Rattle.std.proofs.lemmas.Int.{ints}
@@ -9,7 +9,7 @@ use Rattle.batch_codec.specs.declared.head.BatchHead.{BatchHead}
 use Rattle.batch_codec.specs.Values.{RecordValue, BatchValue}
 use Rattle.batch_codec.specs.Offsets.{first_offset, last_offset, offset_of}
 use Rattle.batch_codec.specs.Grammar.{AreValidRecords}
-use Rattle.content.specs.ByOffset.{look_up, Rises}
+use Rattle.content.specs.ByOffset.{look_up}
 use Rattle.content.specs.Records.{record_at_delta, with_common_records, IsKeepable}
 use Rattle.content_laws.proofs.ByOffset.{rises-map}
 use Rattle.content_laws.proofs.Batches.{Records, delta_of, records_rise}

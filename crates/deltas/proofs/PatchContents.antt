@@ -1,7 +1,7 @@
 -- A patch of a content is a content, whether the copy may take the delta or not: each of its batches is
 -- a part of one that the copy keeps, or one that is sent, so its span is one that that side has seen.
-use Rattle.std.proofs.Common.{◌≡◌, ◌^◌, ℤ, pos, ◌+ℤ◌, Bool, true, false, ◌&&◌, ◌||◌, ◌⊎◌, inl, inr, Option, Some, None, List, refl, sym, ap, subst, ◌∙◌, arith}
-use Rattle.std.specs.Prelude.{◌≤ℤ◌, ◌<ℤ◌, int_lt, int_le, if◌then◌else◌}
+use Rattle.std.proofs.Common.{◌≡◌, ℤ, Bool, true, false, ◌&&◌, ◌||◌, ◌⊎◌, inl, inr, Option, Some, None, refl, sym, ap, subst, ◌∙◌, arith}
+use Rattle.std.specs.Prelude.{◌≤ℤ◌, ◌<ℤ◌, int_lt, int_le}
 use Rattle.std.specs.List.{filter, filter_map, list_any}
 use Rattle.std.specs.Ordering.{int_eq}
 use Rattle.std.specs.Prelude.{is_some}
@@ -13,7 +13,7 @@ use Rattle.cover_ranges.proofs.RunSets.{union_canonical, cut_canonical}
 use Rattle.content.specs.ByOffset.{look_up, Rises}
 use Rattle.content.specs.Records.{record_at_delta, with_common_records, IsKeepable}
 use Rattle.content.specs.Content.{Content, IsContent}
-use Rattle.content.specs.Joins.{Slot, slot_at, slot_join, batch_of_slot, is_unknown}
+use Rattle.content.specs.Joins.{Slot, slot_at, batch_of_slot, is_unknown}
 use Rattle.content.specs.Joins.Slot.{Unknown, Kept, Gone, Below}
 use Rattle.content_laws.proofs.ByOffset.{look_up-offset, rises-filter, rises-filter_map, rises-lower, rises-raise, rises-put_all, all_from_at}
 use Rattle.content_laws.proofs.Batches.{AreApart, spans_from}
@@ -21,13 +21,13 @@ use Rattle.content_laws.proofs.BatchParts.{IsPartOf, thin_keepable, part_self}
 use Rattle.content_laws.proofs.Slots.{is_below, bases_rise, kept_keepable, slot_batch, slot_below, span_gone}
 use Rattle.content_laws.proofs.ContentSteps.{IsFrom, end_of_part}
 use Rattle.deltas.specs.Entries.{sent}
-use Rattle.deltas.specs.Entries.Entry.{Listed, Sent}
+use Rattle.deltas.specs.Entries.Entry.{Sent}
 use Rattle.deltas.specs.Deltas.{Delta, IsDelta, LOWEST}
 use Rattle.deltas.specs.Patches.{Said, said_at, with_listed, slot_patch, patched_batch, later_start, patch}
 use Rattle.deltas.specs.Patches.Said.{Says, Lists}
 use Rattle.deltas.proofs.Entries.{IsEntry, sent_rises, sent_entry}
 use Rattle.deltas.proofs.Sayings.{said_batch, said_below, rises_all, is_entry, reads_batch, reads_below, sent_gone}
-use Rattle.deltas.proofs.Patching.{patched_base, patch_kept, patch_start, patch_covers}
+use Rattle.deltas.proofs.PatchSlots.{patched_base, patch_kept, patch_start, patch_covers}
 
 -- ---- the side that a batch is from
 

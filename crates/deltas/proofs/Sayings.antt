@@ -1,6 +1,6 @@
 -- What a valid delta says of each base offset: whether a batch is sent, whether the offset was seen, and
 -- whether it is below the start.
-use Rattle.std.proofs.Common.{◌≡◌, ℤ, pos, Bool, true, false, Option, Some, None, List, refl, sym, ap, subst, ◌∙◌, arith}
+use Rattle.std.proofs.Common.{◌≡◌, ℤ, Bool, true, false, Option, Some, None, refl, ap, subst, ◌∙◌, arith}
 use Rattle.std.specs.Prelude.{◌≤ℤ◌, ◌<ℤ◌, int_lt, if◌then◌else◌}
 use Rattle.std.specs.Option.{option_and_then}
 use Rattle.std.proofs.lemmas.Int.{ints}
@@ -8,11 +8,11 @@ use Rattle.batch_codec.specs.Values.{BatchValue}
 use Rattle.batch_codec.specs.Offsets.{first_offset, last_offset}
 use Rattle.cover_ranges.specs.Runs.{covers}
 use Rattle.content.specs.ByOffset.{look_up, Rises}
-use Rattle.content.specs.Joins.{Slot, batch_of_slot}
-use Rattle.content.specs.Joins.Slot.{Unknown, Kept, Gone, Below}
+use Rattle.content.specs.Joins.{batch_of_slot}
+use Rattle.content.specs.Joins.Slot.{Gone, Below}
 use Rattle.content_laws.proofs.ByOffset.{look_up-offset}
 use Rattle.content_laws.proofs.Slots.{is_seen, is_below}
-use Rattle.deltas.specs.Entries.{Entry, entry_base, entry_last, batch_sent, sent}
+use Rattle.deltas.specs.Entries.{Entry, entry_base, batch_sent, sent}
 use Rattle.deltas.specs.Entries.Entry.{Listed, Sent}
 use Rattle.deltas.specs.Deltas.{Delta, IsDelta, LOWEST}
 use Rattle.deltas.specs.Patches.{Said, said_by, said_at}

@@ -1,6 +1,6 @@
 -- What a delta tells of one batch that its sender keeps, by this project's own rule: the offsets of its
 -- records, or all of it.
-use Rattle.std.specs.Prelude.{◌≡◌, ℕ, ◌≤◌, ℤ, pos, ◌+ℤ◌, ◌≤ℤ◌, true, List, [], ◌∷◌, length, Option, Some, None, FitsSigned}
+use Rattle.std.specs.Prelude.{◌≡◌, ◌≤◌, ℤ, pos, ◌+ℤ◌, ◌≤ℤ◌, true, List, [], ◌∷◌, length, Option, Some, None, FitsSigned}
 use Rattle.std.specs.List.{AllByRecursion, filter_map, fold}
 use Rattle.std.specs.Int.{w64}
 use Rattle.batch_codec.specs.Values.{BatchValue}

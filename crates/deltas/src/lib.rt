@@ -14,7 +14,9 @@
 
 pub mod contents;
 pub mod examples;
+pub mod knowing;
 pub mod merging;
+pub mod patching;
 
 /// The most offsets that an entry can list.
 pub const MAX_LISTED: usize = 0x7fff_ffff;

@@ -1,4 +1,4 @@
-use Rattle.std.proofs.Common.{ℤ, pos, [], ◌∷◌, refl, arith}
+use Rattle.std.proofs.Common.{pos, [], ◌∷◌, refl, arith}
 use Rattle.std.specs.Prelude.{◌≤ℤ◌}
 use Rattle.std.proofs.lemmas.Int.{ints}
 use Rattle.batch_codec.specs.Offsets.{last_offset}

@@ -1,4 +1,4 @@
-use Rattle.std.proofs.Common.{◌≡◌, pos, Bool, true, false, ◌⊎◌, inl, inr, refl, arith}
+use Rattle.std.proofs.Common.{◌≡◌, pos, true, false, ◌⊎◌, inl, inr, refl, arith}
 use Rattle.std.specs.Prelude.{◌<ℤ◌}
 use Rattle.std.proofs.lemmas.Int.{ints}
 use Rattle.cover_ranges.specs.Runs.{with_range}

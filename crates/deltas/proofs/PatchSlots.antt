@@ -1,7 +1,7 @@
 -- A patch's slots are what the copy and the delta say together: its kept batches, its runs and its start
 -- are each read from that, as a merge's are.
-use Rattle.std.proofs.Common.{◌≡◌, ℤ, pos, Bool, true, false, not, ◌&&◌, ◌||◌, Option, Some, None, List, refl, sym, ap, ◌∙◌, arith}
-use Rattle.std.specs.Prelude.{◌≤ℤ◌, ◌<ℤ◌, int_lt, int_le, if◌then◌else◌}
+use Rattle.std.proofs.Common.{◌≡◌, ℤ, Bool, not, ◌&&◌, ◌||◌, Option, Some, None, refl, sym, ap, ◌∙◌, arith}
+use Rattle.std.specs.Prelude.{int_lt, int_le, if◌then◌else◌}
 use Rattle.std.specs.List.{filter, filter_map}
 use Rattle.std.specs.Option.{option_and_then, option_or}
 use Rattle.std.specs.Int.{int_max}
@@ -10,10 +10,10 @@ use Rattle.batch_codec.specs.Values.{BatchValue}
 use Rattle.batch_codec.specs.Offsets.{first_offset}
 use Rattle.cover_ranges.specs.Runs.{covers, union_of}
 use Rattle.cover_ranges.proofs.RunSets.{union_covers, cut_covers}
-use Rattle.content.specs.ByOffset.{look_up, Rises}
+use Rattle.content.specs.ByOffset.{look_up}
 use Rattle.content.specs.Records.{with_common_records}
 use Rattle.content.specs.Content.{Content, IsContent}
-use Rattle.content.specs.Joins.{Slot, slot_from, slot_at, slot_join, batch_of_slot, is_unknown}
+use Rattle.content.specs.Joins.{Slot, slot_from, slot_at, batch_of_slot, is_unknown}
 use Rattle.content.specs.Joins.Slot.{Unknown, Kept, Gone, Below}
 use Rattle.content_laws.proofs.ByOffset.{look_up-offset, look_up-filter_offset, look_up-filter_map, look_up-put_all, rises-filter}
 use Rattle.content_laws.proofs.Slots.{is_seen, is_below, bases_rise, slot_batch, slot_seen, slot_below}
