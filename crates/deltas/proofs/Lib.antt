@@ -10,3 +10,4 @@ pub mod Validity
 pub mod SentParts
 pub mod Known
 pub mod PatchLaws
+pub mod CopyEvents

@@ -3,4 +3,5 @@ pub mod Entries
 pub mod Deltas
 pub mod Patches
 pub mod Accepting
+pub mod Exchanges
 pub mod Examples

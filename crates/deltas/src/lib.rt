@@ -14,6 +14,7 @@
 
 pub mod contents;
 pub mod examples;
+pub mod exchanging;
 pub mod knowing;
 pub mod merging;
 pub mod patching;
