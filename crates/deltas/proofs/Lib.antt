@@ -1,0 +1,13 @@
+pub mod Entries
+pub mod Sayings
+pub mod PatchSlots
+pub mod PatchContents
+pub mod Offsets
+pub mod Asking
+pub mod DeltaMerges
+pub mod Accepted
+pub mod Validity
+pub mod SentParts
+pub mod Known
+pub mod PatchLaws
+pub mod CopyEvents
