@@ -11,7 +11,7 @@ use Rattle.cover_ranges.proofs.RunEnds.{has_all_is}
 use Rattle.cover_ranges.proofs.RunsFrom.{RunsFrom, canonical_from}
 use Rattle.copy_images.specs.Judging.{ending_from, first_holds}
 use Rattle.copy_images.proofs.Judged.{skipped, skipped_same, first_decides}
-use Rattle.delta_bytes.specs.Entries.{OffsetsRise, AreCovered}
+use Rattle.deltas.specs.Entries.{OffsetsRise, AreCovered}
 use Rattle.delta_bytes.specs.Judging.{offset_at, offsets_of, first_starts_by}
 use Rattle.delta_bytes.proofs.Rising.{Parts, next_offset, no_offset}
 

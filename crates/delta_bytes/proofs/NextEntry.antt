@@ -10,8 +10,8 @@ use Rattle.copy_images.specs.Refusals as images
 use Rattle.delta_bytes.specs.declared.layout.TheConstants.{LISTED, SENT}
 use Rattle.delta_bytes.specs.declared.entry.EntryError.{EntryError}
 use Rattle.delta_bytes.specs.declared.entry.EntryError.TheVariants.{Bad, Unseen}
-use Rattle.delta_bytes.specs.Entries.{Entry, last_listed, AreCovered, IsWithin}
-use Rattle.delta_bytes.specs.Entries.Entry.{Listed, Sent}
+use Rattle.deltas.specs.Entries.{Entry, last_listed, AreCovered, IsWithin}
+use Rattle.deltas.specs.Entries.Entry.{Listed, Sent}
 use Rattle.delta_bytes.specs.EntryBytes.{list_encoding, entry_bytes, IsNext}
 use Rattle.delta_bytes.specs.Judging.{IsListAt, IsNextList, IsEntryAt, RefusesEntry}
 use Rattle.delta_bytes.proofs.OffsetLists.{length-list}

@@ -14,7 +14,7 @@ use Rattle.batch_codec.proofs.Steps.{IsBytes-drop, IsBytes-take}
 use Rattle.batch_codec.proofs.Fixed.{IsWide, wide32, wide64, fields_at, fields_back, fields_again, length-fields, unsigned-below}
 use Rattle.copy_images.specs.declared.layout.TheConstants.{MAX_COUNT}
 use Rattle.copy_images.proofs.Parts.{IsBytes, signed_fits, below_zero}
-use Rattle.delta_bytes.specs.Entries.{OffsetsRise}
+use Rattle.deltas.specs.Entries.{OffsetsRise}
 use Rattle.delta_bytes.specs.EntryBytes.{offset_encoding, list_encoding}
 use Rattle.delta_bytes.specs.Judging.{offset_at, offsets_of, IsListable, IsListAt, IsNextList}
 

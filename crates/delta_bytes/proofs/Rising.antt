@@ -3,7 +3,7 @@ use Rattle.std.proofs.Common.{get_or, ◌≡◌, ℕ, zero, suc, ◌+◌, ◌≤
 use Rattle.std.specs.Prelude.{◌<ℤ◌, ◌≤ℤ◌, ◌↔◌}
 use Rattle.std.proofs.lemmas.Int.{ints}
 use Rattle.std.proofs.lemmas.List.{drop_all}
-use Rattle.delta_bytes.specs.Entries.{OffsetsRise, last_listed}
+use Rattle.deltas.specs.Entries.{OffsetsRise, last_listed}
 use Rattle.delta_bytes.specs.Judging.{offset_at, offsets_of}
 
 abbrev pub Parts : Type 0

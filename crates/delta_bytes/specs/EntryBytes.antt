@@ -5,8 +5,8 @@ use Rattle.std.specs.List.{flat_map}
 use Rattle.std.specs.Int.{w32, w64}
 use Rattle.batch_codec.specs.Grammar.{fields, signed, batch_encoding}
 use Rattle.delta_bytes.specs.declared.layout.TheConstants.{LISTED, SENT}
-use Rattle.delta_bytes.specs.Entries.{Entry, MayFollow}
-use Rattle.delta_bytes.specs.Entries.Entry.{Listed, Sent}
+use Rattle.deltas.specs.Entries.{Entry, MayFollow}
+use Rattle.deltas.specs.Entries.Entry.{Listed, Sent}
 
 -- one of the offsets of a list
 unfoldable pub offset_encoding : ℤ → List ℕ

@@ -8,7 +8,7 @@ use Rattle.cover_ranges.specs.Runs.{Runs}
 use Rattle.delta_bytes.specs.declared.layout.TheConstants.{LEAST_BASE}
 use Rattle.delta_bytes.specs.declared.error.EntriesError.{EntriesError}
 use Rattle.delta_bytes.specs.declared.error.EntriesError.TheVariants.{BadBatch, Outside, Extra}
-use Rattle.delta_bytes.specs.Entries.{Entry, entry_last, IsWithin, AreEntries}
+use Rattle.deltas.specs.Entries.{Entry, entry_last, IsWithin, AreEntries}
 use Rattle.delta_bytes.specs.EntryBytes.{entry_bytes, IsNext}
 
 -- the offset after the last entry; where there is none, the least base

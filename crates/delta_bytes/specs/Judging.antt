@@ -6,7 +6,7 @@ use Rattle.cover_ranges.specs.Runs.{Runs}
 use Rattle.copy_images.specs.declared.layout.TheConstants.{MAX_COUNT}
 use Rattle.delta_bytes.specs.declared.entry.EntryError.{EntryError}
 use Rattle.delta_bytes.specs.declared.entry.EntryError.TheVariants.{Bad, Unseen}
-use Rattle.delta_bytes.specs.Entries.{Entry, OffsetsRise, IsWithin, entry_last}
+use Rattle.deltas.specs.Entries.{Entry, OffsetsRise, IsWithin, entry_last}
 use Rattle.delta_bytes.specs.EntryBytes.{list_encoding, entry_bytes, IsNext}
 
 -- the offset that eight bytes say

@@ -1,4 +1,5 @@
-pub mod Entries
 pub mod EntryBytes
+pub mod RangeLists
+pub mod Faults
 pub mod Judging
 pub mod EntryLists

@@ -1,5 +1,15 @@
 //! Why bytes are refused as part of a delta.
 
+/// Why bytes do not begin with a list of ranges: the first fault.
+#[derive(Clone, Copy, Drop)]
+pub enum RangesError {
+    /// There are fewer bytes than the count, the ranges and what has to follow them take.
+    Short,
+    /// The count is negative, or the ranges are not the maximal ranges of a set of offsets, none of them
+    /// below the least that may be there.
+    BadCover,
+}
+
 /// Why bytes are not the entries that should stand there: the first fault.
 #[derive(Clone, Copy, Drop)]
 pub enum EntriesError {
@@ -12,4 +22,13 @@ pub enum EntriesError {
     Outside,
     /// Bytes follow the last entry.
     Extra,
+}
+
+/// Why bytes are not what stands between the front of a delta and its crc: the first fault.
+#[derive(Clone, Copy, Drop)]
+pub enum BodyError {
+    /// In the sender's ranges, or in the asked ones, which come after them.
+    InRanges(RangesError),
+    /// In the entries, which come last.
+    InEntries(EntriesError),
 }

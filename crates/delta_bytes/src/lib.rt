@@ -3,10 +3,14 @@
 //! that was read.
 #![tactic(auto)]
 
+mod body;
 mod counted;
 mod entry;
 mod error;
 pub mod layout;
 mod lists;
+mod ranges;
 mod seen;
-pub use error::EntriesError;
+
+pub use body::{Body, judge_body};
+pub use error::{BodyError, EntriesError, RangesError};

@@ -1,7 +1,7 @@
 //! The lists of offsets among a delta's entries, judged where they stand in its bytes.
 
 ghost use Rattle.std.specs.Prelude.{◌≡◌, ℤ, pos, ◌+ℤ◌, List, MatchOption};
-ghost use Rattle.delta_bytes.specs.Entries.{OffsetsRise, last_listed};
+ghost use Rattle.deltas.specs.Entries.{OffsetsRise, last_listed};
 ghost use Rattle.delta_bytes.specs.Judging.{offset_at, offsets_of, IsListAt, IsNextList};
 
 use crate::layout::{COUNT_AT, OFFSET_SIZE, OFFSETS_AT};

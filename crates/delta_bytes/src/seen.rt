@@ -5,7 +5,7 @@ ghost use Rattle.batch_codec.specs.Offsets.{first_offset, last_offset};
 ghost use Rattle.content.specs.Content.{IsInRange};
 ghost use Rattle.cover_ranges.specs.Runs.{covers, IsCanonical, CoversAll, CoversAny};
 ghost use Rattle.copy_images.specs.Judging.{ranges_of};
-ghost use Rattle.delta_bytes.specs.Entries.{OffsetsRise, AreCovered};
+ghost use Rattle.deltas.specs.Entries.{OffsetsRise, AreCovered};
 ghost use Rattle.delta_bytes.specs.Judging.{offsets_of, first_starts_by};
 
 use crate::lists::{ListBytes, OffsetBytes, offset_at};

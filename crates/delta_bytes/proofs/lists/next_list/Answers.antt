@@ -2,7 +2,7 @@ use Rattle.std.proofs.Common.{rules, arith, subst, sym}
 use Rattle.std.specs.Prelude.{ℤ, ◌<ℤ◌, FitsSigned}
 use Rattle.std.specs.Int.{w64}
 use Rattle.std.proofs.lemmas.Int.{ints, to_z-of_z}
-use Rattle.delta_bytes.specs.Entries.{OffsetsRise}
+use Rattle.deltas.specs.Entries.{OffsetsRise}
 use Rattle.delta_bytes.specs.Judging.{offsets_of}
 use Rattle.delta_bytes.proofs.OffsetLists.{low_base, falling}
 use Rattle.delta_bytes.proofs.lists.next_list.Goals as goal
