@@ -1,7 +1,6 @@
 -- Entries behind their count.
-use Rattle.std.proofs.Common.{get_or, ◌≡◌, ℕ, ◌+◌, ◌-◌, ◌≤◌, ◌<◌, ℤ, pos, inl, inr, List, [], ◌∷◌, ◌++◌, length, take, drop, refl, sym, ap, subst, ◌∙◌, arith}
-use Rattle.std.specs.Prelude.{◌<ℤ◌, ◌≤ℤ◌, Result, Ok, Err, OnOk, IfErr}
-use Rattle.std.specs.List.{flat_map}
+use Rattle.std.proofs.Common.{◌≡◌, ℕ, ◌-◌, ◌≤◌, ◌<◌, ℤ, pos, inr, List, [], ◌∷◌, ◌++◌, length, take, drop, refl, sym, ap, subst, ◌∙◌, arith}
+use Rattle.std.specs.Prelude.{◌<ℤ◌, Result, Ok, Err, OnOk, IfErr}
 use Rattle.std.specs.Int.{w32}
 use Rattle.std.proofs.lemmas.Int.{ints}
 use Rattle.std.proofs.lemmas.List.{take_rest}
@@ -9,15 +8,13 @@ use Rattle.batch_codec.specs.Grammar.{fields}
 use Rattle.batch_codec.specs.Fields.{unsigned_at}
 use Rattle.batch_codec.proofs.Fixed.{wide32, fields_back}
 use Rattle.cover_ranges.specs.Runs.{Runs}
-use Rattle.copy_images.proofs.Parts.{IsBytes}
+use Rattle.copy_images.proofs.Parts.{IsBytes, signed_field}
 use Rattle.deltas.specs.Entries.{Entry}
 use Rattle.delta_bytes.specs.declared.error.EntriesError.{EntriesError}
 use Rattle.delta_bytes.specs.declared.error.EntriesError.TheVariants.{BadBatch, Outside, Extra}
-use Rattle.delta_bytes.specs.EntryBytes.{entry_bytes}
 use Rattle.delta_bytes.specs.EntryLists.{HasEntries, HoldsEntries, EntriesFault}
 use Rattle.delta_bytes.specs.RangeLists.{count_encoding, count_in}
 use Rattle.delta_bytes.specs.Faults.{HasItems, AreAllItems, ItemsFault}
-use Rattle.delta_bytes.proofs.OffsetLists.{signed_field}
 
 -- what stands behind a count
 pub count_front : (bytes : List ℕ) → IsBytes bytes → 4 ≤ length bytes → bytes ≡ count_encoding (count_in bytes) ++ drop 4 bytes

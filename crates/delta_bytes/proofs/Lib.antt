@@ -5,3 +5,6 @@ pub mod NextEntry
 pub mod Walk
 pub mod CountedEntries
 pub mod RangeParts
+pub mod OneEntry
+pub mod OneFault
+pub mod OneBody

@@ -1,6 +1,6 @@
 -- From a list or a batch to an entry, and back.
-use Rattle.std.proofs.Common.{get_or, ◌≡◌, ◌≢◌, ℕ, zero, suc, ◌+◌, ◌*◌, ◌≤◌, ◌<◌, ℤ, pos, ◌+ℤ◌, Bool, true, false, List, [], ◌∷◌, ◌++◌, length, drop, refl, sym, ap, subst, ◌∙◌, arith}
-use Rattle.std.specs.Prelude.{◌<ℤ◌, ◌≤ℤ◌, IsTrue, ◌↔◌, Result, Ok, Err, IfErr}
+use Rattle.std.proofs.Common.{get_or, ◌≡◌, ◌≢◌, ℕ, ◌+◌, ◌*◌, ℤ, pos, Bool, true, false, List, ◌∷◌, ◌++◌, length, drop, sym, ap, subst, ◌∙◌, arith}
+use Rattle.std.specs.Prelude.{◌≤ℤ◌, IsTrue, ◌↔◌, Result, Ok, Err, IfErr}
 use Rattle.std.proofs.lemmas.Int.{ints}
 use Rattle.batch_codec.specs.Values.{BatchValue}
 use Rattle.batch_codec.specs.Grammar.{batch_encoding}
@@ -9,28 +9,31 @@ use Rattle.cover_ranges.specs.Runs.{Runs, covers, CoversAll, CoversAny}
 use Rattle.copy_images.specs.Refusals as images
 use Rattle.delta_bytes.specs.declared.layout.TheConstants.{LISTED, SENT}
 use Rattle.delta_bytes.specs.declared.entry.EntryError.{EntryError}
-use Rattle.delta_bytes.specs.declared.entry.EntryError.TheVariants.{Bad, Unseen}
-use Rattle.deltas.specs.Entries.{Entry, last_listed, AreCovered, IsWithin}
+use Rattle.delta_bytes.specs.declared.entry.EntryError.TheVariants.{Unseen}
+use Rattle.deltas.specs.Entries.{Entry, last_listed, AreCovered}
 use Rattle.deltas.specs.Entries.Entry.{Listed, Sent}
-use Rattle.delta_bytes.specs.EntryBytes.{list_encoding, entry_bytes, IsNext}
-use Rattle.delta_bytes.specs.Judging.{IsListAt, IsNextList, IsEntryAt, RefusesEntry}
+use Rattle.delta_bytes.specs.EntryBytes.{list_encoding, IsNext}
+use Rattle.delta_bytes.specs.Judging.{IsNextList, IsEntryAt, RefusesEntry}
 use Rattle.delta_bytes.proofs.OffsetLists.{length-list}
 
 -- ---- a list
 
 listed_next : (low base : ℤ) (os : List ℤ) (bytes : List ℕ) → IsNextList low base os bytes → IsNext low (Listed base os) (LISTED ∷ bytes)
 listed_next low base os bytes next = record {
-  may_follow = (next.from_low, record {
-    rise = next.rise;
-    base_fits = next.list.listable.base_fits;
-    offsets_fit = next.list.listable.offsets_fit;
-    counted = next.list.listable.counted;
-  });
+  may_follow = (
+    next.from_low,
+    record {
+      rise = next.rise;
+      base_fits = next.list.listable.base_fits;
+      offsets_fit = next.list.listable.offsets_fit;
+      counted = next.list.listable.counted;
+    },
+  );
   rest = next.list.rest;
   encoded = ap (λ (x : List ℕ). LISTED ∷ x) next.list.encoded;
 }
 
-first_byte : (a b : ℕ) (xs ys : List ℕ) → a ∷ xs ≡ b ∷ ys → a ≡ b
+pub first_byte : (a b : ℕ) (xs ys : List ℕ) → a ∷ xs ≡ b ∷ ys → a ≡ b
 first_byte a b xs ys e = ap (λ (x : List ℕ). get_or x 0 0) e
 
 pub no_listed : (low : ℤ) (bytes : List ℕ) → ((base : ℤ) (os : List ℤ) → IsNextList low base os bytes → ⊥) → (x : Entry) → IsNext low x (LISTED ∷ bytes) → ⊥

@@ -1,29 +1,23 @@
 -- Lists of offsets in bytes: what is read where they were written, and the other way round.
-use Rattle.std.proofs.Common.{get_or, ◌≡◌, ℕ, zero, suc, ◌+◌, ◌-◌, ◌*◌, ◌^◌, ◌≤◌, ◌<◌, ℤ, pos, List, [], ◌∷◌, ◌++◌, length, take, drop, refl, sym, ap, subst, ◌∙◌, append_assoc, append-nil, arith}
-use Rattle.std.specs.Prelude.{negsuc, ◌/◌, ◌≤ℤ◌, ◌<ℤ◌, FitsSigned, unsigned_abs, map}
+use Rattle.std.proofs.Common.{◌≡◌, ℕ, zero, suc, ◌+◌, ◌-◌, ◌*◌, ◌≤◌, ◌<◌, ℤ, pos, List, [], ◌∷◌, ◌++◌, length, take, drop, refl, sym, ap, subst, ◌∙◌, append_assoc, append-nil, arith}
+use Rattle.std.specs.Prelude.{◌/◌, ◌<ℤ◌, FitsSigned}
 use Rattle.std.specs.List.{AllByRecursion, flat_map}
-use Rattle.std.specs.Int.{Width, w8, w32, w64, from_be_bytes, to_be_bytes, cast_signed, cast_unsigned, FitsUnsignedBits}
+use Rattle.std.specs.Int.{w32, w64, cast_signed, cast_unsigned}
 use Rattle.std.specs.Simd.{first_chunks}
-use mir.Val.{bits}
-use Rattle.std.proofs.Math.Facts.{Fits-of_z}
-use Rattle.std.proofs.lemmas.Int.{ints, of_z-to_z, to_z-of_z}
-use Rattle.std.proofs.lemmas.List.{length-append, length-take, length-drop, length-map, take-append-drop, take_at, drop_at, take_rest, drop-drop}
+use Rattle.std.proofs.lemmas.Int.{ints, to_z-of_z}
+use Rattle.std.proofs.lemmas.List.{length-append, length-take, length-drop, length-map, take-append-drop, take_at, drop_at, drop-drop}
 use Rattle.batch_codec.specs.Grammar.{Field, fields, signed}
 use Rattle.batch_codec.specs.Fields.{unsigned_at, signed_at}
 use Rattle.batch_codec.proofs.Steps.{IsBytes-drop, IsBytes-take}
-use Rattle.batch_codec.proofs.Fixed.{IsWide, wide32, wide64, fields_at, fields_back, fields_again, length-fields, unsigned-below}
+use Rattle.batch_codec.proofs.Fixed.{wide32, wide64, fields_at, fields_back, fields_again}
 use Rattle.copy_images.specs.declared.layout.TheConstants.{MAX_COUNT}
-use Rattle.copy_images.proofs.Parts.{IsBytes, signed_fits, below_zero}
+use Rattle.copy_images.proofs.Parts.{IsBytes, signed_field, signed_fits}
+use Rattle.copy_images.proofs.PartsAgain.{number_in, fits_field, signed_again}
 use Rattle.deltas.specs.Entries.{OffsetsRise}
 use Rattle.delta_bytes.specs.EntryBytes.{offset_encoding, list_encoding}
-use Rattle.delta_bytes.specs.Judging.{offset_at, offsets_of, IsListable, IsListAt, IsNextList}
+use Rattle.delta_bytes.specs.Judging.{offset_at, offsets_of, IsListAt, IsNextList}
 
 -- ---- from bytes
-
--- a number that was read as a signed one, as a field
-pub signed_field : (w : Width) → IsWide w → (offset : ℕ) (bytes : List ℕ) (z : ℤ) → IsBytes bytes → signed_at w offset bytes ≡ z → unsigned_at w offset bytes ≡ cast_unsigned w z
-signed_field w wide offset bytes z fits is =
-    sym (of_z-to_z w (unsigned_at w offset bytes) (unsigned-below w wide offset bytes fits)) ∙ ap (cast_unsigned w) is
 
 offset_front : (bytes : List ℕ) → length bytes ≡ 8 → signed_at w64 0 bytes ≡ offset_at bytes
 offset_front bytes len =
@@ -92,15 +86,6 @@ list_back bytes base n parts fits counted small long chunks base_is =
     }
 
 -- ---- and back
-
-number_in : List Field → ℕ → ℕ
-number_in fs i = (get_or fs i (w8, 0)).1
-
-fits_field : (w : Width) (z : ℤ) → FitsSigned w z → cast_unsigned w z < 2 ^ bits w
-fits_field w z fits = (Fits-of_z fits).fits
-
-signed_again : (w : Width) (z : ℤ) (n : ℕ) → FitsSigned w z → n ≡ cast_unsigned w z → cast_signed w n ≡ z
-signed_again w z n fits is = ap (cast_signed w) is ∙ to_z-of_z w z fits
 
 offset_again : (o : ℤ) (rest : List ℕ) → FitsSigned w64 o → (offset_at (take 8 (offset_encoding o ++ rest)) ≡ o) × (drop 8 (offset_encoding o ++ rest) ≡ rest)
 unfolding offset_encoding number_in
@@ -204,15 +189,6 @@ pub negative_list : (bytes : List ℕ) (field : ℤ) → field ≡ signed_at w32
 negative_list bytes field is less base os at =
     let e : field ≡ pos (length os) = is ∙ (list_again base os bytes at).counted in
     omega (arith, ints, e, less)
-
-pub counted_is : (field : ℤ) (n : ℕ) → FitsSigned w32 field → FitsUnsignedBits 64 (cast_signed w32 (cast_unsigned w32 field)) → n ≡ unsigned_abs (cast_signed w32 (cast_unsigned w32 field)) → (field ≡ pos n) × (n ≤ MAX_COUNT)
-counted_is field n fits whole is =
-    let same = to_z-of_z w32 field fits in
-    by field fits (subst (FitsUnsignedBits 64) same whole) (is ∙ ap unsigned_abs same)
-  where
-    by : (z : ℤ) → FitsSigned w32 z → FitsUnsignedBits 64 z → n ≡ unsigned_abs z → (z ≡ pos n) × (n ≤ MAX_COUNT)
-    by (pos k) fits whole is = (ap pos (sym is), omega (arith, fits.sfits, is))
-    by (negsuc k) fits whole is = absurd (omega (arith, ints, whole))
 
 pub cut_list : (bytes : List ℕ) (field : ℤ) (n : ℕ) → field ≡ signed_at w32 8 bytes → field ≡ pos n → length bytes < 12 + 8 * n → (base : ℤ) (os : List ℤ) → IsListAt base os bytes → ⊥
 cut_list bytes field n is count short base os at =

@@ -1,21 +1,16 @@
 -- A list of ranges in bytes: what is read where it was written, and the other way round.
-use Rattle.std.proofs.Common.{get_or, ◌≡◌, ℕ, zero, suc, ◌+◌, ◌-◌, ◌*◌, ◌^◌, ◌≤◌, ◌<◌, ℤ, pos, ◌⊎◌, inl, inr, List, [], ◌∷◌, ◌++◌, length, take, drop, refl, sym, ap, subst, ◌∙◌, append_assoc, append-nil, arith}
-use Rattle.std.specs.Prelude.{negsuc, ◌/◌, ◌≤ℤ◌, ◌<ℤ◌, FitsSigned, unsigned_abs, Bool, true, false, MatchBool}
+use Rattle.std.proofs.Common.{◌≡◌, ℕ, zero, suc, ◌+◌, ◌-◌, ◌*◌, ◌≤◌, ℤ, pos, List, ◌++◌, length, take, drop, refl, sym, ap, subst, ◌∙◌, append_assoc, arith}
+use Rattle.std.specs.Prelude.{◌/◌}
 use Rattle.std.specs.List.{AllByRecursion, flat_map}
-use Rattle.std.specs.Int.{Width, w8, w32, w64, cast_signed, cast_unsigned, FitsUnsignedBits}
 use Rattle.std.specs.Simd.{first_chunks}
-use Rattle.std.proofs.lemmas.Int.{ints, to_z-of_z}
-use Rattle.std.proofs.lemmas.List.{length-append, length-take, length-drop, length-map, take-append-drop, take_rest, drop-drop}
-use Rattle.batch_codec.specs.Fields.{signed_at}
+use Rattle.std.proofs.lemmas.List.{length-take, length-drop, length-map, take-append-drop, take_rest, drop-drop}
 use Rattle.batch_codec.proofs.Steps.{IsBytes-drop, IsBytes-take}
-use Rattle.cover_ranges.specs.Runs.{Runs}
 use Rattle.copy_images.specs.declared.layout.TheConstants.{MAX_COUNT}
 use Rattle.copy_images.specs.Images.{range_encoding}
-use Rattle.copy_images.specs.Refusals.{FitsInt64, IsCoverFrom}
+use Rattle.copy_images.specs.Refusals.{FitsInt64}
 use Rattle.copy_images.specs.Judging.{range_at, ranges_of}
 use Rattle.copy_images.proofs.Parts.{IsBytes, ranges_back, ranges_fit}
-use Rattle.delta_bytes.specs.declared.error.RangesError.TheVariants.{Short, BadCover}
-use Rattle.delta_bytes.specs.RangeLists.{count_encoding, count_in, ranges_encoding, IsRangeList, HasRanges, RangesFault}
+use Rattle.delta_bytes.specs.RangeLists.{count_encoding, count_in, ranges_encoding, IsRangeList}
 use Rattle.delta_bytes.proofs.CountedEntries.{count_front}
 
 length-chunks : (n : ℕ) (bytes : List ℕ) → length (first_chunks 16 n bytes) ≡ n

@@ -1,13 +1,12 @@
 -- Entries judged one after the other.
-use Rattle.std.proofs.Common.{get_or, ◌≡◌, ℕ, zero, suc, ◌+◌, ◌-◌, ◌≤◌, ◌<◌, ℤ, pos, ◌+ℤ◌, true, List, [], ◌∷◌, ◌++◌, length, take, drop, refl, sym, ap, subst, ◌∙◌, append_assoc, append-nil, arith}
+use Rattle.std.proofs.Common.{◌≡◌, ℕ, ◌+◌, ◌-◌, ◌≤◌, ◌<◌, ℤ, pos, ◌+ℤ◌, true, List, [], ◌∷◌, ◌++◌, length, take, drop, refl, sym, ap, subst, ◌∙◌, append_assoc, append-nil, arith}
 use Rattle.std.specs.Prelude.{◌<ℤ◌, ◌≤ℤ◌, ◌↔◌, ◌^◌, IsTrue}
-use Rattle.std.specs.List.{AllByRecursion, flat_map, fold}
+use Rattle.std.specs.List.{flat_map, fold}
 use Rattle.std.proofs.lemmas.Int.{ints}
 use Rattle.std.proofs.lemmas.List.{length-append, take_rest, drop_at}
 use Rattle.std.proofs.lemmas.Grind.{flat_map-append}
-use Rattle.batch_codec.specs.Values.{BatchValue}
-use Rattle.batch_codec.specs.Offsets.{first_offset, last_offset}
-use Rattle.cover_ranges.specs.Runs.{Runs, covers, IsCanonical, CoversAll, CoversAny}
+use Rattle.batch_codec.specs.Offsets.{first_offset}
+use Rattle.cover_ranges.specs.Runs.{Runs, covers, IsCanonical}
 use Rattle.cover_ranges.proofs.RunsFrom.{RunsFrom, canonical_from, from_canonical}
 use Rattle.copy_images.specs.Judging.{ending_from}
 use Rattle.copy_images.proofs.Judged.{skipped}
@@ -72,9 +71,10 @@ trans a b c p q = omega (arith, ints, p, q)
 within_left : (low : ℤ) (runs asked left asked_left : Runs) (x : Entry) → SameFrom low runs left → SameFrom low asked asked_left → MayFollow low x → IsWithin runs asked x → IsWithin left asked_left x
 within_left low runs asked left asked_left (Listed base os) same same_asked may within =
     (sym (same base may.0) ∙ within.0, listed_same base runs left os (λ q le. same q (trans low base q may.0 le)) may.1.rise within.1)
-within_left low runs asked left asked_left (Sent b) same same_asked may within =
-    (λ o p q. subst IsTrue (same o (trans low (first_offset b) o may.0 p)) (within.0 o p q),
-    λ any. within.1 (any.0, any.1, any.2, subst IsTrue (sym (same_asked any.0 (trans low (first_offset b) any.0 may.0 any.1))) any.3))
+within_left low runs asked left asked_left (Sent b) same same_asked may within = (
+  λ o p q. subst IsTrue (same o (trans low (first_offset b) o may.0 p)) (within.0 o p q),
+  λ any. within.1 (any.0, any.1, any.2, subst IsTrue (sym (same_asked any.0 (trans low (first_offset b) any.0 may.0 any.1))) any.3),
+)
 
 pub within_same : (low : ℤ) (runs asked left asked_left : Runs) (x : Entry) → SameFrom low runs left → SameFrom low asked asked_left → MayFollow low x → IsWithin runs asked x ↔ IsWithin left asked_left x
 within_same low runs asked left asked_left x same same_asked may =
@@ -82,7 +82,7 @@ within_same low runs asked left asked_left x same same_asked may =
 
 -- ---- one entry more
 
-abbrev low_from : ℤ → List Entry → ℤ
+abbrev pub low_from : ℤ → List Entry → ℤ
 low_from low xs = fold (λ _ x. entry_last x +ℤ pos 1) low xs
 
 low_more : (low : ℤ) (xs : List Entry) (x : Entry) → low_from low (xs ++ x ∷ []) ≡ entry_last x +ℤ pos 1
@@ -171,9 +171,15 @@ pub not_within : (runs asked : Runs) (bytes : List ℕ) (index count : ℕ) (low
     → fault ≡ Unseen → RefusesEntry left asked_left low rest fault → EntriesFault runs asked count bytes Outside
 not_within runs asked bytes index count low rest left asked_left fault w few is refuses =
     let unseen : RefusesEntry left asked_left low rest Unseen = subst (RefusesEntry left asked_left low rest) is refuses in
-    let next = unseen.1 in
-    (w.entries, rest, unseen.0, w.has, omega (arith, few, w.counted), subst (λ (z : ℤ). IsNext z unseen.0 rest) w.low_is next,
-    λ within. unseen.2 ((within_same low runs asked left asked_left unseen.0 w.same w.asked_same next.may_follow).0 within))
+    let next = unseen.1 in (
+      w.entries,
+      rest,
+      unseen.0,
+      w.has,
+      omega (arith, few, w.counted),
+      subst (λ (z : ℤ). IsNext z unseen.0 rest) w.low_is next,
+      λ within. unseen.2 ((within_same low runs asked left asked_left unseen.0 w.same w.asked_same next.may_follow).0 within),
+    )
 
 pub more_bytes : (runs asked : Runs) (bytes : List ℕ) (index count : ℕ) (low : ℤ) (rest : List ℕ) (left asked_left : Runs) → IsWalked runs asked bytes index low rest left asked_left → index ≤ count → count ≤ index → 0 < length rest
     → EntriesFault runs asked count bytes Extra

@@ -1,9 +1,6 @@
 -- Entries one after another in bytes, and the first fault of bytes that should be so many.
-use Rattle.std.specs.Prelude.{◌≡◌, ℕ, ◌<◌, ◌⊎◌, ℤ, pos, ◌+ℤ◌, ◌<ℤ◌, List, [], ◌∷◌, ◌++◌, length}
+use Rattle.std.specs.Prelude.{◌≡◌, ℕ, ◌<◌, ℤ, pos, ◌+ℤ◌, List, [], ◌++◌, length}
 use Rattle.std.specs.List.{flat_map, fold}
-use Rattle.std.specs.Int.{w32}
-use Rattle.batch_codec.specs.Grammar.{fields, signed}
-use Rattle.batch_codec.specs.Fields.{signed_at}
 use Rattle.cover_ranges.specs.Runs.{Runs}
 use Rattle.delta_bytes.specs.declared.layout.TheConstants.{LEAST_BASE}
 use Rattle.delta_bytes.specs.declared.error.EntriesError.{EntriesError}

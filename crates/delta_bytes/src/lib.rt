@@ -7,6 +7,7 @@ mod body;
 mod counted;
 mod entry;
 mod error;
+pub mod laws;
 pub mod layout;
 mod lists;
 mod ranges;

@@ -54,7 +54,7 @@ fn last_rising(before: i64, offsets: &[OffsetBytes]) -> Option<i64>
     ensures { MatchOption result
         (OffsetsRise (before +ℤ pos 1) (offsets_of offsets.now) → ⊥)
         (λ last. OffsetsRise (before +ℤ pos 1) (offsets_of offsets.now)
-            × (last ≡ last_listed before (offsets_of offsets.now))) }
+        × (last ≡ last_listed before (offsets_of offsets.now))) }
 {
     let mut last = before;
     for bytes in offsets {
@@ -72,7 +72,7 @@ fn last_from(base: i64, offsets: &[OffsetBytes]) -> Option<i64>
     ensures { MatchOption result
         (OffsetsRise base (offsets_of offsets.now) → ⊥)
         (λ last. OffsetsRise base (offsets_of offsets.now)
-            × (last ≡ last_listed base (offsets_of offsets.now))) }
+        × (last ≡ last_listed base (offsets_of offsets.now))) }
 {
     let Some((first, later)) = offsets.split_first() else {
         return Some(base);
@@ -89,7 +89,7 @@ pub(crate) fn next_list(bytes: &[u8], low: i64) -> Option<(ListBytes<'_>, i64)>
     ensures { MatchOption result
         ((base : ℤ) → (offsets : List ℤ) → IsNextList low base offsets bytes.now → ⊥)
         (λ found. IsNextList low found.0.base (offsets_of found.0.offsets.now) bytes.now
-            × (found.1 ≡ last_listed found.0.base (offsets_of found.0.offsets.now))) }
+        × (found.1 ≡ last_listed found.0.base (offsets_of found.0.offsets.now))) }
 {
     let Some(list) = list_at(bytes) else {
         return None;

@@ -44,11 +44,7 @@ fn cut_ranges(bytes: &[u8], behind: usize) -> Result<CutRanges<'_>, RangesError>
 }
 
 /// Cuts off the ranges in front, if they are maximal ones from `low` on.
-pub(crate) fn ranges_at(
-    bytes: &[u8],
-    low: i64,
-    behind: usize,
-) -> Result<CutRanges<'_>, RangesError>
+pub(crate) fn ranges_at(bytes: &[u8], low: i64, behind: usize) -> Result<CutRanges<'_>, RangesError>
     requires low { pos 0 ≤ℤ low }
     requires behind { behind ≤ COUNT_SIZE }
     ensures cuts { IfOk result (λ cut.

@@ -89,7 +89,7 @@ pub(crate) fn is_span_within(
     requires in_range { IsInRange batch.now }
     ensures { IsTrue result
         ↔ (CoversAll (ranges_of ranges.now) (first_offset batch.now) (last_offset batch.now)
-            × ¬ CoversAny (ranges_of asked.now) (first_offset batch.now) (last_offset batch.now)) }
+        × ¬ CoversAny (ranges_of asked.now) (first_offset batch.now) (last_offset batch.now)) }
 {
     let (first, last) = (batch.base(), batch.last_offset());
     covers_all(ranges, first, last) && !covers_any(asked, first, last)

@@ -1,5 +1,5 @@
 use Rattle.std.proofs.Common.{rules, arith, ◌≡◌, ◌+ℤ◌, pos}
-use Rattle.std.specs.Prelude.{ℤ, ◌^◌, ◌<ℤ◌, FitsSigned}
+use Rattle.std.specs.Prelude.{◌^◌, ◌<ℤ◌, FitsSigned}
 use Rattle.std.specs.Int.{w64, cast_signed, cast_unsigned}
 use Rattle.std.proofs.lemmas.Int.{ints}
 use Rattle.copy_images.specs.Judging.{ranges_of}

@@ -2,7 +2,6 @@ use Rattle.std.proofs.Common.{rules, ◌≡◌, ◌∷◌}
 use Rattle.std.specs.Int.{w64}
 use Rattle.std.proofs.lemmas.Int.{to_z-of_z}
 use Rattle.copy_images.specs.Judging.{ranges_of}
-use Rattle.delta_bytes.specs.declared.layout.TheConstants.{LISTED, SENT}
 use Rattle.delta_bytes.proofs.NextEntry.{refused_list, refused_batch}
 use Rattle.delta_bytes.proofs.entry.judge_entry.Goals as goal
 

@@ -1,4 +1,4 @@
-use Rattle.std.proofs.Common.{subst, rules, arith, ap, ◌∙◌, ◌+◌, length}
+use Rattle.std.proofs.Common.{subst, rules, ap, ◌∙◌, ◌+◌, length}
 use Rattle.std.specs.Prelude.{ℕ, ℤ, List, FitsSigned}
 use Rattle.std.specs.Int.{w64}
 use Rattle.std.proofs.lemmas.Int.{to_z-of_z}

@@ -1,9 +1,8 @@
-use Rattle.std.proofs.Common.{rules, pos, ap, ◌∙◌, ◌≡◌, ◌≤◌, ℕ}
-use Rattle.std.specs.Prelude.{ℤ, ◌<ℤ◌, FitsSigned}
+use Rattle.std.proofs.Common.{rules}
+use Rattle.std.specs.Prelude.{FitsSigned}
 use Rattle.std.specs.Int.{w32, w64}
-use Rattle.copy_images.proofs.Parts.{below_zero}
-use Rattle.copy_images.specs.declared.layout.TheConstants.{MAX_COUNT}
-use Rattle.delta_bytes.proofs.OffsetLists.{short_list, negative_list, counted_is, cut_list, list_found}
+use Rattle.copy_images.proofs.Parts.{below_zero, counted_is}
+use Rattle.delta_bytes.proofs.OffsetLists.{short_list, negative_list, cut_list, list_found}
 use Rattle.delta_bytes.proofs.lists.list_at.Goals as goal
 
 pub returns-then-bytes-lt-OFFSETS_AT : goal.returns-then-bytes-lt-OFFSETS_AT

@@ -1,7 +1,7 @@
 use Rattle.std.proofs.Common.{rules}
 use Rattle.std.specs.Prelude.{FitsSigned}
 use Rattle.std.specs.Int.{w32}
-use Rattle.delta_bytes.proofs.OffsetLists.{counted_is}
+use Rattle.copy_images.proofs.Parts.{counted_is}
 use Rattle.delta_bytes.proofs.RangeParts.{ranges_found}
 use Rattle.delta_bytes.proofs.ranges.cut_ranges.Goals as goal
 

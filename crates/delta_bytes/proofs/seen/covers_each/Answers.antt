@@ -1,4 +1,4 @@
-use Rattle.std.proofs.Common.{◌+◌, ◌≡◌, ◌∙◌, Bool, false, subst, sym, rules}
+use Rattle.std.proofs.Common.{◌+◌, ◌∙◌, false, subst, sym, rules}
 use Rattle.std.specs.Prelude.{FitsSigned, IsTrue}
 use Rattle.std.specs.Int.{w64}
 use Rattle.cover_ranges.specs.Runs.{Runs}
