@@ -8,3 +8,4 @@ pub mod RangeParts
 pub mod OneEntry
 pub mod OneFault
 pub mod OneBody
+pub mod WholeDelta

@@ -18,7 +18,7 @@ pub struct Body<'a> {
     pub ranges: &'a [RangeBytes],
     /// The ranges that were asked, in order.
     pub asked: &'a [RangeBytes],
-    /// The bytes from the count of entries on.
+    /// The entries behind their count.
     pub entries: &'a [u8],
 }
 
@@ -30,8 +30,8 @@ pub struct Body<'a> {
 /// The first fault in the order of the checks, which [`BodyError`] gives.
 pub fn judge_body(bytes: &[u8], start: i64) -> Result<Body<'_>, BodyError>
     requires { pos 0 ≤ℤ start }
-    ensures accepts { IfOk result (λ body. (entries : List Entry)
-        × HasBody start bytes.now (ranges_of body.ranges.now) (ranges_of body.asked.now) entries) }
+    ensures accepts { IfOk result (λ body. (entries : List Entry) × HasBody start bytes.now
+        (ranges_of body.ranges.now) (ranges_of body.asked.now) body.entries.now entries) }
     ensures refuses_for_the_first_fault { IfErr result (BodyFault start bytes.now) }
 {
     let sender = match ranges_at(bytes, start, 0) {

@@ -25,8 +25,8 @@ pub fn one_list_of_ranges()
 /// Bytes are the body of at most one delta: the same ranges, the same asked ones, the same entries.
 pub fn one_body()
     ensures { (start : ℤ) (bytes : List ℕ) (runs asked others other_asked : Runs)
-        (xs ys : List Entry) → HasBody start bytes runs asked xs
-        → HasBody start bytes others other_asked ys
+        (more other : List ℕ) (xs ys : List Entry) → HasBody start bytes runs asked more xs
+        → HasBody start bytes others other_asked other ys
         → (runs ≡ others) × (asked ≡ other_asked) × (xs ≡ ys) }
 {}
 
@@ -34,6 +34,7 @@ pub fn one_body()
 pub fn one_fault()
     ensures one { (start : ℤ) (bytes : List ℕ) (e f : BodyError) → BodyFault start bytes e
         → BodyFault start bytes f → e ≡ f }
-    ensures none { (start : ℤ) (bytes : List ℕ) (runs asked : Runs) (entries : List Entry)
-        (e : BodyError) → HasBody start bytes runs asked entries → BodyFault start bytes e → ⊥ }
+    ensures none { (start : ℤ) (bytes : List ℕ) (runs asked : Runs) (more : List ℕ)
+        (entries : List Entry) (e : BodyError) → HasBody start bytes runs asked more entries
+        → BodyFault start bytes e → ⊥ }
 {}

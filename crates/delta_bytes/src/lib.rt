@@ -5,8 +5,10 @@
 
 mod body;
 mod counted;
+mod delta;
 mod entry;
 mod error;
+mod front;
 pub mod laws;
 pub mod layout;
 mod lists;
@@ -14,4 +16,5 @@ mod ranges;
 mod seen;
 
 pub use body::{Body, judge_body};
-pub use error::{BodyError, EntriesError, RangesError};
+pub use delta::{DeltaBytes, judge_delta};
+pub use error::{BodyError, DeltaError, EntriesError, FrontError, RangesError};
