@@ -9,3 +9,4 @@ pub mod OneEntry
 pub mod OneFault
 pub mod OneBody
 pub mod WholeDelta
+pub mod DeltaAgain

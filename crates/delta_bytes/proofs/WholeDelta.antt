@@ -1,29 +1,29 @@
 -- From the parts of a delta to the whole.
-use Rattle.std.proofs.Common.{get_or, ◌≡◌, ℕ, ◌+◌, ◌-◌, ◌≤◌, ◌<◌, ◌^◌, ℤ, pos, Bool, true, false, ◌⊎◌, inl, inr, List, [], ◌∷◌, ◌++◌, length, take, drop, refl, sym, ap, subst, ◌∙◌, append-nil, arith}
-use Rattle.std.specs.Prelude.{◌≤ℤ◌, FitsSigned, IsTrue, ◌↔◌, if◌then◌else◌}
+use Rattle.std.proofs.Common.{◌≡◌, ℕ, ◌-◌, ◌≤◌, ℤ, pos, Bool, true, false, ◌⊎◌, inl, inr, List, [], ◌∷◌, ◌++◌, length, take, drop, refl, sym, ap, subst, ◌∙◌, append-nil, arith}
+use Rattle.std.specs.Prelude.{FitsSigned, if◌then◌else◌}
 use Rattle.std.specs.List.{flat_map}
-use Rattle.std.specs.Int.{w16, w32, w64, cast_signed, cast_unsigned}
-use Rattle.std.proofs.lemmas.Int.{ints, to_z-of_z}
+use Rattle.std.specs.Int.{w16, w32, w64}
+use Rattle.std.proofs.lemmas.Int.{ints}
 use Rattle.std.proofs.lemmas.List.{drop_at}
 use Rattle.batch_codec.specs.Grammar.{fields, signed}
 use Rattle.batch_codec.specs.Fields.{unsigned_at, signed_at}
 use Rattle.batch_codec.proofs.Steps.{IsBytes-drop}
 use Rattle.batch_codec.proofs.Fixed.{wide16, wide32, wide64, fields_back}
-use Rattle.cover_ranges.specs.Runs.{Runs, covers}
+use Rattle.cover_ranges.specs.Runs.{Runs}
 use Rattle.copy_images.specs.declared.layout.TheConstants.{VERSION, FIRST_VERSION, MAX_COUNT}
 use Rattle.copy_images.specs.Images.{with_crc}
 use Rattle.copy_images.specs.Refusals.{IsLogStart, version_in, has_start, start_in, body_in}
 use Rattle.copy_images.proofs.Contents.{from_cover, seen_from}
 use Rattle.copy_images.proofs.Parts.{IsBytes, signed_field, signed_fits, behind_head, body_from, body_bytes}
 use Rattle.deltas.specs.Entries.{Entry}
-use Rattle.deltas.specs.Deltas.{Delta, IsDelta}
+use Rattle.deltas.specs.Deltas.{IsDelta}
 use Rattle.delta_bytes.specs.declared.layout.TheConstants.{MARK}
 use Rattle.delta_bytes.specs.EntryBytes.{entry_bytes}
-use Rattle.delta_bytes.specs.RangeLists.{count_encoding, count_in, ranges_encoding}
+use Rattle.delta_bytes.specs.RangeLists.{count_encoding, ranges_encoding}
 use Rattle.delta_bytes.specs.declared.error.BodyError.{BodyError}
 use Rattle.delta_bytes.specs.declared.error.DeltaError.TheVariants.{InBody}
 use Rattle.delta_bytes.specs.Faults.{HasBody, BodyFault}
-use Rattle.delta_bytes.specs.Deltas.{front_of, first_front, entries_encoding, body_encoding, IsDeltaOf, delta_with, IsDeltaAt}
+use Rattle.delta_bytes.specs.Deltas.{front_of, first_front, entries_encoding, body_encoding, delta_with, IsDeltaAt}
 use Rattle.delta_bytes.specs.Fronts.{HasCrc, HasStart, Refuses}
 
 -- ---- the front

@@ -4,7 +4,11 @@
 ghost use Rattle.std.specs.Prelude.{◌≡◌, ℕ, ℤ, List};
 ghost use Rattle.cover_ranges.specs.Runs.{Runs};
 ghost use Rattle.deltas.specs.Entries.{Entry};
+ghost use Rattle.deltas.specs.Deltas.{Delta};
 ghost use Rattle.delta_bytes.specs.declared.error.BodyError.{BodyError};
+ghost use Rattle.delta_bytes.specs.declared.error.DeltaError.{DeltaError};
+ghost use Rattle.delta_bytes.specs.Deltas.{IsDeltaOf};
+ghost use Rattle.delta_bytes.specs.Fronts.{Refuses};
 ghost use Rattle.delta_bytes.specs.EntryBytes.{IsNext};
 ghost use Rattle.delta_bytes.specs.RangeLists.{IsRangeList};
 ghost use Rattle.delta_bytes.specs.Faults.{HasBody, BodyFault};
@@ -37,4 +41,20 @@ pub fn one_fault()
     ensures none { (start : ℤ) (bytes : List ℕ) (runs asked : Runs) (more : List ℕ)
         (entries : List Entry) (e : BodyError) → HasBody start bytes runs asked more entries
         → BodyFault start bytes e → ⊥ }
+{}
+
+/// Bytes are one delta at most.
+pub fn one_delta()
+    ensures { (bytes : List ℕ) (e f : Delta) → IsDeltaOf bytes e → IsDeltaOf bytes f → e ≡ f }
+{}
+
+/// Bytes are refused for one first fault.
+pub fn one_refusal()
+    ensures { (bytes : List ℕ) (e f : DeltaError) → Refuses bytes e → Refuses bytes f → e ≡ f }
+{}
+
+/// No fault stands in a delta.
+pub fn a_delta_is_not_refused()
+    ensures { (bytes : List ℕ) (e : Delta) (f : DeltaError) → IsDeltaOf bytes e
+        → Refuses bytes f → ⊥ }
 {}
