@@ -1,6 +1,7 @@
 -- Which deltas a copy may take.
 use Rattle.std.specs.Prelude.{◌≡◌, ◌⊎◌, ℤ, ◌≤ℤ◌, ◌<ℤ◌, true, List, Some}
-use Rattle.std.specs.List.{AllByRecursion}
+use Rattle.std.specs.List.{AllByRecursion, list_any}
+use Rattle.std.specs.Ordering.{int_eq}
 use Rattle.batch_codec.specs.Values.{BatchValue}
 use Rattle.batch_codec.specs.Offsets.{first_offset, last_offset}
 use Rattle.cover_ranges.specs.Runs.{Runs, covers}
@@ -44,3 +45,8 @@ Accepts c e = (base : ℤ) → AcceptsAt c e base
 -- the least base at which the copy may not take it
 abbrev pub IsFirstFault : Content → Delta → ℤ → Type 0
 IsFirstFault c e base = ¬ AcceptsAt c e base × ((before : ℤ) → before <ℤ base → AcceptsAt c e before)
+
+-- the delta lists the offset
+abbrev pub HasListed : Delta → ℤ → Type 0
+HasListed e o = (base : ℤ) × (offsets : List ℤ) × (said_at e base ≡ Lists offsets)
+    × (list_any (λ q. int_eq q o) offsets ≡ true)
