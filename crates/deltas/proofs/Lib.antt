@@ -15,3 +15,4 @@ pub mod Holding
 pub mod Keeping
 pub mod Nothing
 pub mod AcceptedAgain
+pub mod AskedRuns
