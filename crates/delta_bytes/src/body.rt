@@ -13,7 +13,7 @@ use copy_images::ranges::RangeBytes;
 
 /// The parts of a delta behind its front, borrowed from its bytes.
 #[derive(Drop)]
-pub struct Body<'a> {
+pub(crate) struct Body<'a> {
     /// The ranges that the sender has seen, in order.
     pub ranges: &'a [RangeBytes],
     /// The ranges that were asked, in order.
@@ -22,13 +22,8 @@ pub struct Body<'a> {
     pub entries: &'a [u8],
 }
 
-/// Judges what stands between the front of a delta and its crc, of a sender whose log start is `start`,
-/// from 0 on. It takes no memory.
-///
-/// # Errors
-///
-/// The first fault in the order of the checks, which [`BodyError`] gives.
-pub fn judge_body(bytes: &[u8], start: i64) -> Result<Body<'_>, BodyError>
+/// Judges what stands between the front of a delta and its crc, of a sender whose log start is `start`.
+pub(crate) fn judge_body(bytes: &[u8], start: i64) -> Result<Body<'_>, BodyError>
     requires { pos 0 ≤ℤ start }
     ensures accepts { IfOk result (λ body. (entries : List Entry) × HasBody start bytes.now
         (ranges_of body.ranges.now) (ranges_of body.asked.now) body.entries.now entries) }
