@@ -21,7 +21,7 @@ abbrev pub IsBytes : List ℕ → Type 0
 IsBytes bytes = (i : ℕ) → get_or bytes i 0 < 256
 
 -- a number that was read as a signed one, as a field
-signed_field : (w : Width) → IsWide w → (offset : ℕ) (bytes : List ℕ) (z : ℤ) → IsBytes bytes → signed_at w offset bytes ≡ z → unsigned_at w offset bytes ≡ cast_unsigned w z
+pub signed_field : (w : Width) → IsWide w → (offset : ℕ) (bytes : List ℕ) (z : ℤ) → IsBytes bytes → signed_at w offset bytes ≡ z → unsigned_at w offset bytes ≡ cast_unsigned w z
 signed_field w wide offset bytes z fits is =
     sym (of_z-to_z w (unsigned_at w offset bytes) (unsigned-below w wide offset bytes fits)) ∙ ap (cast_unsigned w) is
 
@@ -106,7 +106,7 @@ sealed bytes body end crc parts len is =
     parts ∙ ap (λ (n : ℕ). body ++ fields ((w32, n) ∷ [])) (is ∙ ap crc_of front)
 
 -- a head, what stands between it and the crc, and the crc
-behind_head : (bytes head : List ℕ) (at : ℕ) → IsBytes bytes → at + 4 ≤ length bytes → IsOwnCrc bytes → bytes ≡ head ++ drop at bytes → length head ≡ at
+pub behind_head : (bytes head : List ℕ) (at : ℕ) → IsBytes bytes → at + 4 ≤ length bytes → IsOwnCrc bytes → bytes ≡ head ++ drop at bytes → length head ≡ at
     → bytes ≡ with_crc (head ++ take ((length bytes - 4) - at) (drop at bytes))
 behind_head bytes head at fits long own is len =
     let end = length bytes - 4 in
@@ -174,7 +174,7 @@ body_bytes bytes fits = IsBytes-take _ _ (IsBytes-drop _ bytes fits)
 
 -- ---- as code has it
 
-counted_is : (field : ℤ) (n : ℕ) → FitsSigned w32 field → FitsUnsignedBits 64 (cast_signed w32 (cast_unsigned w32 field)) → n ≡ unsigned_abs (cast_signed w32 (cast_unsigned w32 field)) → (field ≡ pos n) × (n ≤ MAX_COUNT)
+pub counted_is : (field : ℤ) (n : ℕ) → FitsSigned w32 field → FitsUnsignedBits 64 (cast_signed w32 (cast_unsigned w32 field)) → n ≡ unsigned_abs (cast_signed w32 (cast_unsigned w32 field)) → (field ≡ pos n) × (n ≤ MAX_COUNT)
 counted_is field n fits whole is =
     let same = to_z-of_z w32 field fits in
     by field fits (subst (FitsUnsignedBits 64) same whole) (is ∙ ap unsigned_abs same)

@@ -21,13 +21,13 @@ use Rattle.copy_images.specs.Judging.{range_at, ranges_of}
 use Rattle.copy_images.proofs.Parts.{IsFramed, body_from}
 
 -- the number of a field
-number_in : List Field → ℕ → ℕ
+unfoldable pub number_in : List Field → ℕ → ℕ
 number_in fs i = (get_or fs i (w8, 0)).1
 
-fits_field : (w : Width) (z : ℤ) → FitsSigned w z → cast_unsigned w z < 2 ^ bits w
+pub fits_field : (w : Width) (z : ℤ) → FitsSigned w z → cast_unsigned w z < 2 ^ bits w
 fits_field w z fits = (Fits-of_z fits).fits
 
-signed_again : (w : Width) (z : ℤ) (n : ℕ) → FitsSigned w z → n ≡ cast_unsigned w z → cast_signed w n ≡ z
+pub signed_again : (w : Width) (z : ℤ) (n : ℕ) → FitsSigned w z → n ≡ cast_unsigned w z → cast_signed w n ≡ z
 signed_again w z n fits is = ap (cast_signed w) is ∙ to_z-of_z w z fits
 
 -- ---- ranges
@@ -44,7 +44,7 @@ range_again range rest fits =
       drop_at (fields fs) rest 16 refl,
     )
 
-ranges_again : (ranges : Runs) (rest : List ℕ) → AllByRecursion FitsInt64 ranges → (ranges_of (first_chunks 16 (length ranges) (flat_map range_encoding ranges ++ rest)) ≡ ranges) × (drop (16 * length ranges) (flat_map range_encoding ranges ++ rest) ≡ rest)
+pub ranges_again : (ranges : Runs) (rest : List ℕ) → AllByRecursion FitsInt64 ranges → (ranges_of (first_chunks 16 (length ranges) (flat_map range_encoding ranges ++ rest)) ≡ ranges) × (drop (16 * length ranges) (flat_map range_encoding ranges ++ rest) ≡ rest)
 ranges_again [] rest fits = (refl, refl)
 ranges_again (range ∷ ranges) rest fits =
     let others = flat_map range_encoding ranges ++ rest in
@@ -113,7 +113,7 @@ front_again body ranges count rest front =
 
 -- ---- the whole
 
-own_crc : (body bytes : List ℕ) → bytes ≡ with_crc body → IsOwnCrc bytes
+pub own_crc : (body bytes : List ℕ) → bytes ≡ with_crc body → IsOwnCrc bytes
 unfolding with_crc number_in
 own_crc body bytes is =
     let crc : Field = (w32, crc_of body) in
@@ -126,13 +126,13 @@ own_crc body bytes is =
     read ∙ ap crc_of (sym front)
 
 -- what is read behind a head
-record IsBehind (bytes head body : List ℕ) (at : ℕ) : Type 0 where
-  tail : List ℕ
-  parts : bytes ≡ head ++ tail
-  size : length bytes ≡ at + length body + 4
-  body_is : take ((length bytes - 4) - at) (drop at bytes) ≡ body
+pub record IsBehind (bytes head body : List ℕ) (at : ℕ) : Type 0 where
+  pub tail : List ℕ
+  pub parts : bytes ≡ head ++ tail
+  pub size : length bytes ≡ at + length body + 4
+  pub body_is : take ((length bytes - 4) - at) (drop at bytes) ≡ body
 
-behind_head : (bytes head body : List ℕ) (at : ℕ) → bytes ≡ with_crc (head ++ body) → length head ≡ at → IsBehind bytes head body at
+pub behind_head : (bytes head body : List ℕ) (at : ℕ) → bytes ≡ with_crc (head ++ body) → length head ≡ at → IsBehind bytes head body at
 unfolding with_crc
 behind_head bytes head body at is len =
     let crc = fields ((w32, crc_of (head ++ body)) ∷ []) in

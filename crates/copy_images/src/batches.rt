@@ -21,7 +21,7 @@ fn may_follow(batch: &BatchView<'_>, from: i64) -> bool
 }
 
 /// The batch at the front, if it may follow batches that end before `from`.
-fn next_batch(bytes: &[u8], from: i64) -> Option<BatchView<'_>>
+pub fn next_batch(bytes: &[u8], from: i64) -> Option<BatchView<'_>>
     ensures { MatchOption result
         ((b : BatchValue) → IsNext from b bytes.now → ⊥)
         (λ b. IsNext from b bytes.now) }

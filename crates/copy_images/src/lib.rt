@@ -10,13 +10,13 @@
 //! ```
 #![tactic(auto)]
 
-mod batches;
+pub mod batches;
 mod build;
 mod error;
-mod front;
+pub mod front;
 pub mod laws;
 pub mod layout;
-mod ranges;
+pub mod ranges;
 mod read;
 mod write;
 

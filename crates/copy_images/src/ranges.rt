@@ -11,18 +11,18 @@ use cover_ranges::{Cover, OFFSETS_END};
 use std::alloc::{AllocError, Allocator};
 
 /// A range as it stands in an image.
-pub(crate) type RangeBytes = [u8; RANGE_SIZE];
+pub type RangeBytes = [u8; RANGE_SIZE];
 
 /// The first and the last offset of a range.
 #[tactic(auto, unfolding(crate::specs::Judging::range_at))]
-fn range_at(bytes: &RangeBytes) -> (i64, i64)
+pub fn range_at(bytes: &RangeBytes) -> (i64, i64)
     ensures { result ≡ range_at bytes.now }
 {
     (be_i64_at(bytes, 0), be_i64_at(bytes, 8))
 }
 
 /// Whether these are the maximal ranges of a set of offsets from `start` on.
-pub(crate) fn is_cover(ranges: &[RangeBytes], start: i64) -> bool
+pub fn is_cover(ranges: &[RangeBytes], start: i64) -> bool
     requires { pos 0 ≤ℤ start }
     ensures { MatchBool result
         (IsCoverFrom start (ranges_of ranges.now))
@@ -41,7 +41,7 @@ pub(crate) fn is_cover(ranges: &[RangeBytes], start: i64) -> bool
 }
 
 /// The ranges from the first on that ends at `offset` or later.
-pub(crate) fn ending_from(ranges: &[RangeBytes], offset: i64) -> &[RangeBytes]
+pub fn ending_from(ranges: &[RangeBytes], offset: i64) -> &[RangeBytes]
     ensures { ranges_of result.now ≡ ending_from offset (ranges_of ranges.now) }
 {
     for at in 0..ranges.len() {
@@ -55,7 +55,7 @@ pub(crate) fn ending_from(ranges: &[RangeBytes], offset: i64) -> &[RangeBytes]
 
 /// Whether the first of the ranges holds all offsets from `first` to `last`.
 #[tactic(auto, unfolding(crate::specs::Judging::first_holds))]
-pub(crate) fn first_holds(ranges: &[RangeBytes], first: i64, last: i64) -> bool
+pub fn first_holds(ranges: &[RangeBytes], first: i64, last: i64) -> bool
     ensures { result ≡ first_holds first last (ranges_of ranges.now) }
 {
     match ranges.first() {

@@ -1,0 +1,12 @@
+pub mod OffsetLists
+pub mod Rising
+pub mod Covered
+pub mod NextEntry
+pub mod Walk
+pub mod CountedEntries
+pub mod RangeParts
+pub mod OneEntry
+pub mod OneFault
+pub mod OneBody
+pub mod WholeDelta
+pub mod DeltaAgain
