@@ -11,8 +11,7 @@ use Rattle.deltas.specs.Entries.{Entry, IsWithin, AreEntries}
 use Rattle.delta_bytes.specs.declared.layout.TheConstants.{LEAST_BASE}
 use Rattle.delta_bytes.specs.declared.error.EntriesError.{EntriesError}
 use Rattle.delta_bytes.specs.declared.error.EntriesError.TheVariants.{BadBatch, Outside, Extra}
-use Rattle.delta_bytes.specs.EntryBytes.{entry_bytes, IsNext}
-use Rattle.delta_bytes.specs.EntryLists.{low_after}
+use Rattle.delta_bytes.specs.EntryBytes.{entry_bytes, IsNext, low_after}
 use Rattle.delta_bytes.specs.RangeLists.{count_encoding, count_in}
 use Rattle.delta_bytes.specs.Faults.{HasItems, AreAllItems, ItemsFault}
 use Rattle.delta_bytes.proofs.OneEntry.{next_once, GoesOn, goes_on, after_first}

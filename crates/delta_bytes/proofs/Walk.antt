@@ -16,8 +16,8 @@ use Rattle.delta_bytes.specs.declared.entry.EntryError.TheVariants.{Bad, Unseen}
 use Rattle.delta_bytes.specs.declared.error.EntriesError.TheVariants.{BadBatch, Outside, Extra}
 use Rattle.deltas.specs.Entries.{Entry, last_listed, entry_base, entry_last, OffsetsRise, AreCovered, MayFollow, IsWithin, AreEntries}
 use Rattle.deltas.specs.Entries.Entry.{Listed, Sent}
-use Rattle.delta_bytes.specs.EntryBytes.{entry_bytes, IsNext}
-use Rattle.delta_bytes.specs.EntryLists.{low_after, HasEntries, HoldsEntries, EntriesFault}
+use Rattle.delta_bytes.specs.EntryBytes.{entry_bytes, IsNext, low_after}
+use Rattle.delta_bytes.specs.EntryLists.{HasEntries, HoldsEntries, EntriesFault}
 use Rattle.delta_bytes.specs.Judging.{IsEntryAt, RefusesEntry}
 use Rattle.delta_bytes.proofs.Covered.{SameFrom, ending_same, covered_within}
 

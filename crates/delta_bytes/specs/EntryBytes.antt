@@ -1,11 +1,11 @@
 -- The bytes of an entry, and the entry that stands at the front of bytes. The form is this project's own; batches stand
 -- in it as Kafka's documentation has them, "Record Batch".
-use Rattle.std.specs.Prelude.{◌≡◌, ℕ, ℤ, pos, List, [], ◌∷◌, ◌++◌, length}
-use Rattle.std.specs.List.{flat_map}
+use Rattle.std.specs.Prelude.{◌≡◌, ℕ, ℤ, pos, ◌+ℤ◌, List, [], ◌∷◌, ◌++◌, length}
+use Rattle.std.specs.List.{flat_map, fold}
 use Rattle.std.specs.Int.{w32, w64}
 use Rattle.batch_codec.specs.Grammar.{fields, signed, batch_encoding}
-use Rattle.delta_bytes.specs.declared.layout.TheConstants.{LISTED, SENT}
-use Rattle.deltas.specs.Entries.{Entry, MayFollow}
+use Rattle.delta_bytes.specs.declared.layout.TheConstants.{LISTED, SENT, LEAST_BASE}
+use Rattle.deltas.specs.Entries.{Entry, entry_last, MayFollow}
 use Rattle.deltas.specs.Entries.Entry.{Listed, Sent}
 
 -- one of the offsets of a list
@@ -21,6 +21,10 @@ list_encoding base offsets =
 abbrev pub entry_bytes : Entry → List ℕ
 entry_bytes (Listed base offsets) = LISTED ∷ list_encoding base offsets
 entry_bytes (Sent b) = SENT ∷ batch_encoding b
+
+-- the offset after the last entry; where there is none, the least base
+abbrev pub low_after : List Entry → ℤ
+low_after entries = fold (λ _ x. entry_last x +ℤ pos 1) LEAST_BASE entries
 
 -- The entry stands at the front of the bytes, and may follow others that end before `low`.
 pub record IsNext (low : ℤ) (x : Entry) (bytes : List ℕ) : Type 0 where

@@ -1,16 +1,12 @@
--- Entries one after another in bytes, and the first fault of bytes that should be so many.
-use Rattle.std.specs.Prelude.{◌≡◌, ℕ, ◌<◌, ℤ, pos, ◌+ℤ◌, List, [], ◌++◌, length}
-use Rattle.std.specs.List.{flat_map, fold}
+-- Words of private clauses: so many entries one after another, and the first fault of bytes that should be that.
+use Rattle.std.specs.Prelude.{◌≡◌, ℕ, ◌<◌, List, [], ◌++◌, length}
+use Rattle.std.specs.List.{flat_map}
 use Rattle.cover_ranges.specs.Runs.{Runs}
 use Rattle.delta_bytes.specs.declared.layout.TheConstants.{LEAST_BASE}
 use Rattle.delta_bytes.specs.declared.error.EntriesError.{EntriesError}
 use Rattle.delta_bytes.specs.declared.error.EntriesError.TheVariants.{BadBatch, Outside, Extra}
-use Rattle.deltas.specs.Entries.{Entry, entry_last, IsWithin, AreEntries}
-use Rattle.delta_bytes.specs.EntryBytes.{entry_bytes, IsNext}
-
--- the offset after the last entry; where there is none, the least base
-abbrev pub low_after : List Entry → ℤ
-low_after entries = fold (λ _ x. entry_last x +ℤ pos 1) LEAST_BASE entries
+use Rattle.deltas.specs.Entries.{Entry, IsWithin, AreEntries}
+use Rattle.delta_bytes.specs.EntryBytes.{entry_bytes, low_after, IsNext}
 
 -- valid entries stand at the front, and a rest behind them
 pub record HasEntries (runs asked : Runs) (entries : List Entry) (bytes rest : List ℕ) : Type 0 where

@@ -10,8 +10,7 @@ use Rattle.delta_bytes.specs.declared.error.EntriesError.{EntriesError}
 use Rattle.delta_bytes.specs.declared.error.EntriesError.TheVariants.{BadBatch, Outside, Extra}
 use Rattle.delta_bytes.specs.declared.error.BodyError.{BodyError}
 use Rattle.delta_bytes.specs.declared.error.BodyError.TheVariants.{InRanges, InEntries}
-use Rattle.delta_bytes.specs.EntryBytes.{entry_bytes, IsNext}
-use Rattle.delta_bytes.specs.EntryLists.{low_after}
+use Rattle.delta_bytes.specs.EntryBytes.{entry_bytes, low_after, IsNext}
 use Rattle.delta_bytes.specs.RangeLists.{count_encoding, count_in, HasRanges, RangesFault}
 
 -- ---- the entries
