@@ -11,3 +11,8 @@ pub mod SentParts
 pub mod Known
 pub mod PatchLaws
 pub mod CopyEvents
+pub mod Holding
+pub mod Keeping
+pub mod Nothing
+pub mod AcceptedAgain
+pub mod AskedRuns

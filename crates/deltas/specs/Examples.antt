@@ -2,7 +2,7 @@
 -- b=3, at offsets 0 to 3.
 use Rattle.std.specs.Prelude.{pos, [], ◌∷◌}
 use Rattle.cover_ranges.specs.Runs.{Runs}
-use Rattle.content.specs.Content.{Content, empty, add}
+use Rattle.content.specs.Content.{Content, empty, add, cut}
 use Rattle.content.specs.Examples.{batch_0, batch_1, batch_2, batch_3, copy_of_four, cleaned_three}
 use Rattle.deltas.specs.Entries.Entry.{Listed, Sent}
 use Rattle.deltas.specs.Deltas.{Delta, delta_of}
@@ -28,3 +28,7 @@ abbrev pub wrong_delta : Delta
 wrong_delta = record delta_of_four {
   entries = Listed (pos 0) (pos 0 ∷ pos 1 ∷ []) ∷ Sent batch_2 ∷ Sent batch_3 ∷ [];
 }
+
+-- the copy of all four, from offset 2 on
+abbrev pub later_copy : Content
+later_copy = cut (pos 2) copy_of_four

@@ -2,16 +2,17 @@
 //! whose outcome was found by hand.
 #![tactic(auto, unfolding(content::specs::ByOffset::put, cover_ranges::specs::Runs::with_range, content::specs::Table::table_of, content::specs::Joins::join, crate::specs::Patches::patch))]
 
-ghost use Rattle.std.specs.Prelude.{◌≡◌, pos, [], ◌∷◌};
+ghost use Rattle.std.specs.Prelude.{◌≡◌, pos, true, false, [], ◌∷◌};
 ghost use Rattle.std.specs.FinMap.{get};
-ghost use Rattle.content.specs.Content.{empty, add, shown_table};
+ghost use Rattle.content.specs.Content.{empty, add, cut, shown_table};
 ghost use Rattle.content.specs.Joins.{join};
 ghost use Rattle.content.specs.Examples.{key_a, key_b, two, batch_0, batch_1, batch_2, batch_3, copy_of_three, copy_of_four};
 ghost use Rattle.deltas.specs.Entries.{sent};
 ghost use Rattle.deltas.specs.Entries.Entry.{Listed, Sent};
+ghost use Rattle.deltas.specs.Deltas.{delta_of};
 ghost use Rattle.deltas.specs.Patches.{patch};
-ghost use Rattle.deltas.specs.Accepting.{IsFor, AcceptsAt};
-ghost use Rattle.deltas.specs.Examples.{zero_and_one, copy_of_two, delta_of_four, delta_of_cleaned, wrong_delta};
+ghost use Rattle.deltas.specs.Accepting.{IsFor, is_for, AcceptsAt};
+ghost use Rattle.deltas.specs.Examples.{zero_and_one, copy_of_two, delta_of_four, delta_of_cleaned, wrong_delta, later_copy};
 
 /// A copy has offsets 0 and 1 and asks for these; then it takes batch 2 too.
 pub fn the_newer_half()
@@ -35,4 +36,15 @@ pub fn a_cleaned_sender()
 pub fn a_list_past_its_batch()
     ensures is_at_fault { ¬ AcceptsAt copy_of_two wrong_delta (pos 0) }
     ensures also_later { ¬ AcceptsAt copy_of_three wrong_delta (pos 0) }
+{}
+
+/// Offsets below a copy's start are known, whoever asked for them. The greater start counts.
+pub fn starts()
+    ensures below_the_receivers_start_is_known { is_for later_copy zero_and_one ≡ true }
+    ensures nothing_below_it_returns { patch later_copy delta_of_four ≡ later_copy }
+    ensures a_later_sender_drops_what_lies_below { patch copy_of_two (delta_of later_copy zero_and_one)
+        ≡ later_copy }
+    // Nothing of offset 0 would be sent; still it isn't known.
+    ensures below_the_senders_start_is_not { is_for empty zero_and_one ≡ false }
+    ensures a_list_across_the_start_is_at_fault { ¬ AcceptsAt (cut (pos 1) copy_of_four) wrong_delta (pos 0) }
 {}

@@ -1,13 +1,14 @@
 //! Laws of what a copy knows: the offsets that it has seen, and those below its start.
 
-ghost use Rattle.std.specs.Prelude.{ℤ, ◌≤ℤ◌};
+ghost use Rattle.std.specs.Prelude.{◌↔◌, ℤ, ◌≤ℤ◌, IsTrue};
+ghost use Rattle.cover_ranges.specs.Runs.{Runs};
 ghost use Rattle.batch_codec.specs.Values.{BatchValue};
-ghost use Rattle.content.specs.Content.{Content, add, cut};
+ghost use Rattle.content.specs.Content.{Content, IsContent, add, cut};
 ghost use Rattle.content.specs.Cleaning.{clean};
 ghost use Rattle.content.specs.Joins.{join};
 ghost use Rattle.deltas.specs.Deltas.{Delta};
 ghost use Rattle.deltas.specs.Patches.{patch};
-ghost use Rattle.deltas.specs.Accepting.{IsKnown};
+ghost use Rattle.deltas.specs.Accepting.{IsKnown, IsFor, is_for};
 
 /// What a copy knows it knows after anything that may happen to it. So an answer to what it asked
 /// earlier is for it later, too.
@@ -20,4 +21,10 @@ pub fn what_is_known_stays_known()
     ensures merging { (a b : Content) (o : ℤ) → IsKnown a o → IsKnown (join a b) o }
     ensures merging_in_other_order { (a b : Content) (o : ℤ) → IsKnown b o → IsKnown (join a b) o }
     ensures patching { (c : Content) (e : Delta) (o : ℤ) → IsKnown c o → IsKnown (patch c e) o }
+{}
+
+/// Whether all that was asked is known is decided by the runs of what the copy has seen, one asked range
+/// after another.
+pub fn what_is_asked_is_judged_by_runs()
+    ensures { (c : Content) (asked : Runs) → IsContent c → IsTrue (is_for c asked) ↔ IsFor c asked }
 {}

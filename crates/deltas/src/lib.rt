@@ -18,6 +18,7 @@ pub mod exchanging;
 pub mod knowing;
 pub mod merging;
 pub mod patching;
+pub mod records;
 
 /// The most offsets that an entry can list.
 pub const MAX_LISTED: usize = 0x7fff_ffff;
