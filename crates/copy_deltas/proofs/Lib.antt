@@ -1,0 +1,4 @@
+pub mod Asked
+pub mod Entries
+pub mod Parts
+pub mod Valid

@@ -1,0 +1,10 @@
+use Rattle.std.proofs.Common.{refl}
+use Rattle.checksum.specs.Crc.{feed_bit, feed_bits, feed_byte, feed_bytes, crc_of}
+use Rattle.copy_images.specs.Images.{with_crc}
+use Rattle.delta_bytes.specs.RangeLists.{ranges_encoding}
+use Rattle.copy_deltas.specs.DeltaBytes.{first_head, entries_encoding}
+use Rattle.copy_deltas.proofs.laws.the_delta_of_version_0_of_an_empty_copy.Goals as goal
+
+pub returns : goal.returns
+unfolding first_head ranges_encoding entries_encoding with_crc crc_of feed_bytes feed_byte feed_bits feed_bit
+returns c = refl
