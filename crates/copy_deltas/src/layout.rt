@@ -24,3 +24,7 @@ pub const MARK: u32 = 0x4b44_4c54;
 pub const VERSION: i16 = 1;
 /// The version before it, which is read: without a log start.
 pub const FIRST_VERSION: i16 = 0;
+/// How many bytes the delta of an empty copy has as it is written, where nothing was asked.
+pub const EMPTY_SIZE: usize = 30;
+/// How many bytes an entry has that lists no offset: its kind, its base and the count.
+pub const EMPTY_LIST_SIZE: usize = 13;

@@ -9,8 +9,10 @@
 //! ```
 #![tactic(auto)]
 
+mod asking;
 pub mod laws;
 pub mod layout;
+mod size;
 mod write;
 
 pub use write::write_delta;

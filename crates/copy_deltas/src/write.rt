@@ -1,6 +1,6 @@
 //! The delta of a copy.
 
-ghost use Rattle.std.specs.Prelude.{◌≡◌, ◌++◌, ◌≤◌, ◌≤ℤ◌, [], pos, min, length, map, IfOk, OnOk};
+ghost use Rattle.std.specs.Prelude.{◌≡◌, ◌++◌, ◌≤◌, ◌≤ℤ◌, [], pos, length, map, IfOk, OnOk};
 ghost use Rattle.std.specs.List.{flat_map};
 ghost use Rattle.batch_codec.specs.Offsets.{first_offset, last_offset, offset_of};
 ghost use Rattle.batch_codec.specs.Views.{record_value};
@@ -8,12 +8,14 @@ ghost use Rattle.cover_ranges.specs.Runs.{IsCanonical};
 ghost use Rattle.content.specs.Content.{IsInRange};
 ghost use Rattle.copy_images.specs.Images.{range_encoding, with_crc};
 ghost use Rattle.deltas.specs.Entries.Entry.{Listed, Sent};
-ghost use Rattle.deltas.specs.Deltas.{offsets_of, is_asked, entry_for, delta_of};
+ghost use Rattle.deltas.specs.Deltas.{offsets_of, entry_for, delta_of};
 ghost use Rattle.delta_bytes.specs.EntryBytes.{offset_encoding, entry_bytes};
 ghost use Rattle.delta_bytes.specs.RangeLists.{ranges_encoding};
 ghost use Rattle.copy_deltas.specs.DeltaBytes.{head_of, entries_encoding, delta_bytes};
 
+use crate::asking::{is_asked, record_count};
 use crate::layout::{MARK, VERSION};
+use crate::size::size_of;
 use batch_codec::{BatchView, RecordView};
 use checksum::crc32c;
 use copy_images::layout::MAX_COUNT;
@@ -65,17 +67,6 @@ fn put_offsets<A: Allocator + Copy>(
     Ok(())
 }
 
-/// How many records a batch has; where that is no `usize`, the greatest one.
-fn record_count(batch: &BatchView<'_>) -> usize
-    ensures { result ≡ min (length batch.now.recs) 18446744073709551615 }
-{
-    let mut count: usize = 0;
-    for _ in batch.recs() {
-        count = count.saturating_add(1);
-    }
-    count
-}
-
 /// Appends the entry that lists a batch's offsets.
 fn put_list<A: Allocator + Copy>(
     out: &mut Vec<u8, A>,
@@ -102,16 +93,6 @@ fn put_sent<A: Allocator + Copy>(
 {
     out.push(SENT)?;
     out.extend_from_slice(batch.bytes())
-}
-
-/// Whether some offset of a batch's span was asked.
-fn is_asked<B: Allocator + Copy>(asked: &Cover<B>, batch: &BatchView<'_>) -> bool
-    requires canonical { IsCanonical asked.now.runs }
-    requires in_range { IsInRange batch.now }
-    requires some { first_offset batch.now ≤ℤ last_offset batch.now }
-    ensures { result ≡ is_asked asked.now.runs batch.now }
-{
-    asked.has_any(batch.base(), batch.last_offset())
 }
 
 /// Appends what a delta says of a batch.
@@ -247,7 +228,8 @@ fn put_delta<A: Allocator + Copy, B: Allocator + Copy, S: BatchStore>(
 }
 
 /// Makes the delta of a copy, for one that has the asked offsets: it sends each batch of whose span none
-/// was asked, and lists the offsets of the others. Each batch's bytes are copied once.
+/// was asked, and lists the offsets of the others. Its memory is taken at once, and each batch's bytes are
+/// copied once.
 ///
 /// # Errors
 ///
@@ -263,7 +245,7 @@ pub fn write_delta<A: Allocator + Copy, B: Allocator + Copy, S: BatchStore>(
     ensures counts_the_asked_ranges { OnOk result (length asked.now.runs ≤ MAX_COUNT) }
     ensures counts_the_entries { OnOk result (length copy.now.kept ≤ MAX_COUNT) }
 {
-    let mut out = Vec::new(alloc);
+    let mut out = Vec::with_capacity(alloc, size_of(copy, asked))?;
     put_delta(&mut out, copy, asked)?;
     Ok(out)
 }

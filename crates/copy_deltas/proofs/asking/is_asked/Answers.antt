@@ -2,7 +2,7 @@ use Rattle.std.proofs.Common.{rules}
 use Rattle.std.specs.Prelude.{FitsSigned}
 use Rattle.std.specs.Int.{w64}
 use Rattle.copy_deltas.proofs.Asked.{asked_is}
-use Rattle.copy_deltas.proofs.write.is_asked.Goals as goal
+use Rattle.copy_deltas.proofs.asking.is_asked.Goals as goal
 
 pub returns : goal.returns
 returns g c =

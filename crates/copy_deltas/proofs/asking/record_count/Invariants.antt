@@ -1,7 +1,7 @@
 use Rattle.std.proofs.Common.{◌≡◌, ◌+◌, ◌≤◌, length}
 use Rattle.std.specs.Prelude.{min}
 use Rattle.copy_deltas.proofs.Entries.{most}
-use Rattle.copy_deltas.proofs.write.record_count.Given as goal
+use Rattle.copy_deltas.proofs.asking.record_count.Given as goal
 
 -- those counted and those that are left
 abbrev pub invariant-loop : goal.invariant-loop
