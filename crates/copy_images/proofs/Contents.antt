@@ -86,7 +86,7 @@ pub rise_from_0 : (start : ℤ) (ranges : Runs) (bs : List BatchValue) → IsCon
 rise_from_0 start ranges bs content = spans_lower start bs content.in_range.0 content.disjoint
 
 -- a run that begins below the start would hold an offset there
-runs_above : (start : ℤ) (runs : Runs) → IsCanonical runs → ((o : ℤ) → covers runs o ≡ true → start ≤ℤ o) → AllByRecursion (λ range. start ≤ℤ range.0) runs
+pub runs_above : (start : ℤ) (runs : Runs) → IsCanonical runs → ((o : ℤ) → covers runs o ≡ true → start ≤ℤ o) → AllByRecursion (λ range. start ≤ℤ range.0) runs
 runs_above start runs canonical above = all_from start runs (runs_from start runs canonical (λ k d lt. above (get_or runs k d).0 (first_covered runs k d canonical lt)))
   where
     first_covered : (runs : Runs) (k : ℕ) (d : ℤ × ℤ) → IsCanonical runs → k < length runs → covers runs (get_or runs k d).0 ≡ true

@@ -171,7 +171,7 @@ fits_offset : (z : ℤ) → pos 0 ≤ℤ z → z <ℤ pos (2 ^ 62) → FitsSigne
 fits_offset (pos n) p q = record { sfits = omega (arith, ints) }
 fits_offset (negsuc n) p q = absurd (omega (arith, ints))
 
-fits_runs : (low : ℤ) (runs : Runs) → pos 0 ≤ℤ low → RunsFrom low runs → AllByRecursion FitsInt64 runs
+pub fits_runs : (low : ℤ) (runs : Runs) → pos 0 ≤ℤ low → RunsFrom low runs → AllByRecursion FitsInt64 runs
 fits_runs low [] z h = tt
 fits_runs low (run ∷ runs) z h =
     let a : low ≤ℤ run.0 = h.0 in

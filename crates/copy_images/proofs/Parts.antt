@@ -106,7 +106,7 @@ sealed bytes body end crc parts len is =
     parts ∙ ap (λ (n : ℕ). body ++ fields ((w32, n) ∷ [])) (is ∙ ap crc_of front)
 
 -- a head, what stands between it and the crc, and the crc
-behind_head : (bytes head : List ℕ) (at : ℕ) → IsBytes bytes → at + 4 ≤ length bytes → IsOwnCrc bytes → bytes ≡ head ++ drop at bytes → length head ≡ at
+pub behind_head : (bytes head : List ℕ) (at : ℕ) → IsBytes bytes → at + 4 ≤ length bytes → IsOwnCrc bytes → bytes ≡ head ++ drop at bytes → length head ≡ at
     → bytes ≡ with_crc (head ++ take ((length bytes - 4) - at) (drop at bytes))
 behind_head bytes head at fits long own is len =
     let end = length bytes - 4 in

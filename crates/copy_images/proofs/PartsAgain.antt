@@ -113,7 +113,7 @@ front_again body ranges count rest front =
 
 -- ---- the whole
 
-own_crc : (body bytes : List ℕ) → bytes ≡ with_crc body → IsOwnCrc bytes
+pub own_crc : (body bytes : List ℕ) → bytes ≡ with_crc body → IsOwnCrc bytes
 unfolding with_crc number_in
 own_crc body bytes is =
     let crc : Field = (w32, crc_of body) in
@@ -126,13 +126,13 @@ own_crc body bytes is =
     read ∙ ap crc_of (sym front)
 
 -- what is read behind a head
-record IsBehind (bytes head body : List ℕ) (at : ℕ) : Type 0 where
-  tail : List ℕ
-  parts : bytes ≡ head ++ tail
-  size : length bytes ≡ at + length body + 4
-  body_is : take ((length bytes - 4) - at) (drop at bytes) ≡ body
+pub record IsBehind (bytes head body : List ℕ) (at : ℕ) : Type 0 where
+  pub tail : List ℕ
+  pub parts : bytes ≡ head ++ tail
+  pub size : length bytes ≡ at + length body + 4
+  pub body_is : take ((length bytes - 4) - at) (drop at bytes) ≡ body
 
-behind_head : (bytes head body : List ℕ) (at : ℕ) → bytes ≡ with_crc (head ++ body) → length head ≡ at → IsBehind bytes head body at
+pub behind_head : (bytes head body : List ℕ) (at : ℕ) → bytes ≡ with_crc (head ++ body) → length head ≡ at → IsBehind bytes head body at
 unfolding with_crc
 behind_head bytes head body at is len =
     let crc = fields ((w32, crc_of (head ++ body)) ∷ []) in

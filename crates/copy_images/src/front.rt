@@ -58,7 +58,7 @@ fn has_start(bytes: &[u8]) -> bool
 }
 
 /// The log start of an image, which is 0 in version 0.
-fn start_of(bytes: &[u8]) -> i64
+pub fn start_of(bytes: &[u8]) -> i64
     requires { HasSize bytes.now }
     ensures { result ≡ start_in bytes.now }
 {
@@ -70,7 +70,7 @@ fn start_of(bytes: &[u8]) -> i64
 }
 
 /// What stands between the head of an image and its crc.
-fn body_of(bytes: &[u8]) -> &[u8]
+pub fn body_of(bytes: &[u8]) -> &[u8]
     requires { HasSize bytes.now }
     ensures { result.now ≡ body_in bytes.now }
 {
@@ -83,7 +83,7 @@ fn body_of(bytes: &[u8]) -> &[u8]
 }
 
 /// Whether a copy may start at an offset.
-fn is_log_start(start: i64) -> bool
+pub fn is_log_start(start: i64) -> bool
     ensures { IsTrue result ↔ IsLogStart start }
 {
     0 <= start && start <= OFFSETS_END

@@ -13,7 +13,7 @@
 pub mod batches;
 mod build;
 mod error;
-mod front;
+pub mod front;
 pub mod laws;
 pub mod layout;
 pub mod ranges;

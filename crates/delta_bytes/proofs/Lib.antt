@@ -8,3 +8,5 @@ pub mod RangeParts
 pub mod OneEntry
 pub mod OneFault
 pub mod OneBody
+pub mod WholeDelta
+pub mod DeltaAgain

@@ -137,13 +137,13 @@ one_body_fault start bytes (InEntries e) (InEntries f) a b =
     let same : AreSame a.0 b.0 a.2 b.2 a.3 b.3 = both_once start bytes a.0 b.0 a.2 b.2 a.1 b.1 a.3 b.3 a.4 a.5 b.4 b.5 in
     ap InEntries (one_items_fault a.0 a.2 a.3 e f a.6 (moved a.0 b.0 a.2 b.2 a.3 b.3 (λ x y z. ItemsFault x y z f) same b.6))
 
-pub no_body_fault : (start : ℤ) (bytes : List ℕ) (runs asked : Runs) (xs : List Entry) (e : BodyError) → HasBody start bytes runs asked xs → BodyFault start bytes e → ⊥
-no_body_fault start bytes runs asked xs (InRanges e) has fault = no_fault_before start bytes runs asked has.rest has.more e has.ranges has.asked_ranges fault
-no_body_fault start bytes runs asked xs (InEntries e) has fault =
-    let same : AreSame runs fault.0 asked fault.2 has.more fault.3 = both_once start bytes runs fault.0 asked fault.2 has.rest fault.1 has.more fault.3 has.ranges has.asked_ranges fault.4 fault.5 in
-    no_items_fault runs asked has.more xs e has.items (moved runs fault.0 asked fault.2 has.more fault.3 (λ x y z. ItemsFault x y z e) same fault.6)
+pub no_body_fault : (start : ℤ) (bytes : List ℕ) (runs asked : Runs) (more : List ℕ) (xs : List Entry) (e : BodyError) → HasBody start bytes runs asked more xs → BodyFault start bytes e → ⊥
+no_body_fault start bytes runs asked more xs (InRanges e) has fault = no_fault_before start bytes runs asked has.rest more e has.ranges has.asked_ranges fault
+no_body_fault start bytes runs asked more xs (InEntries e) has fault =
+    let same : AreSame runs fault.0 asked fault.2 more fault.3 = both_once start bytes runs fault.0 asked fault.2 has.rest fault.1 more fault.3 has.ranges has.asked_ranges fault.4 fault.5 in
+    no_items_fault runs asked more xs e has.items (moved runs fault.0 asked fault.2 more fault.3 (λ x y z. ItemsFault x y z e) same fault.6)
 
-pub body_once : (start : ℤ) (bytes : List ℕ) (runs asked others other_asked : Runs) (xs ys : List Entry) → HasBody start bytes runs asked xs → HasBody start bytes others other_asked ys → (runs ≡ others) × (asked ≡ other_asked) × (xs ≡ ys)
-body_once start bytes runs asked others other_asked xs ys a b =
-    let same : AreSame runs others asked other_asked a.more b.more = both_once start bytes runs others asked other_asked a.rest b.rest a.more b.more a.ranges a.asked_ranges b.ranges b.asked_ranges in
-    (same.runs_same, same.asked_same, one_items runs asked a.more xs ys a.items (moved runs others asked other_asked a.more b.more (λ x y z. AreAllItems x y z ys) same b.items))
+pub body_once : (start : ℤ) (bytes : List ℕ) (runs asked others other_asked : Runs) (more other : List ℕ) (xs ys : List Entry) → HasBody start bytes runs asked more xs → HasBody start bytes others other_asked other ys → (runs ≡ others) × (asked ≡ other_asked) × (xs ≡ ys)
+body_once start bytes runs asked others other_asked more other xs ys a b =
+    let same : AreSame runs others asked other_asked more other = both_once start bytes runs others asked other_asked a.rest b.rest more other a.ranges a.asked_ranges b.ranges b.asked_ranges in
+    (same.runs_same, same.asked_same, one_items runs asked more xs ys a.items (moved runs others asked other_asked more other (λ x y z. AreAllItems x y z ys) same b.items))

@@ -42,10 +42,9 @@ ItemsFault runs asked bytes Extra =
 
 -- ---- all of it
 
--- the sender's ranges from its start on, the asked ones, and the entries
-pub record HasBody (start : ℤ) (bytes : List ℕ) (runs asked : Runs) (entries : List Entry) : Type 0 where
+-- the sender's ranges from its start on, the asked ones, and in `more` the entries behind their count
+pub record HasBody (start : ℤ) (bytes : List ℕ) (runs asked : Runs) (more : List ℕ) (entries : List Entry) : Type 0 where
   pub rest : List ℕ
-  pub more : List ℕ
   pub ranges : HasRanges start 0 bytes runs rest
   pub asked_ranges : HasRanges (pos 0) COUNT_SIZE rest asked more
   pub items : AreAllItems runs asked more entries

@@ -13,25 +13,20 @@ use copy_images::ranges::RangeBytes;
 
 /// The parts of a delta behind its front, borrowed from its bytes.
 #[derive(Drop)]
-pub struct Body<'a> {
+pub(crate) struct Body<'a> {
     /// The ranges that the sender has seen, in order.
     pub ranges: &'a [RangeBytes],
     /// The ranges that were asked, in order.
     pub asked: &'a [RangeBytes],
-    /// The bytes from the count of entries on.
+    /// The entries behind their count.
     pub entries: &'a [u8],
 }
 
-/// Judges what stands between the front of a delta and its crc, of a sender whose log start is `start`,
-/// from 0 on. It takes no memory.
-///
-/// # Errors
-///
-/// The first fault in the order of the checks, which [`BodyError`] gives.
-pub fn judge_body(bytes: &[u8], start: i64) -> Result<Body<'_>, BodyError>
+/// Judges what stands between the front of a delta and its crc, of a sender whose log start is `start`.
+pub(crate) fn judge_body(bytes: &[u8], start: i64) -> Result<Body<'_>, BodyError>
     requires { pos 0 ≤ℤ start }
-    ensures accepts { IfOk result (λ body. (entries : List Entry)
-        × HasBody start bytes.now (ranges_of body.ranges.now) (ranges_of body.asked.now) entries) }
+    ensures accepts { IfOk result (λ body. (entries : List Entry) × HasBody start bytes.now
+        (ranges_of body.ranges.now) (ranges_of body.asked.now) body.entries.now entries) }
     ensures refuses_for_the_first_fault { IfErr result (BodyFault start bytes.now) }
 {
     let sender = match ranges_at(bytes, start, 0) {

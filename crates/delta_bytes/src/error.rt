@@ -32,3 +32,27 @@ pub enum BodyError {
     /// In the entries, which come last.
     InEntries(EntriesError),
 }
+
+/// Why bytes do not begin as a delta does, or do not end in their crc: the first fault.
+#[derive(Clone, Copy, Drop)]
+pub enum FrontError {
+    /// There are under 22 bytes.
+    Short,
+    /// The first four bytes are not `KDLT`.
+    BadMark,
+    /// The version is neither 0 nor 1.
+    BadVersion,
+    /// The last four bytes are not the crc of those before them.
+    BadCrc,
+    /// The sender's log start lies below 0 or above 2^62.
+    BadStart,
+}
+
+/// Why bytes are not a delta: the first fault.
+#[derive(Clone, Copy, Drop)]
+pub enum DeltaError {
+    /// In the front, or in the crc.
+    InFront(FrontError),
+    /// Between the two.
+    InBody(BodyError),
+}

@@ -1,17 +1,24 @@
-//! A delta in bytes: what one copy of a partition sends another that says what it has seen. Its entries
-//! and its lists of ranges are judged where they stand, without memory, and nothing is allocated by a count
-//! that was read.
+//! Deltas in bytes: what one copy of a partition sends another that says which offsets it has.
+//!
+//! [`judge_delta`] judges bytes as a delta where they stand. It takes no memory, whatever they say, and
+//! gives the parts of what it accepts. Bytes that are no delta are refused for the first fault that stands
+//! in them.
+//!
+//! `specs/` says what the bytes of a delta are and what each fault is: read it in the order of
+//! `specs/Lib.antt`. What a delta says, and which ones are valid, stands in the crate `deltas`.
 #![tactic(auto)]
 
 mod body;
 mod counted;
+mod delta;
 mod entry;
 mod error;
+mod front;
 pub mod laws;
 pub mod layout;
 mod lists;
 mod ranges;
 mod seen;
 
-pub use body::{Body, judge_body};
-pub use error::{BodyError, EntriesError, RangesError};
+pub use delta::{DeltaBytes, judge_delta};
+pub use error::{BodyError, DeltaError, EntriesError, FrontError, RangesError};

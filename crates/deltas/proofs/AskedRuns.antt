@@ -1,12 +1,11 @@
 -- Whether a copy knows what was asked, range by range.
-use Rattle.std.proofs.Common.{◌≡◌, ◌↔◌, ℤ, pos, Bool, true, false, ◌&&◌, ◌||◌, ◌⊎◌, inl, inr, List, [], ◌∷◌, refl, sym, ap, subst, ◌∙◌, arith}
-use Rattle.std.specs.Prelude.{◌≤ℤ◌, ◌<ℤ◌, int_le}
+use Rattle.std.proofs.Common.{◌≡◌, ◌↔◌, ℤ, Bool, true, false, ◌&&◌, ◌||◌, inl, inr, [], ◌∷◌, refl, arith}
+use Rattle.std.specs.Prelude.{◌≤ℤ◌}
 use Rattle.std.specs.Int.{int_max}
 use Rattle.std.proofs.lemmas.Int.{ints, clamps, by_lt_z}
-use Rattle.cover_ranges.specs.Runs.{Runs, covers, is_within, has_all, CoversAll}
+use Rattle.cover_ranges.specs.Runs.{Runs, covers, is_within, CoversAll}
 use Rattle.cover_ranges.proofs.RunEnds.{has_all_covers, covers_has_all}
 use Rattle.content.specs.Content.{Content, IsContent}
-use Rattle.content_laws.proofs.ContentSteps.{both_bools}
 use Rattle.deltas.specs.Accepting.{IsKnown, IsFor, has_seen_range, is_for}
 
 in_range : (o first last : ℤ) → first ≤ℤ o → o ≤ℤ last → is_within o (first, last) ≡ true

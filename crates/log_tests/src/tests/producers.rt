@@ -151,6 +151,37 @@ fn each_producer_has_its_window(rt: HostRuntime) {
     assert_eq!(rt; wrong_of_new::<VecStore<_>>(rt.alloc(), &mut 0, &ROWS), "");
 }
 
+/// Whether the log's start moves to offset 45, so that 15 batches are left.
+fn is_trimmed<S: BatchStore>(log: &mut LeaderLog<S>) -> bool {
+    let answered = log.trim(45);
+    answered == Ok(()) && log.copy().start() == 45 && log.copy().len() == 15
+}
+
+/// Whether a new log takes the producers' batches, and its start moves then, if that is wanted.
+fn is_filled<S: BatchStore>(heap: S::Alloc, trims: bool) -> bool {
+    match LeaderLog::from_copy(PartitionLog::<S>::new(heap)) {
+        Ok(mut log) => are_appended(&mut log, &mut 0) && (!trims || is_trimmed(&mut log)),
+        Err(_) => false,
+    }
+}
+
+/// How many allocations that asks for; `None` where anything is wrong.
+fn asked_by_log<A: Allocator + Copy>(alloc: A, trims: bool) -> Option<u64> {
+    let heap = Refusing::new(alloc, 0);
+    if is_filled::<VecStore<_>>(&heap, trims) {
+        Some(heap.calls())
+    } else {
+        None
+    }
+}
+
+#[test]
+fn a_trim_asks_for_no_memory(rt: HostRuntime) {
+    let asked = asked_by_log(rt.alloc(), false);
+    assert!(rt; asked.is_some());
+    assert_eq!(rt; asked_by_log(rt.alloc(), true), asked);
+}
+
 /// Whether a new copy takes the batches and is cleaned.
 fn copy_is_cleaned<S: BatchStore>(heap: S::Alloc) -> bool {
     let mut copy = PartitionLog::<S>::new(heap);
