@@ -15,14 +15,15 @@ use Rattle.copy_images.proofs.Written.{count_passed}
 use Rattle.deltas.specs.Deltas.{entry_for, delta_of}
 use Rattle.delta_bytes.specs.EntryBytes.{entry_bytes}
 use Rattle.delta_bytes.specs.RangeLists.{count_encoding, ranges_encoding}
-use Rattle.copy_deltas.specs.declared.layout.TheConstants.{MARK, VERSION}
-use Rattle.copy_deltas.specs.DeltaBytes.{head_of, entries_encoding, delta_bytes}
+use Rattle.copy_images.specs.declared.layout.TheConstants.{VERSION}
+use Rattle.delta_bytes.specs.declared.layout.TheConstants.{MARK}
+use Rattle.delta_bytes.specs.Deltas.{front_of, entries_encoding, delta_encoding}
 
 -- the head, as code writes it
 pub head_put : {T E : Type 0} (r : Result T E) (old a b new mark version number : List ℕ) (start : ℤ) → FitsSigned w64 start
     → mark ≡ fields ((w32, MARK) ∷ []) → version ≡ fields (signed w16 VERSION ∷ []) → number ≡ fields (signed w64 (cast_signed w64 (cast_unsigned w64 start)) ∷ [])
-    → a ≡ old ++ mark → b ≡ a ++ version → new ≡ (if is_ok r then b ++ number else b) → OnOk r (new ≡ old ++ head_of start)
-unfolding head_of
+    → a ≡ old ++ mark → b ≡ a ++ version → new ≡ (if is_ok r then b ++ number else b) → OnOk r (new ≡ old ++ front_of start)
+unfolding front_of
 head_put (Err e) old a b new mark version number start f one two three p q n = tt
 head_put (Ok x) old a b new mark version number start f one two three p q n =
     let same = to_z-of_z w64 start f in
@@ -44,20 +45,19 @@ ranges_put r old mid new first ranges n field is few same one p q = counted_put 
 
 pub entries_put : {T E : Type 0} (r : Result T E) (old mid new first : List ℕ) (asked : Runs) (bs : List BatchValue) (n : ℕ) (field : ℤ) → field ≡ pos n → n ≤ MAX_COUNT → n ≡ length bs
     → first ≡ fields (signed w32 (cast_signed w32 (cast_unsigned w32 field)) ∷ []) → mid ≡ old ++ first → OnOk r (new ≡ mid ++ flat_map entry_bytes (map (entry_for asked) bs)) → OnOk r (new ≡ old ++ entries_encoding (map (entry_for asked) bs))
-unfolding entries_encoding
 entries_put r old mid new first asked bs n field is few same one p q =
     counted_put r old mid new first (flat_map entry_bytes (map (entry_for asked) bs)) n (length (map (entry_for asked) bs)) field is few (same ∙ sym (length-map bs (entry_for asked))) one p q
 
 -- the whole, as code writes it
 pub delta_put : {T E : Type 0} (r : Result T E) (old a b d f new : List ℕ) (c : Content) (asked : Runs) (start : ℤ) (ranges others : Runs) → FitsSigned w64 start → old ≡ [] → start ≡ c.start → ranges ≡ c.cover → others ≡ asked
-    → a ≡ old ++ head_of (cast_signed w64 (cast_unsigned w64 start)) → b ≡ a ++ ranges_encoding ranges → d ≡ b ++ ranges_encoding others → f ≡ d ++ entries_encoding (map (entry_for asked) c.kept)
-    → OnOk r (new ≡ with_crc f) → OnOk r (new ≡ delta_bytes (delta_of c asked))
+    → a ≡ old ++ front_of (cast_signed w64 (cast_unsigned w64 start)) → b ≡ a ++ ranges_encoding ranges → d ≡ b ++ ranges_encoding others → f ≡ d ++ entries_encoding (map (entry_for asked) c.kept)
+    → OnOk r (new ≡ with_crc f) → OnOk r (new ≡ delta_encoding (delta_of c asked))
 delta_put (Err e) old a b d f new c asked start ranges others fits none starts runs same p q s t n = tt
 delta_put (Ok x) old a b d f new c asked start ranges others fits none starts runs same p q s t n =
     let entries : List ℕ = entries_encoding (map (entry_for asked) c.kept) in
     let started : cast_signed w64 (cast_unsigned w64 start) ≡ c.start = to_z-of_z w64 start fits ∙ starts in
-    let head : a ≡ head_of c.start = p ∙ (λ i. none i ++ head_of (started i)) in
-    let seen : b ≡ head_of c.start ++ ranges_encoding c.cover = q ∙ (λ i. head i ++ ranges_encoding (runs i)) in
-    let both : d ≡ (head_of c.start ++ ranges_encoding c.cover) ++ ranges_encoding asked = s ∙ (λ i. seen i ++ ranges_encoding (same i)) in
-    n ∙ ap with_crc (t ∙ ap (λ (y : List ℕ). y ++ entries) both ∙ append_assoc (head_of c.start ++ ranges_encoding c.cover) (ranges_encoding asked) entries
-    ∙ append_assoc (head_of c.start) (ranges_encoding c.cover) (ranges_encoding asked ++ entries))
+    let head : a ≡ front_of c.start = p ∙ (λ i. none i ++ front_of (started i)) in
+    let seen : b ≡ front_of c.start ++ ranges_encoding c.cover = q ∙ (λ i. head i ++ ranges_encoding (runs i)) in
+    let both : d ≡ (front_of c.start ++ ranges_encoding c.cover) ++ ranges_encoding asked = s ∙ (λ i. seen i ++ ranges_encoding (same i)) in
+    n ∙ ap with_crc (t ∙ ap (λ (y : List ℕ). y ++ entries) both ∙ append_assoc (front_of c.start ++ ranges_encoding c.cover) (ranges_encoding asked) entries
+    ∙ append_assoc (front_of c.start) (ranges_encoding c.cover) (ranges_encoding asked ++ entries))

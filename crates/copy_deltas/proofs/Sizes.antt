@@ -17,8 +17,9 @@ use Rattle.deltas.specs.Entries.Entry.{Listed, Sent}
 use Rattle.deltas.specs.Deltas.{offsets_of, is_asked, entry_for, delta_of}
 use Rattle.delta_bytes.specs.EntryBytes.{offset_encoding, list_encoding, entry_bytes}
 use Rattle.delta_bytes.specs.RangeLists.{ranges_encoding}
-use Rattle.copy_deltas.specs.declared.layout.TheConstants.{MARK, VERSION}
-use Rattle.copy_deltas.specs.DeltaBytes.{head_of, entries_encoding, delta_bytes}
+use Rattle.copy_images.specs.declared.layout.TheConstants.{VERSION}
+use Rattle.delta_bytes.specs.declared.layout.TheConstants.{MARK}
+use Rattle.delta_bytes.specs.Deltas.{front_of, entries_encoding, delta_encoding}
 use Rattle.copy_deltas.proofs.Entries.{most, said_bytes, said_all}
 
 -- ---- an entry
@@ -88,14 +89,13 @@ ranges_length runs =
     omega (arith, length-append number (flat_map range_encoding runs), here, length-ranges runs)
 
 entries_length : (asked : Runs) (bs : List BatchValue) → length (entries_encoding (map (entry_for asked) bs)) ≡ 4 + said_length asked bs
-unfolding entries_encoding
 entries_length asked bs =
     let number = fields (signed w32 (pos (length (map (entry_for asked) bs))) ∷ []) in
     let here : length number ≡ 4 = refl in
     omega (arith, length-append number (flat_map entry_bytes (map (entry_for asked) bs)), here, ap length (said_all asked bs))
 
-delta_length : (c : Content) (asked : Runs) → length (delta_bytes (delta_of c asked)) ≡ parts_length c asked + said_length asked c.kept
-unfolding head_of with_crc
+delta_length : (c : Content) (asked : Runs) → length (delta_encoding (delta_of c asked)) ≡ parts_length c asked + said_length asked c.kept
+unfolding front_of with_crc
 delta_length c asked =
     let head = fields ((w32, MARK) ∷ signed w16 VERSION ∷ signed w64 c.start ∷ []) in
     let head_len : length head ≡ 14 = refl in
@@ -106,5 +106,5 @@ delta_length c asked =
     let crc_len : length crc ≡ 4 = refl in
     omega (arith, length-append body crc, length-append head (ranges_encoding c.cover ++ others), length-append (ranges_encoding c.cover) others, length-append (ranges_encoding asked) entries, head_len, crc_len, ranges_length c.cover, ranges_length asked, entries_length asked c.kept)
 
-pub size_whole : (c : Content) (asked : Runs) (i size : ℕ) → length c.kept ≤ i → size ≡ min (parts_length c asked + said_length asked (take i c.kept)) most → size ≡ min (length (delta_bytes (delta_of c asked))) most
+pub size_whole : (c : Content) (asked : Runs) (i size : ℕ) → length c.kept ≤ i → size ≡ min (parts_length c asked + said_length asked (take i c.kept)) most → size ≡ min (length (delta_encoding (delta_of c asked))) most
 size_whole c asked i size over is = is ∙ ap (λ bs. min (parts_length c asked + said_length asked bs) most) (take_all i c.kept over) ∙ ap (λ n. min n most) (sym (delta_length c asked))

@@ -6,7 +6,7 @@ ghost use Rattle.cover_ranges.specs.Runs.{IsCanonical};
 ghost use Rattle.content.specs.Content.{IsInRange};
 ghost use Rattle.deltas.specs.Deltas.{entry_for, delta_of};
 ghost use Rattle.delta_bytes.specs.EntryBytes.{entry_bytes};
-ghost use Rattle.copy_deltas.specs.DeltaBytes.{delta_bytes};
+ghost use Rattle.delta_bytes.specs.Deltas.{delta_encoding};
 
 use crate::asking::{is_asked, record_count};
 use crate::layout::{EMPTY_LIST_SIZE, EMPTY_SIZE};
@@ -59,7 +59,7 @@ fn size_with<B: Allocator + Copy, S: BatchStore>(
     requires canonical { IsCanonical asked.now.runs }
     requires fixed { fixed
         ≡ min (30 + 16 * length copy.now.cover + 16 * length asked.now.runs) 18446744073709551615 }
-    ensures { result ≡ min (length (delta_bytes (delta_of copy.now asked.now.runs)))
+    ensures { result ≡ min (length (delta_encoding (delta_of copy.now asked.now.runs)))
         18446744073709551615 }
 {
     let mut size = fixed;
@@ -74,7 +74,7 @@ pub(crate) fn size_of<B: Allocator + Copy, S: BatchStore>(
     copy: &PartitionLog<S>,
     asked: &Cover<B>,
 ) -> usize
-    ensures { result ≡ min (length (delta_bytes (delta_of copy.now asked.now.runs)))
+    ensures { result ≡ min (length (delta_encoding (delta_of copy.now asked.now.runs)))
         18446744073709551615 }
 {
     let fixed = fixed_size(copy.cover().ranges().len(), asked.ranges().len());

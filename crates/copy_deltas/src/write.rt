@@ -11,16 +11,15 @@ ghost use Rattle.deltas.specs.Entries.Entry.{Listed, Sent};
 ghost use Rattle.deltas.specs.Deltas.{offsets_of, entry_for, delta_of};
 ghost use Rattle.delta_bytes.specs.EntryBytes.{offset_encoding, entry_bytes};
 ghost use Rattle.delta_bytes.specs.RangeLists.{ranges_encoding};
-ghost use Rattle.copy_deltas.specs.DeltaBytes.{head_of, entries_encoding, delta_bytes};
+ghost use Rattle.delta_bytes.specs.Deltas.{front_of, entries_encoding, delta_encoding};
 
 use crate::asking::{is_asked, record_count};
-use crate::layout::{MARK, VERSION};
 use crate::size::size_of;
 use batch_codec::{BatchView, RecordView};
 use checksum::crc32c;
-use copy_images::layout::MAX_COUNT;
+use copy_images::layout::{MAX_COUNT, VERSION};
 use cover_ranges::Cover;
-use delta_bytes::layout::{LISTED, SENT};
+use delta_bytes::layout::{LISTED, MARK, SENT};
 use partition_log::PartitionLog;
 use segment::BatchStore;
 use std::alloc::{AllocError, Allocator};
@@ -149,9 +148,9 @@ fn put_entries<A: Allocator + Copy, B: Allocator + Copy, S: BatchStore>(
 // ---- the parts
 
 /// Appends what a delta begins with.
-#[tactic(auto, unfolding(crate::specs::DeltaBytes::head_of))]
+#[tactic(auto, unfolding(delta_bytes::specs::Deltas::front_of))]
 fn put_head<A: Allocator + Copy>(out: &mut Vec<u8, A>, start: i64) -> Result<(), AllocError>
-    ensures { OnOk result (out.new.items ≡ out.old.items ++ head_of start) }
+    ensures { OnOk result (out.new.items ≡ out.old.items ++ front_of start) }
 {
     out.extend_from_slice(&MARK.to_be_bytes())?;
     out.extend_from_slice(&VERSION.to_be_bytes())?;
@@ -215,7 +214,7 @@ fn put_delta<A: Allocator + Copy, B: Allocator + Copy, S: BatchStore>(
     asked: &Cover<B>,
 ) -> Result<(), AllocError>
     requires { out.old.items ≡ [] }
-    ensures gives { OnOk result (out.new.items ≡ delta_bytes (delta_of copy.now asked.now.runs)) }
+    ensures gives { OnOk result (out.new.items ≡ delta_encoding (delta_of copy.now asked.now.runs)) }
     ensures ranges { OnOk result (length copy.now.cover ≤ MAX_COUNT) }
     ensures asked { OnOk result (length asked.now.runs ≤ MAX_COUNT) }
     ensures entries { OnOk result (length copy.now.kept ≤ MAX_COUNT) }
@@ -240,7 +239,7 @@ pub fn write_delta<A: Allocator + Copy, B: Allocator + Copy, S: BatchStore>(
     asked: &Cover<B>,
 ) -> Result<Vec<u8, A>, AllocError>
     ensures gives_the_delta { IfOk result (λ delta. delta.items
-        ≡ delta_bytes (delta_of copy.now asked.now.runs)) }
+        ≡ delta_encoding (delta_of copy.now asked.now.runs)) }
     ensures counts_the_ranges { OnOk result (length copy.now.cover ≤ MAX_COUNT) }
     ensures counts_the_asked_ranges { OnOk result (length asked.now.runs ≤ MAX_COUNT) }
     ensures counts_the_entries { OnOk result (length copy.now.kept ≤ MAX_COUNT) }
