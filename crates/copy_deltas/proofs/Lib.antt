@@ -1,0 +1,5 @@
+pub mod Asked
+pub mod Entries
+pub mod Parts
+pub mod Sizes
+pub mod Valid

@@ -1,0 +1,7 @@
+use Rattle.copy_deltas.proofs.Parts.{head_put}
+use Rattle.copy_deltas.proofs.write.put_head.Goals as goal
+
+pub returns : goal.returns
+returns g c =
+    head_put c.extend_from_slice-3.result c.args.out.now.items c.extend_from_slice.new.self.items c.extend_from_slice-2.new.self.items c.extend_from_slice-3.new.self.items c.to_be_bytes.result c.to_be_bytes-2.result c.to_be_bytes-3.result
+    c.args.start c.ranges.start c.to_be_bytes.ensures c.to_be_bytes-2.ensures c.to_be_bytes-3.ensures c.in_ok-extend_from_slice.ensures.items c.in_ok-extend_from_slice-2.ensures.items c.extend_from_slice-3.ensures.items
