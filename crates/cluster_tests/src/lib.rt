@@ -1,4 +1,4 @@
-//! Tests of merges and images of copies and of clusters, a file for each subject.
+//! Tests of merges, images and deltas of copies and of clusters, a file for each subject.
 #![tactic(auto)]
 
 #[cfg(test)]
