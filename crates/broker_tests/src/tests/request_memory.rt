@@ -217,7 +217,7 @@ fn all_lacking<A: Allocator + Copy>(inner: A, run: &Run) -> Option<u32> {
 fn each_request_lacks_memory_once(rt: HostRuntime) {
     let leads = all_lacking(rt.alloc(), &OF_A_LEADER);
     let follows = all_lacking(rt.alloc(), &OF_A_FOLLOWER);
-    // both bits of each, but for Get and Cover, the fourth and the fifth, whose work takes none
-    assert_eq!(rt; leads, Some(0b11_11_11_11_01_01_11_11_11));
-    assert_eq!(rt; follows, Some(0b11_11));
+    // both bits of each, but for Get, Cover and Trim, whose work takes none
+    assert_eq!(rt; leads, Some(0b11_11_01_11_11_01_01_11_11_11));
+    assert_eq!(rt; follows, Some(0b01_11_11));
 }
