@@ -7,7 +7,8 @@ use thiserror::Error;
 pub enum Delivered {
     /// The batch was added.
     Added,
-    /// The copy had seen all of its offsets, and is as it was.
+    /// The copy had seen all of its offsets, or they lie below its start, and is as it was: offsets below
+    /// the start count as seen.
     Repeat,
 }
 
@@ -23,7 +24,7 @@ pub enum DeliverError {
     /// An offset of the span is below 0 or above 2^62 - 1.
     #[error("BadOffset")]
     BadOffset,
-    /// Some of its offsets were seen, and some were not.
+    /// Some of its offsets were seen, and some were not; those below the copy's start count as seen.
     #[error("Overlap")]
     Overlap,
     /// There is no memory to keep the batch.
