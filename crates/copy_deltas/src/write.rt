@@ -6,7 +6,6 @@ ghost use Rattle.batch_codec.specs.Offsets.{first_offset, last_offset, offset_of
 ghost use Rattle.batch_codec.specs.Views.{record_value};
 ghost use Rattle.cover_ranges.specs.Runs.{IsCanonical};
 ghost use Rattle.content.specs.Content.{IsInRange};
-ghost use Rattle.copy_images.specs.Images.{range_encoding, with_crc};
 ghost use Rattle.deltas.specs.Entries.Entry.{Listed, Sent};
 ghost use Rattle.deltas.specs.Deltas.{offsets_of, entry_for, delta_of};
 ghost use Rattle.delta_bytes.specs.EntryBytes.{offset_encoding, entry_bytes};
@@ -16,21 +15,13 @@ ghost use Rattle.delta_bytes.specs.Deltas.{front_of, entries_encoding, delta_enc
 use crate::asking::{is_asked, record_count};
 use crate::size::size_of;
 use batch_codec::{BatchView, RecordView};
-use checksum::crc32c;
 use copy_images::layout::{MAX_COUNT, VERSION};
+use copy_images::parts::{count_field, put_crc, put_ranges};
 use cover_ranges::Cover;
 use delta_bytes::layout::{LISTED, MARK, SENT};
 use partition_log::PartitionLog;
 use segment::BatchStore;
 use std::alloc::{AllocError, Allocator};
-
-/// A count as it stands in a delta.
-fn count_field(count: usize) -> Result<i32, AllocError>
-    ensures same { IfOk result (λ field. field ≡ pos count) }
-    ensures fits { OnOk result (count ≤ MAX_COUNT) }
-{
-    i32::try_from(count).map_err(|_| AllocError)
-}
 
 // ---- entries
 
@@ -157,33 +148,8 @@ fn put_head<A: Allocator + Copy>(out: &mut Vec<u8, A>, start: i64) -> Result<(),
     out.extend_from_slice(&start.to_be_bytes())
 }
 
-/// Appends a range.
-fn put_range<A: Allocator + Copy>(
-    out: &mut Vec<u8, A>,
-    range: &(i64, i64),
-) -> Result<(), AllocError>
-    ensures { OnOk result (out.new.items ≡ out.old.items ++ range_encoding range.now) }
-{
-    out.extend_from_slice(&range.0.to_be_bytes())?;
-    out.extend_from_slice(&range.1.to_be_bytes())
-}
-
-/// Appends ranges.
-fn put_each_range<A: Allocator + Copy>(
-    out: &mut Vec<u8, A>,
-    ranges: &[(i64, i64)],
-) -> Result<(), AllocError>
-    ensures { OnOk result
-        (out.new.items ≡ out.old.items ++ flat_map range_encoding ranges.now) }
-{
-    for range in ranges {
-        put_range(out, range)?;
-    }
-    Ok(())
-}
-
 /// Appends ranges behind their count.
-fn put_ranges<A: Allocator + Copy>(
+fn put_list_of_ranges<A: Allocator + Copy>(
     out: &mut Vec<u8, A>,
     ranges: &[(i64, i64)],
 ) -> Result<(), AllocError>
@@ -193,16 +159,7 @@ fn put_ranges<A: Allocator + Copy>(
 {
     let count = count_field(ranges.len())?;
     out.extend_from_slice(&count.to_be_bytes())?;
-    put_each_range(out, ranges)
-}
-
-/// Appends the crc of what is there.
-#[tactic(auto, unfolding(copy_images::specs::Images::with_crc))]
-fn put_crc<A: Allocator + Copy>(out: &mut Vec<u8, A>) -> Result<(), AllocError>
-    ensures { OnOk result (out.new.items ≡ with_crc out.old.items) }
-{
-    let crc = crc32c(out);
-    out.extend_from_slice(&crc.to_be_bytes())
+    put_ranges(out, ranges)
 }
 
 // ---- the whole
@@ -220,8 +177,8 @@ fn put_delta<A: Allocator + Copy, B: Allocator + Copy, S: BatchStore>(
     ensures entries { OnOk result (length copy.now.kept ≤ MAX_COUNT) }
 {
     put_head(out, copy.start())?;
-    put_ranges(out, copy.cover().ranges())?;
-    put_ranges(out, asked.ranges())?;
+    put_list_of_ranges(out, copy.cover().ranges())?;
+    put_list_of_ranges(out, asked.ranges())?;
     put_entries(out, asked, copy)?;
     put_crc(out)
 }

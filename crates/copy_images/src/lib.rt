@@ -16,6 +16,7 @@ mod error;
 pub mod front;
 pub mod laws;
 pub mod layout;
+pub mod parts;
 pub mod ranges;
 mod read;
 mod write;

@@ -1,23 +1,15 @@
 //! The image of a copy.
 
-ghost use Rattle.std.specs.Prelude.{◌≡◌, ◌↔◌, ◌++◌, ◌≤◌, ◌∷◌, [], pos, ◌+◌, ◌*◌, min, length, IfOk, OnOk, IsTrue};
+ghost use Rattle.std.specs.Prelude.{◌≡◌, ◌↔◌, ◌++◌, ◌≤◌, [], pos, ◌+◌, ◌*◌, min, length, IfOk, OnOk, IsTrue};
 ghost use Rattle.std.specs.List.{flat_map};
 ghost use Rattle.batch_codec.specs.Grammar.{batch_encoding};
-ghost use Rattle.copy_images.specs.Images.{head_of, range_encoding, front_of, with_crc, image_of};
+ghost use Rattle.copy_images.specs.Images.{head_of, front_of, image_of};
 
 use crate::layout::{EMPTY_SIZE, MARK, MAX_COUNT, RANGE_SIZE, VERSION};
-use checksum::crc32c;
+use crate::parts::{count_field, put_crc, put_ranges};
 use partition_log::PartitionLog;
 use segment::BatchStore;
 use std::alloc::{AllocError, Allocator};
-
-/// A count as it stands in an image.
-fn count_field(count: usize) -> Result<i32, AllocError>
-    ensures same { IfOk result (λ field. field ≡ pos count) }
-    ensures fits { OnOk result (count ≤ MAX_COUNT) }
-{
-    i32::try_from(count).map_err(|_| AllocError)
-}
 
 /// How many bytes an image has beside its batches; where that is no `usize`, the greatest one.
 fn fixed_size(ranges: usize) -> usize
@@ -47,32 +39,6 @@ fn put_head<A: Allocator + Copy>(out: &mut Vec<u8, A>, start: i64) -> Result<(),
     out.extend_from_slice(&start.to_be_bytes())
 }
 
-/// Appends a range.
-#[tactic(auto, unfolding(crate::specs::Images::range_encoding))]
-fn put_range<A: Allocator + Copy>(
-    out: &mut Vec<u8, A>,
-    range: &(i64, i64),
-) -> Result<(), AllocError>
-    ensures { OnOk result (out.new.items ≡ out.old.items ++ range_encoding range.now) }
-{
-    out.extend_from_slice(&range.0.to_be_bytes())?;
-    out.extend_from_slice(&range.1.to_be_bytes())
-}
-
-/// Appends ranges.
-fn put_ranges<A: Allocator + Copy>(
-    out: &mut Vec<u8, A>,
-    ranges: &[(i64, i64)],
-) -> Result<(), AllocError>
-    ensures { OnOk result
-        (out.new.items ≡ out.old.items ++ flat_map range_encoding ranges.now) }
-{
-    for range in ranges {
-        put_range(out, range)?;
-    }
-    Ok(())
-}
-
 /// Appends the bytes of the kept batches.
 fn put_batches<A: Allocator + Copy, S: BatchStore>(
     out: &mut Vec<u8, A>,
@@ -85,15 +51,6 @@ fn put_batches<A: Allocator + Copy, S: BatchStore>(
         out.extend_from_slice(copy.bytes_of(i))?;
     }
     Ok(())
-}
-
-/// Appends the crc of what is there.
-#[tactic(auto, unfolding(crate::specs::Images::with_crc))]
-fn put_crc<A: Allocator + Copy>(out: &mut Vec<u8, A>) -> Result<(), AllocError>
-    ensures { OnOk result (out.new.items ≡ with_crc out.old.items) }
-{
-    let crc = crc32c(out);
-    out.extend_from_slice(&crc.to_be_bytes())
 }
 
 /// Appends what comes between the head and the batches.

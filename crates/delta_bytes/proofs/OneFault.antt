@@ -8,7 +8,7 @@ use Rattle.std.proofs.lemmas.Option.{none-some, same_Some}
 use Rattle.std.proofs.lemmas.List.{length-append, drop_at}
 use Rattle.cover_ranges.specs.Runs.{Runs}
 use Rattle.deltas.specs.Entries.{Entry, IsWithin, AreEntries}
-use Rattle.delta_bytes.specs.declared.layout.TheConstants.{LEAST_BASE}
+use Rattle.deltas.specs.declared.TheConstants.{LEAST_BASE}
 use Rattle.delta_bytes.specs.declared.error.EntriesError.{EntriesError}
 use Rattle.delta_bytes.specs.declared.error.EntriesError.TheVariants.{BadBatch, Outside, Extra}
 use Rattle.delta_bytes.specs.EntryBytes.{entry_bytes, IsNext, low_after}

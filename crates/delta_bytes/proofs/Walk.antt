@@ -10,7 +10,7 @@ use Rattle.cover_ranges.specs.Runs.{Runs, covers, IsCanonical}
 use Rattle.cover_ranges.proofs.RunsFrom.{RunsFrom, canonical_from, from_canonical}
 use Rattle.copy_images.specs.Judging.{ending_from}
 use Rattle.copy_images.proofs.Judged.{skipped}
-use Rattle.delta_bytes.specs.declared.layout.TheConstants.{LEAST_BASE}
+use Rattle.deltas.specs.declared.TheConstants.{LEAST_BASE}
 use Rattle.delta_bytes.specs.declared.entry.EntryError.{EntryError}
 use Rattle.delta_bytes.specs.declared.entry.EntryError.TheVariants.{Bad, Unseen}
 use Rattle.delta_bytes.specs.declared.error.EntriesError.TheVariants.{BadBatch, Outside, Extra}

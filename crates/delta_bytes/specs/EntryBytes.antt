@@ -4,7 +4,8 @@ use Rattle.std.specs.Prelude.{◌≡◌, ℕ, ℤ, pos, ◌+ℤ◌, List, [], �
 use Rattle.std.specs.List.{flat_map, fold}
 use Rattle.std.specs.Int.{w32, w64}
 use Rattle.batch_codec.specs.Grammar.{fields, signed, batch_encoding}
-use Rattle.delta_bytes.specs.declared.layout.TheConstants.{LISTED, SENT, LEAST_BASE}
+use Rattle.deltas.specs.declared.TheConstants.{LEAST_BASE}
+use Rattle.delta_bytes.specs.declared.layout.TheConstants.{LISTED, SENT}
 use Rattle.deltas.specs.Entries.{Entry, entry_last, MayFollow}
 use Rattle.deltas.specs.Entries.Entry.{Listed, Sent}
 

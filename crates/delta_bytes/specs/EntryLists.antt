@@ -2,7 +2,7 @@
 use Rattle.std.specs.Prelude.{◌≡◌, ℕ, ◌<◌, List, [], ◌++◌, length}
 use Rattle.std.specs.List.{flat_map}
 use Rattle.cover_ranges.specs.Runs.{Runs}
-use Rattle.delta_bytes.specs.declared.layout.TheConstants.{LEAST_BASE}
+use Rattle.deltas.specs.declared.TheConstants.{LEAST_BASE}
 use Rattle.delta_bytes.specs.declared.error.EntriesError.{EntriesError}
 use Rattle.delta_bytes.specs.declared.error.EntriesError.TheVariants.{BadBatch, Outside, Extra}
 use Rattle.deltas.specs.Entries.{Entry, IsWithin, AreEntries}

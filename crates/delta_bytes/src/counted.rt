@@ -10,10 +10,10 @@ ghost use Rattle.delta_bytes.specs.EntryLists.{HoldsEntries, EntriesFault};
 
 use crate::entry::{EntryError, judge_entry};
 use crate::error::EntriesError;
-use crate::layout::LEAST_BASE;
 use batch_codec::numbers::be_i32_at;
 use copy_images::layout::COUNT_SIZE;
 use copy_images::ranges::{RangeBytes, ending_from};
+use deltas::LEAST_BASE;
 
 /// Judges that many entries, and that nothing follows them. Each is judged whole before it is asked whether
 /// it lies in the ranges.

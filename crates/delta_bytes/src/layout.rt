@@ -48,5 +48,3 @@ pub const OFFSET_SIZE: usize = 8;
 pub const COUNT_AT: usize = 8;
 /// Byte offset of the offsets, from the byte behind the kind on.
 pub const OFFSETS_AT: usize = 12;
-/// The least base offset that the first entry may have: it has no bound but that of an int64.
-pub const LEAST_BASE: i64 = i64::MIN;

@@ -19,7 +19,8 @@ use Rattle.content_laws.proofs.ContentSteps.{IsFrom, end_of_part}
 use Rattle.content_laws.proofs.Windows.{each_weaker}
 use Rattle.deltas.specs.Entries.{Entry, entry_base, sent}
 use Rattle.deltas.specs.Entries.Entry.{Listed, Sent}
-use Rattle.deltas.specs.Deltas.{Delta, IsDelta, LOWEST}
+use Rattle.deltas.specs.declared.TheConstants.{LEAST_BASE}
+use Rattle.deltas.specs.Deltas.{Delta, IsDelta}
 use Rattle.deltas.specs.Patches.{later_start, patch}
 use Rattle.deltas.specs.Accepting.{sent_part, ListFitsAt, AcceptsAt, Accepts}
 use Rattle.deltas.proofs.Entries.{sent_entry}
@@ -118,7 +119,7 @@ module _ (c : Content) (e : Delta) (is : IsContent c) (delta : IsDelta e) (accep
 
       ends : (b : BatchValue) → later_start c e ≤ℤ o → IsFrom c o b ⊎ IsSent e o b → AllByRecursion (λ k. k ≤ℤ last_offset b) offsets
       ends b from (inl p) = subst (λ (n : ℤ). AllByRecursion (λ k. k ≤ℤ n) offsets) (sym (end_of_part b p.batch p.part)) ((old.1 (omega (arith, ints, clamps, from))).1 p.batch p.there)
-      ends b from (inr p) = absurd (clash (look_up entry_base o e.entries) b found.0 (sent_entry LOWEST o e.entries b (rises_all e delta) p) found.1)
+      ends b from (inr p) = absurd (clash (look_up entry_base o e.entries) b found.0 (sent_entry LEAST_BASE o e.entries b (rises_all e delta) p) found.1)
 
       above : (patch c e).start ≤ℤ o → (covers (patch c e).cover o ≡ true) × ((b : BatchValue) → look_up first_offset o (patch c e).kept ≡ Some b → AllByRecursion (λ k. k ≤ℤ last_offset b) offsets)
       above from =

@@ -22,7 +22,8 @@ use Rattle.content_laws.proofs.Slots.{is_below, bases_rise, kept_keepable, slot_
 use Rattle.content_laws.proofs.ContentSteps.{IsFrom, end_of_part}
 use Rattle.deltas.specs.Entries.{sent}
 use Rattle.deltas.specs.Entries.Entry.{Sent}
-use Rattle.deltas.specs.Deltas.{Delta, IsDelta, LOWEST}
+use Rattle.deltas.specs.declared.TheConstants.{LEAST_BASE}
+use Rattle.deltas.specs.Deltas.{Delta, IsDelta}
 use Rattle.deltas.specs.Patches.{Said, said_at, with_listed, slot_patch, patched_batch, later_start, patch}
 use Rattle.deltas.specs.Patches.Said.{Says, Lists}
 use Rattle.deltas.proofs.Entries.{IsEntry, sent_rises, sent_entry}
@@ -80,7 +81,7 @@ patch_side c e o z is delta f = by (patch_from c e o z is delta f)
 
 -- a sent batch is one that a copy may keep, and each offset of its span was seen
 pub sent_is_entry : (e : Delta) (o : ℤ) (z : BatchValue) → IsDelta e → IsSent e o z → IsEntry e.cover e.asked (Sent z)
-sent_is_entry e o z is f = is_entry e o (Sent z) is (sent_entry LOWEST o e.entries z (rises_all e is) f)
+sent_is_entry e o z is f = is_entry e o (Sent z) is (sent_entry LEAST_BASE o e.entries z (rises_all e is) f)
 
 -- ---- where the batches lie
 
@@ -93,18 +94,18 @@ patch_above c e o z is delta f = by (int_lt o c.start || int_lt o e.start) refl
         absurd (none_some (batch_of_slot (slot_patch (slot_at c o) (said_at e o))) z (sym (patch_kept c e o is delta) ∙ f) (below_none (slot_at c o) (said_at e o) below))
     by false s = grind (arith, ints, clamps, s)
 
-rises_all_kept : (c : Content) (e : Delta) → IsContent c → IsDelta e → Rises first_offset LOWEST (patch c e).kept
+rises_all_kept : (c : Content) (e : Delta) → IsContent c → IsDelta e → Rises first_offset LEAST_BASE (patch c e).kept
 unfolding patch
 rises_all_kept c e is delta =
     let least = is.in_range.0 in
     let left : Rises first_offset c.start (filter_map (patched_batch e) c.kept) = rises-filter_map first_offset (patched_batch e) (patched_base e) c.start c.kept (bases_rise c is) in
-    let right : Rises first_offset LOWEST (filter (λ b. is_unknown (slot_at c (first_offset b))) (sent e.entries)) = rises-filter first_offset (λ b. is_unknown (slot_at c (first_offset b))) LOWEST (sent e.entries) (sent_rises LOWEST e.entries (rises_all e delta)) in
-    rises-put_all first_offset LOWEST (filter_map (patched_batch e) c.kept) (filter (λ b. is_unknown (slot_at c (first_offset b))) (sent e.entries))
-    (rises-lower first_offset LOWEST c.start (filter_map (patched_batch e) c.kept) left (omega (arith, ints, least))) right
+    let right : Rises first_offset LEAST_BASE (filter (λ b. is_unknown (slot_at c (first_offset b))) (sent e.entries)) = rises-filter first_offset (λ b. is_unknown (slot_at c (first_offset b))) LEAST_BASE (sent e.entries) (sent_rises LEAST_BASE e.entries (rises_all e delta)) in
+    rises-put_all first_offset LEAST_BASE (filter_map (patched_batch e) c.kept) (filter (λ b. is_unknown (slot_at c (first_offset b))) (sent e.entries))
+    (rises-lower first_offset LEAST_BASE c.start (filter_map (patched_batch e) c.kept) left (omega (arith, ints, least))) right
 
 pub patch_bases_rise : (c : Content) (e : Delta) → IsContent c → IsDelta e → Rises first_offset (later_start c e) (patch c e).kept
-patch_bases_rise c e is delta = rises-raise first_offset LOWEST (later_start c e) (patch c e).kept (rises_all_kept c e is delta)
-    (all_from_at first_offset (λ (z : BatchValue). later_start c e ≤ℤ first_offset z) LOWEST (patch c e).kept (rises_all_kept c e is delta) (λ z f. patch_above c e (first_offset z) z is delta f))
+patch_bases_rise c e is delta = rises-raise first_offset LEAST_BASE (later_start c e) (patch c e).kept (rises_all_kept c e is delta)
+    (all_from_at first_offset (λ (z : BatchValue). later_start c e ≤ℤ first_offset z) LEAST_BASE (patch c e).kept (rises_all_kept c e is delta) (λ z f. patch_above c e (first_offset z) z is delta f))
 
 -- a batch that reached into another one's base would make that base Gone, on its own side
 pub patch_apart : (c : Content) (e : Delta) → IsContent c → IsDelta e → AreApart (patch c e).kept

@@ -18,7 +18,8 @@ use Rattle.content.specs.Joins.Slot.{Unknown, Kept, Gone, Below}
 use Rattle.content_laws.proofs.ByOffset.{look_up-offset, look_up-filter_offset, look_up-filter_map, look_up-put_all, rises-filter}
 use Rattle.content_laws.proofs.Slots.{is_seen, is_below, bases_rise, slot_batch, slot_seen, slot_below}
 use Rattle.deltas.specs.Entries.{sent}
-use Rattle.deltas.specs.Deltas.{Delta, IsDelta, LOWEST}
+use Rattle.deltas.specs.declared.TheConstants.{LEAST_BASE}
+use Rattle.deltas.specs.Deltas.{Delta, IsDelta}
 use Rattle.deltas.specs.Patches.{Said, said_at, with_listed, slot_patch, patched_batch, later_start, patch}
 use Rattle.deltas.specs.Patches.Said.{Says, Lists}
 use Rattle.deltas.proofs.Entries.{sent_rises}
@@ -56,7 +57,7 @@ patch_kept c e o is delta =
     let right : look_up first_offset o news ≡ (if is_unknown (slot_at c o) then said_batch (said_at e o) else None)
     = look_up-filter_offset first_offset (λ n. is_unknown (slot_at c n)) o (sent e.entries)
     ∙ ap (λ (z : Option BatchValue). if is_unknown (slot_at c o) then z else None) (reads_batch e o delta) in
-    look_up-put_all first_offset LOWEST o (filter_map (patched_batch e) c.kept) news (rises-filter first_offset (λ b. is_unknown (slot_at c (first_offset b))) LOWEST (sent e.entries) (sent_rises LOWEST e.entries (rises_all e delta)))
+    look_up-put_all first_offset LEAST_BASE o (filter_map (patched_batch e) c.kept) news (rises-filter first_offset (λ b. is_unknown (slot_at c (first_offset b))) LEAST_BASE (sent e.entries) (sent_rises LEAST_BASE e.entries (rises_all e delta)))
     ∙ (λ i. option_or (right i) (left i)) ∙ kept_table (slot_at c o) (said_at e o)
 
 -- ---- start and runs

@@ -14,7 +14,8 @@ use Rattle.content_laws.proofs.ByOffset.{look_up-offset}
 use Rattle.content_laws.proofs.Slots.{is_seen, is_below}
 use Rattle.deltas.specs.Entries.{Entry, entry_base, batch_sent, sent}
 use Rattle.deltas.specs.Entries.Entry.{Listed, Sent}
-use Rattle.deltas.specs.Deltas.{Delta, IsDelta, LOWEST}
+use Rattle.deltas.specs.declared.TheConstants.{LEAST_BASE}
+use Rattle.deltas.specs.Deltas.{Delta, IsDelta}
 use Rattle.deltas.specs.Patches.{Said, said_by, said_at}
 use Rattle.deltas.specs.Patches.Said.{Says, Lists}
 use Rattle.deltas.proofs.Entries.{IsEntry, entries_rise, entry_holds, entries_apart, entry_end, sent_at, sent_entry}
@@ -33,11 +34,11 @@ said_below (Lists offsets) = false
 
 -- ---- an entry's base was seen, so it isn't below the start
 
-pub rises_all : (e : Delta) → IsDelta e → Rises entry_base LOWEST e.entries
-rises_all e is = entries_rise e.cover e.asked LOWEST e.entries is.entries
+pub rises_all : (e : Delta) → IsDelta e → Rises entry_base LEAST_BASE e.entries
+rises_all e is = entries_rise e.cover e.asked LEAST_BASE e.entries is.entries
 
 pub is_entry : (e : Delta) (o : ℤ) (x : Entry) → IsDelta e → look_up entry_base o e.entries ≡ Some x → IsEntry e.cover e.asked x
-is_entry e o x is f = entry_holds e.cover e.asked LOWEST o e.entries x is.entries f
+is_entry e o x is f = entry_holds e.cover e.asked LEAST_BASE o e.entries x is.entries f
 
 pub entry_covered : (e : Delta) (o : ℤ) (x : Entry) → IsDelta e → look_up entry_base o e.entries ≡ Some x → covers e.cover o ≡ true
 entry_covered e o x is f = by x (look_up-offset entry_base o e.entries x f) (is_entry e o x is f)
@@ -68,7 +69,7 @@ below_unseen e o is below = by (covers e.cover o) refl
 -- ---- the three questions
 
 pub reads_batch : (e : Delta) (o : ℤ) → IsDelta e → look_up first_offset o (sent e.entries) ≡ said_batch (said_at e o)
-reads_batch e o is = sent_at LOWEST o e.entries (rises_all e is) ∙ by (int_lt o e.start) (look_up entry_base o e.entries) (covers e.cover o) (below_none e o is)
+reads_batch e o is = sent_at LEAST_BASE o e.entries (rises_all e is) ∙ by (int_lt o e.start) (look_up entry_base o e.entries) (covers e.cover o) (below_none e o is)
   where
     by : (t : Bool) (z : Option Entry) (s : Bool) → (t ≡ true → z ≡ None) → option_and_then batch_sent z ≡ said_batch (if t then Says Below else said_by z s)
     by true z s low = ap (option_and_then batch_sent) (low refl)
@@ -99,10 +100,10 @@ reads_below e o = by (int_lt o e.start) (look_up entry_base o e.entries) (covers
 
 -- the offsets behind a sent batch's base are seen, and no entry begins there
 pub sent_gone : (e : Delta) (o i : ℤ) (b : BatchValue) → IsDelta e → look_up first_offset o (sent e.entries) ≡ Some b → o <ℤ i → i ≤ℤ last_offset b → said_at e i ≡ Says Gone
-sent_gone e o i b is f less within = by (int_lt i e.start) (look_up entry_base i e.entries) (covers e.cover i) refl (λ x g. entries_apart e.cover e.asked LOWEST o i e.entries (Sent b) x is.entries entry g less) seen
+sent_gone e o i b is f less within = by (int_lt i e.start) (look_up entry_base i e.entries) (covers e.cover i) refl (λ x g. entries_apart e.cover e.asked LEAST_BASE o i e.entries (Sent b) x is.entries entry g less) seen
   where
     entry : look_up entry_base o e.entries ≡ Some (Sent b)
-    entry = sent_entry LOWEST o e.entries b (rises_all e is) f
+    entry = sent_entry LEAST_BASE o e.entries b (rises_all e is) f
 
     base : first_offset b ≡ o
     base = look_up-offset entry_base o e.entries (Sent b) entry

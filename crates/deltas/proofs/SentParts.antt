@@ -12,24 +12,25 @@ use Rattle.content_laws.proofs.ByOffset.{look_up-offset, rises-raise, all_from_a
 use Rattle.content_laws.proofs.Batches.{AreApart, spans_from, HasRecord, record_from}
 use Rattle.deltas.specs.Entries.{sent}
 use Rattle.deltas.specs.Entries.Entry.{Sent}
-use Rattle.deltas.specs.Deltas.{Delta, IsDelta, LOWEST}
+use Rattle.deltas.specs.declared.TheConstants.{LEAST_BASE}
+use Rattle.deltas.specs.Deltas.{Delta, IsDelta}
 use Rattle.deltas.specs.Accepting.{sent_part}
 use Rattle.deltas.proofs.Entries.{sent_rises, sent_entry, entries_apart}
 use Rattle.deltas.proofs.Sayings.{rises_all, entry_above}
 use Rattle.deltas.proofs.PatchContents.{IsSent, sent_is_entry}
 
 sent_there : (e : Delta) (o : ℤ) (z : BatchValue) → IsDelta e → IsSent e o z → e.start ≤ℤ o
-sent_there e o z is f = entry_above e o (Sent z) is (sent_entry LOWEST o e.entries z (rises_all e is) f)
+sent_there e o z is f = entry_above e o (Sent z) is (sent_entry LEAST_BASE o e.entries z (rises_all e is) f)
 
 sent_bases : (e : Delta) → IsDelta e → Rises first_offset e.start (sent e.entries)
 sent_bases e is =
-    let old : Rises first_offset LOWEST (sent e.entries) = sent_rises LOWEST e.entries (rises_all e is) in
-    rises-raise first_offset LOWEST e.start (sent e.entries) old
-    (all_from_at first_offset (λ (z : BatchValue). e.start ≤ℤ first_offset z) LOWEST (sent e.entries) old (λ z f. sent_there e (first_offset z) z is f))
+    let old : Rises first_offset LEAST_BASE (sent e.entries) = sent_rises LEAST_BASE e.entries (rises_all e is) in
+    rises-raise first_offset LEAST_BASE e.start (sent e.entries) old
+    (all_from_at first_offset (λ (z : BatchValue). e.start ≤ℤ first_offset z) LEAST_BASE (sent e.entries) old (λ z f. sent_there e (first_offset z) z is f))
 
 sent_apart : (e : Delta) → IsDelta e → AreApart (sent e.entries)
-sent_apart e is i j x y f g less = entries_apart e.cover e.asked LOWEST i j e.entries (Sent x) (Sent y) is.entries
-    (sent_entry LOWEST i e.entries x (rises_all e is) f) (sent_entry LOWEST j e.entries y (rises_all e is) g) less
+sent_apart e is i j x y f g less = entries_apart e.cover e.asked LEAST_BASE i j e.entries (Sent x) (Sent y) is.entries
+    (sent_entry LEAST_BASE i e.entries x (rises_all e is) f) (sent_entry LEAST_BASE j e.entries y (rises_all e is) g) less
 
 pub sent_content : (e : Delta) → IsDelta e → IsContent (sent_part e)
 sent_content e is = record {

@@ -21,7 +21,8 @@ use Rattle.content_laws.proofs.Windows.{each_weaker}
 use Rattle.deltas.specs.declared.TheConstants.{MAX_LISTED}
 use Rattle.deltas.specs.Entries.{OffsetsRise, AreCovered, IsList, last_listed, AreEntries}
 use Rattle.deltas.specs.Entries.Entry.{Listed, Sent}
-use Rattle.deltas.specs.Deltas.{IsDelta, LOWEST, offsets_of, covers_any, is_asked, entry_for, delta_of}
+use Rattle.deltas.specs.declared.TheConstants.{LEAST_BASE}
+use Rattle.deltas.specs.Deltas.{IsDelta, offsets_of, covers_any, is_asked, entry_for, delta_of}
 use Rattle.deltas.proofs.Entries.{Batches, entries_lower}
 use Rattle.deltas.proofs.Offsets.{offsets_rise, offsets_end}
 
@@ -145,7 +146,7 @@ delta_is x asked is canonical =
       canonical = is.canonical;
       above = is.above;
       asked = canonical;
-      entries = entries_lower x.cover asked LOWEST x.start (map (entry_for asked) x.kept) (omega (arith, ints, least))
+      entries = entries_lower x.cover asked LEAST_BASE x.start (map (entry_for asked) x.kept) (omega (arith, ints, least))
           (entries_are x.cover asked x.start x.kept is.canonical is.disjoint is.keepable
           (all_from_at first_offset (IsSeen x.cover) x.start x.kept (bases_rise x is) (λ b e o from to. is.inside (first_offset b) o b e from to)));
     }

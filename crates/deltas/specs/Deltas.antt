@@ -1,10 +1,11 @@
 -- What a copy tells another one that has some offsets already, by this project's own rule.
-use Rattle.std.specs.Prelude.{◌≡◌, ◌^◌, ℤ, pos, negsuc, ◌≤ℤ◌, int_le, Bool, true, ◌&&◌, List, map, if◌then◌else◌}
+use Rattle.std.specs.Prelude.{◌≡◌, ◌^◌, ℤ, pos, ◌≤ℤ◌, int_le, Bool, true, ◌&&◌, List, map, if◌then◌else◌}
 use Rattle.std.specs.List.{list_any}
 use Rattle.batch_codec.specs.Values.{BatchValue}
 use Rattle.batch_codec.specs.Offsets.{first_offset, last_offset, offset_of}
 use Rattle.cover_ranges.specs.Runs.{Runs, covers, IsCanonical}
 use Rattle.content.specs.Content.{Content}
+use Rattle.deltas.specs.declared.TheConstants.{LEAST_BASE}
 use Rattle.deltas.specs.Entries.{Entry, AreEntries}
 use Rattle.deltas.specs.Entries.Entry.{Listed, Sent}
 
@@ -16,10 +17,6 @@ pub record Delta : Type 0 where
   pub asked : Runs
   pub entries : List Entry
 
--- -2 ^ 63, the least number of 64 bits: a first base has no bound but that
-abbrev pub LOWEST : ℤ
-LOWEST = negsuc 9223372036854775807
-
 -- a valid delta
 pub record IsDelta (e : Delta) : Type 0 where
   pub in_range : (pos 0 ≤ℤ e.start) × (e.start ≤ℤ pos (2 ^ 62))
@@ -28,7 +25,7 @@ pub record IsDelta (e : Delta) : Type 0 where
   pub above : (o : ℤ) → covers e.cover o ≡ true → e.start ≤ℤ o
   -- these may lie below the start
   pub asked : IsCanonical e.asked
-  pub entries : AreEntries e.cover e.asked LOWEST e.entries
+  pub entries : AreEntries e.cover e.asked LEAST_BASE e.entries
 
 -- ---- the delta of a copy
 

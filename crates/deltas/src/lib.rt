@@ -22,3 +22,5 @@ pub mod records;
 
 /// The most offsets that an entry can list.
 pub const MAX_LISTED: usize = 0x7fff_ffff;
+/// The least base offset that the first entry of a delta may have: it has no bound but that of an int64.
+pub const LEAST_BASE: i64 = i64::MIN;
