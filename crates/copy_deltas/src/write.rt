@@ -15,8 +15,8 @@ ghost use Rattle.delta_bytes.specs.Deltas.{front_of, entries_encoding, delta_enc
 use crate::asking::{is_asked, record_count};
 use crate::size::size_of;
 use batch_codec::{BatchView, RecordView};
+use copy_images::fields::{count_field, put_crc, put_ranges};
 use copy_images::layout::{MAX_COUNT, VERSION};
-use copy_images::parts::{count_field, put_crc, put_ranges};
 use cover_ranges::Cover;
 use delta_bytes::layout::{LISTED, MARK, SENT};
 use partition_log::PartitionLog;

@@ -13,10 +13,10 @@
 pub mod batches;
 mod build;
 mod error;
+pub mod fields;
 pub mod front;
 pub mod laws;
 pub mod layout;
-pub mod parts;
 pub mod ranges;
 mod read;
 mod write;

@@ -5,8 +5,8 @@ ghost use Rattle.std.specs.List.{flat_map};
 ghost use Rattle.batch_codec.specs.Grammar.{batch_encoding};
 ghost use Rattle.copy_images.specs.Images.{head_of, front_of, image_of};
 
+use crate::fields::{count_field, put_crc, put_ranges};
 use crate::layout::{EMPTY_SIZE, MARK, MAX_COUNT, RANGE_SIZE, VERSION};
-use crate::parts::{count_field, put_crc, put_ranges};
 use partition_log::PartitionLog;
 use segment::BatchStore;
 use std::alloc::{AllocError, Allocator};

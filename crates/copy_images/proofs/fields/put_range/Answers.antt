@@ -2,7 +2,7 @@ use Rattle.std.proofs.Common.{rules}
 use Rattle.std.specs.Prelude.{FitsSigned}
 use Rattle.std.specs.Int.{w64}
 use Rattle.copy_images.proofs.Written.{range_put}
-use Rattle.copy_images.proofs.parts.put_range.Goals as goal
+use Rattle.copy_images.proofs.fields.put_range.Goals as goal
 
 pub returns : goal.returns
 returns g c =

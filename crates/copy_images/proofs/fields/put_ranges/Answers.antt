@@ -1,7 +1,7 @@
 use Rattle.std.proofs.Common.{pos}
 use Rattle.copy_images.specs.Images.{range_encoding}
 use Rattle.copy_images.proofs.Written.{range_written, all_written}
-use Rattle.copy_images.proofs.parts.put_ranges.Goals as goal
+use Rattle.copy_images.proofs.fields.put_ranges.Goals as goal
 
 pub loop-range-preserved : goal.loop-range-preserved
 loop-range-preserved g c =

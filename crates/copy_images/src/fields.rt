@@ -1,4 +1,4 @@
-//! Parts that images have in common with other bytes about copies: counts, ranges, the crc at the end.
+//! Fields that images have in common with other bytes about copies: counts, ranges, the crc at the end.
 
 ghost use Rattle.std.specs.Prelude.{◌≡◌, ◌++◌, ◌≤◌, ◌<◌, pos, length, IfOk, OnOk, IfErr};
 ghost use Rattle.std.specs.List.{flat_map};
