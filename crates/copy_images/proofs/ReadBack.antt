@@ -32,9 +32,9 @@ use Rattle.content.specs.Content.{Content, IsContent}
 use Rattle.cleaner.specs.Given.{content_of}
 use Rattle.copy_images.specs.declared.layout.TheConstants.{MARK, VERSION, FIRST_VERSION, RANGE_SIZE, COUNTS_SIZE, LEAST_SIZE, MAX_COUNT}
 use Rattle.copy_images.specs.Images.{front_of, body_of, IsImage}
-use Rattle.copy_images.specs.Refusals.{HasStart, version_in, start_in, body_in, range_count, HasFront, IsCoverFrom}
+use Rattle.copy_images.specs.Refusals.{IsOwnCrc, IsLogStart, HasStart, version_in, start_in, body_in, range_count, HasFront, IsCoverFrom}
 use Rattle.copy_images.specs.Judging.{ranges_of}
-use Rattle.copy_images.specs.Reading.{has_frame, are_runs, ranges_in, batch_count, batch_bytes, is_passed, may_follow, with_batch, sized_batches, batches_at, content_in, content_in_body, image_at}
+use Rattle.copy_images.specs.Reading.{has_front, has_frame, are_runs, ranges_in, batch_count, batch_bytes, is_passed, may_follow, with_batch, sized_batches, batches_at, content_in, content_in_body, image_at}
 use Rattle.copy_images.proofs.Parts.{IsBytes, IsFramed, body_back, frame_back, body_bytes, signed_fits}
 use Rattle.copy_images.proofs.PartsAgain.{IsReadAs, front_again}
 use Rattle.copy_images.proofs.Unique.{IsInside, all_inside}
@@ -46,49 +46,49 @@ Batches = List BatchValue
 
 -- ---- tests
 
-both : (a b : Bool) → (a && b) ≡ true → (a ≡ true) × (b ≡ true)
+pub both : (a b : Bool) → (a && b) ≡ true → (a ≡ true) × (b ≡ true)
 both true b e = (refl, e)
 both false b e = absurd (grind (arith, e))
 
-true_both : (a b : Bool) → a ≡ true → b ≡ true → (a && b) ≡ true
+pub true_both : (a b : Bool) → a ≡ true → b ≡ true → (a && b) ≡ true
 true_both a b e f = grind (arith, e, f)
 
-all_pass : {X : Type 0} (p : X → Bool) (xs : List X) → list_all p xs ≡ true → AllByRecursion (λ x. p x ≡ true) xs
+pub all_pass : {X : Type 0} (p : X → Bool) (xs : List X) → list_all p xs ≡ true → AllByRecursion (λ x. p x ≡ true) xs
 all_pass p [] e = tt
 all_pass p (x ∷ xs) e = let h = both (p x) (list_all p xs) e in (h.0, all_pass p xs h.1)
 
-pass_all : {X : Type 0} (p : X → Bool) (xs : List X) → AllByRecursion (λ x. p x ≡ true) xs → list_all p xs ≡ true
+pub pass_all : {X : Type 0} (p : X → Bool) (xs : List X) → AllByRecursion (λ x. p x ≡ true) xs → list_all p xs ≡ true
 pass_all p [] all = refl
 pass_all p (x ∷ xs) all = true_both (p x) (list_all p xs) all.0 (pass_all p xs all.1)
 
-at_most : (m n : ℕ) → nat_le m n ≡ true → m ≤ n
+pub at_most : (m n : ℕ) → nat_le m n ≡ true → m ≤ n
 at_most m n e = grind (arith, e)
 
-is_at_most : (m n : ℕ) → m ≤ n → nat_le m n ≡ true
+pub is_at_most : (m n : ℕ) → m ≤ n → nat_le m n ≡ true
 is_at_most m n le = grind (arith, le)
 
-below : (a b : ℤ) → int_le a b ≡ true → a ≤ℤ b
+pub below : (a b : ℤ) → int_le a b ≡ true → a ≤ℤ b
 below a b e = grind (arith, ints, e)
 
-is_below : (a b : ℤ) → a ≤ℤ b → int_le a b ≡ true
+pub is_below : (a b : ℤ) → a ≤ℤ b → int_le a b ≡ true
 is_below a b le = grind (arith, ints, le)
 
-lower : (a b : ℤ) → int_lt a b ≡ true → a <ℤ b
+pub lower : (a b : ℤ) → int_lt a b ≡ true → a <ℤ b
 lower a b e = grind (arith, ints, e)
 
-is_lower : (a b : ℤ) → a <ℤ b → int_lt a b ≡ true
+pub is_lower : (a b : ℤ) → a <ℤ b → int_lt a b ≡ true
 is_lower a b lt = grind (arith, ints, lt)
 
-same_int : (a b : ℤ) → int_eq a b ≡ true → a ≡ b
+pub same_int : (a b : ℤ) → int_eq a b ≡ true → a ≡ b
 same_int a b e = grind (arith, ints, e)
 
-is_same_int : (a b : ℤ) → a ≡ b → int_eq a b ≡ true
+pub is_same_int : (a b : ℤ) → a ≡ b → int_eq a b ≡ true
 is_same_int a b e = grind (arith, ints, e)
 
-is_same : (m n : ℕ) → m ≡ n → (m == n) ≡ true
+pub is_same : (m n : ℕ) → m ≡ n → (m == n) ≡ true
 is_same m n e = grind (arith, e)
 
-runs_say : (low : ℤ) (runs : Runs) → are_runs low runs ≡ true → RunsFrom low runs
+pub runs_say : (low : ℤ) (runs : Runs) → are_runs low runs ≡ true → RunsFrom low runs
 runs_say low [] e = tt
 runs_say low (run ∷ runs) e =
     let a = both (int_le low run.0) _ e in
@@ -96,7 +96,7 @@ runs_say low (run ∷ runs) e =
     let c = both (int_lt run.1 OFFSETS_END) (are_runs (run.1 +ℤ pos 2) runs) b.1 in
     (below low run.0 a.0, below run.0 run.1 b.0, lower run.1 OFFSETS_END c.0, runs_say (run.1 +ℤ pos 2) runs c.1)
 
-runs_said : (low : ℤ) (runs : Runs) → RunsFrom low runs → are_runs low runs ≡ true
+pub runs_said : (low : ℤ) (runs : Runs) → RunsFrom low runs → are_runs low runs ≡ true
 runs_said low [] h = refl
 runs_said low (run ∷ runs) h =
     true_both (int_le low run.0) _ (is_below low run.0 h.0)
@@ -112,7 +112,7 @@ record AreRead (ranges : Runs) (from : ℤ) (n : ℕ) (bytes : List ℕ) (bs : B
   keepable : AllByRecursion IsKeepable bs
   seen : AllByRecursion (λ b. CoversAll ranges (first_offset b) (last_offset b)) bs
 
-passed : (c : Checked) → is_passed c ≡ true → c ≡ Ok tt
+pub passed : (c : Checked) → is_passed c ≡ true → c ≡ Ok tt
 passed (Ok u) e = refl
 passed (Err x) e = absurd cc
 
@@ -188,27 +188,32 @@ module _ (ranges : Runs) where
 
 -- ---- the whole
 
-cond_some : {X : Type 0} (b : Bool) (o : Option X) (x : X) → cond b o None ≡ Some x → (b ≡ true) × (o ≡ Some x)
+pub cond_some : {X : Type 0} (b : Bool) (o : Option X) (x : X) → cond b o None ≡ Some x → (b ≡ true) × (o ≡ Some x)
 cond_some true o x e = (refl, e)
 cond_some false o x e = absurd cc
 
-map_some : {X Y : Type 0} (f : X → Y) (o : Option X) (y : Y) → option_map f o ≡ Some y → (x : X) × (o ≡ Some x) × (f x ≡ y)
+pub map_some : {X Y : Type 0} (f : X → Y) (o : Option X) (y : Y) → option_map f o ≡ Some y → (x : X) × (o ≡ Some x) × (f x ≡ y)
 map_some f (Some x) y e = (x, refl, cc)
 map_some f None y e = absurd cc
 
-either : (a b : Bool) → (a || b) ≡ true → (a ≡ true) ⊎ (b ≡ true)
+pub either : (a b : Bool) → (a || b) ≡ true → (a ≡ true) ⊎ (b ≡ true)
 either true b e = inl refl
 either false b e = inr e
 
-frame_says : (bytes : List ℕ) → has_frame bytes ≡ true → HasStart bytes
-frame_says bytes e =
-    let a = both (nat_le LEAST_SIZE (length bytes)) _ e in
-    let b = both (unsigned_at w32 0 bytes == MARK) _ a.1 in
+-- what the test of a front says of bytes that begin with this mark and are at least so many
+abbrev pub HasStartOf : (mark least : ℕ) → List ℕ → Type 0
+HasStartOf mark least bytes =
+    ((((least ≤ length bytes) × (unsigned_at w32 0 bytes ≡ mark)) × ((version_in bytes ≡ VERSION) ⊎ (version_in bytes ≡ FIRST_VERSION))) × IsOwnCrc bytes) × IsLogStart (start_in bytes)
+
+pub front_says : (mark least : ℕ) (bytes : List ℕ) → has_front mark least bytes ≡ true → HasStartOf mark least bytes
+front_says mark least bytes e =
+    let a = both (nat_le least (length bytes)) _ e in
+    let b = both (unsigned_at w32 0 bytes == mark) _ a.1 in
     let c = both (int_eq (version_in bytes) VERSION || int_eq (version_in bytes) FIRST_VERSION) _ b.1 in
     let d = both (unsigned_at w32 (length bytes - 4) bytes == crc_of (take (length bytes - 4) bytes)) _ c.1 in
     let f = both (int_le (pos 0) (start_in bytes)) (int_le (start_in bytes) OFFSETS_END) d.1 in (
       (
-        ((at_most LEAST_SIZE (length bytes) a.0, eqb-true (unsigned_at w32 0 bytes) MARK b.0), known (either (int_eq (version_in bytes) VERSION) (int_eq (version_in bytes) FIRST_VERSION) c.0)),
+        ((at_most least (length bytes) a.0, eqb-true (unsigned_at w32 0 bytes) mark b.0), known (either (int_eq (version_in bytes) VERSION) (int_eq (version_in bytes) FIRST_VERSION) c.0)),
         eqb-true _ _ d.0,
       ),
       (below (pos 0) (start_in bytes) f.0, below (start_in bytes) OFFSETS_END f.1),
@@ -218,10 +223,10 @@ frame_says bytes e =
     known (inl e) = inl (same_int (version_in bytes) VERSION e)
     known (inr e) = inr (same_int (version_in bytes) FIRST_VERSION e)
 
-frame_said : (bytes : List ℕ) → HasStart bytes → has_frame bytes ≡ true
-frame_said bytes has =
-    true_both (nat_le LEAST_SIZE (length bytes)) _ (is_at_most LEAST_SIZE (length bytes) has.0.0.0.0)
-    (true_both (unsigned_at w32 0 bytes == MARK) _ (is_same (unsigned_at w32 0 bytes) MARK has.0.0.0.1)
+pub front_said : (mark least : ℕ) (bytes : List ℕ) → HasStartOf mark least bytes → has_front mark least bytes ≡ true
+front_said mark least bytes has =
+    true_both (nat_le least (length bytes)) _ (is_at_most least (length bytes) has.0.0.0.0)
+    (true_both (unsigned_at w32 0 bytes == mark) _ (is_same (unsigned_at w32 0 bytes) mark has.0.0.0.1)
     (true_both (int_eq (version_in bytes) VERSION || int_eq (version_in bytes) FIRST_VERSION) _ (known has.0.0.1)
     (true_both (unsigned_at w32 (length bytes - 4) bytes == crc_of (take (length bytes - 4) bytes)) _ (is_same _ _ has.0.1)
     (true_both (int_le (pos 0) (start_in bytes)) (int_le (start_in bytes) OFFSETS_END) (is_below (pos 0) (start_in bytes) has.1.0) (is_below (start_in bytes) OFFSETS_END has.1.1)))))
@@ -230,7 +235,7 @@ frame_said bytes has =
     known (inl e) = grind (arith, ints, e)
     known (inr e) = grind (arith, ints, e)
 
-count_small : (z : ℤ) (n : ℕ) → FitsSigned w32 z → z ≡ pos n → n ≤ MAX_COUNT
+pub count_small : (z : ℤ) (n : ℕ) → FitsSigned w32 z → z ≡ pos n → n ≤ MAX_COUNT
 count_small z n fits is = let small : FitsSigned w32 (pos n) = subst (FitsSigned w32) is fits in omega (arith, small.sfits)
 
 module _ (bytes : List ℕ) (c : Content) (fits : IsBytes bytes) (has : HasStart bytes) where
@@ -273,12 +278,12 @@ unfolding image_at
 image_read bytes c fits e =
     let body = body_in bytes in
     let test = cond_some (has_frame bytes) (content_in_body (start_in bytes) body) c e in
-    counted_read bytes c fits (frame_says bytes test.0) (range_count body) (batch_count (unsigned_abs (range_count body)) body) refl refl test.1
+    counted_read bytes c fits (front_says MARK LEAST_SIZE bytes test.0) (range_count body) (batch_count (unsigned_abs (range_count body)) body) refl refl test.1
 
 -- ---- an image is read again
 
 -- chunks of the front alone
-chunks_in_front : (n : ℕ) (xs : List ℕ) → first_chunks 16 n (take (16 * n) xs) ≡ first_chunks 16 n xs
+pub chunks_in_front : (n : ℕ) (xs : List ℕ) → first_chunks 16 n (take (16 * n) xs) ≡ first_chunks 16 n xs
 chunks_in_front zero xs = refl
 chunks_in_front (suc n) xs =
     let split : 16 * suc n ≡ 16 + 16 * n = omega arith in
@@ -329,5 +334,5 @@ image_is_read bytes c is =
     let f : IsFrontOf bytes c = image_front bytes c is in
     let body = body_in bytes in
     let read = front_again body c.cover (pos (length c.kept)) (flat_map batch_encoding c.kept) f.front in
-    (λ i. cond (frame_said bytes f.start i) (content_in_body (f.start_is i) body) None)
+    (λ i. cond (front_said MARK LEAST_SIZE bytes f.start i) (content_in_body (f.start_is i) body) None)
     ∙ body_again body c.start c.cover c.kept read is.content

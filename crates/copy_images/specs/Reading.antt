@@ -27,15 +27,20 @@ IsBytes bytes = (i : ℕ) → slice_index bytes i < 256
 
 -- ---- the front
 
--- the size, the mark, the version, the crc and the log start are those of an image
-abbrev pub has_frame : List ℕ → Bool
-has_frame bytes =
+-- the size, the mark, the version, the crc and the log start are as they should be, for bytes that begin with this mark and
+-- are at least so many
+abbrev pub has_front : (mark least : ℕ) → List ℕ → Bool
+has_front mark least bytes =
     let end = length bytes - CRC_SIZE in
-    nat_le LEAST_SIZE (length bytes)
-    && (unsigned_at w32 0 bytes == MARK
+    nat_le least (length bytes)
+    && (unsigned_at w32 0 bytes == mark
     && ((int_eq (version_in bytes) VERSION || int_eq (version_in bytes) FIRST_VERSION)
     && (unsigned_at w32 end bytes == crc_of (take end bytes)
     && (int_le (pos 0) (start_in bytes) && int_le (start_in bytes) OFFSETS_END))))
+
+-- those of an image
+abbrev pub has_frame : List ℕ → Bool
+has_frame bytes = has_front MARK LEAST_SIZE bytes
 
 -- maximal runs, the first of which starts at `low` or later
 abbrev pub are_runs : (low : ℤ) → Runs → Bool

@@ -1,7 +1,8 @@
-//! The batches of an image, judged where they stand in its bytes.
+//! The batches of an image, where they stand in its bytes: judged, and taken one after the other.
 
-ghost use Rattle.std.specs.Prelude.{◌≤ℤ◌, pos, ◌↔◌, IsTrue, OnOk, IfErr, MatchOption};
+ghost use Rattle.std.specs.Prelude.{◌≡◌, ℕ, ◌≤ℤ◌, pos, ◌↔◌, List, ◌++◌, IsTrue, OnOk, IfErr, MatchOption};
 ghost use Rattle.batch_codec.specs.Values.{BatchValue};
+ghost use Rattle.batch_codec.specs.Grammar.{Writable, batch_encoding};
 ghost use Rattle.batch_codec.specs.Offsets.{first_offset, HasKeys};
 ghost use Rattle.content.specs.Content.{IsInRange};
 ghost use Rattle.cover_ranges.specs.Runs.{IsCanonical};
@@ -10,7 +11,13 @@ ghost use Rattle.copy_images.specs.Judging.{ranges_of, HoldsBatches, BatchesFaul
 
 use crate::error::ImageError;
 use crate::ranges::{RangeBytes, ending_from, first_holds};
+use batch_codec::numbers::be_i32_at;
 use batch_codec::{BatchView, view};
+
+/// Byte offset of a batch's length field, an int32: how many bytes follow it.
+const LENGTH_AT: usize = 8;
+/// Byte offset of the first byte that the length field counts.
+const LENGTH_END: usize = 12;
 
 /// Whether a batch may follow batches that end before `from`.
 fn may_follow(batch: &BatchView<'_>, from: i64) -> bool
@@ -66,4 +73,16 @@ pub(crate) fn judge_batches(
         return Err(ImageError::Extra);
     }
     Ok(())
+}
+
+/// The batch at the front, which is known to stand there, and the bytes after it.
+pub fn split_batch(bytes: &[u8]) -> (BatchView<'_>, &[u8])
+    requires { (b : BatchValue) × (rest : List ℕ) × Writable b
+        × (bytes.now ≡ batch_encoding b ++ rest) }
+    ensures { (b : BatchValue) → (rest : List ℕ) → Writable b
+        → bytes.now ≡ batch_encoding b ++ rest → (result.0 ≡ b) × (result.1.now ≡ rest) }
+{
+    let size = be_i32_at(bytes, LENGTH_AT).unsigned_abs() as usize + LENGTH_END;
+    let (batch, rest) = bytes.split_at(size);
+    (BatchView::open(batch), rest)
 }

@@ -68,7 +68,11 @@ pub fn first_holds(ranges: &[RangeBytes], first: i64, last: i64) -> bool
 }
 
 /// The set of these ranges.
-pub(crate) fn build_cover<A: Allocator + Copy>(
+///
+/// # Errors
+///
+/// Out of memory.
+pub fn build_cover<A: Allocator + Copy>(
     alloc: A,
     ranges: &[RangeBytes],
 ) -> Result<Cover<A>, AllocError>

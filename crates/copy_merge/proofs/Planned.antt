@@ -30,14 +30,14 @@ use Rattle.copy_merge.proofs.Steps.{chosen, IsFrom, HasCome, comes, AreBefore, a
 abbrev pub before : ℤ → Batches → Batches
 before n bs = filter (λ b. int_lt (first_offset b) n) bs
 
-before_none : (n low : ℤ) (bs : Batches) → Rises first_offset low bs → n ≤ℤ low → before n bs ≡ []
+pub before_none : (n low : ℤ) (bs : Batches) → Rises first_offset low bs → n ≤ℤ low → before n bs ≡ []
 before_none n low [] rise le = refl
 before_none n low (z ∷ bs) rise le =
     let past : int_lt (first_offset z) n ≡ false = grind (arith, ints, le, rise.0) in
     let rest = before_none n (first_offset z +ℤ pos 1) bs rise.1 (omega (arith, ints, le, rise.0)) in
     grind (arith, past, rest)
 
-before_all : (n : ℤ) (bs : Batches) → AllByRecursion (λ b. first_offset b <ℤ n) bs → before n bs ≡ bs
+pub before_all : (n : ℤ) (bs : Batches) → AllByRecursion (λ b. first_offset b <ℤ n) bs → before n bs ≡ bs
 before_all n [] all = refl
 before_all n (z ∷ bs) all =
     let here : int_lt (first_offset z) n ≡ true = grind (arith, ints, all.0) in
@@ -45,7 +45,7 @@ before_all n (z ∷ bs) all =
     grind (arith, here, rest)
 
 -- up to the next base, one batch more at most
-before_next : (n later low : ℤ) (bs : Batches) → Rises first_offset low bs → n <ℤ later → ((k : ℤ) → n <ℤ k → k <ℤ later → look_up first_offset k bs ≡ None)
+pub before_next : (n later low : ℤ) (bs : Batches) → Rises first_offset low bs → n <ℤ later → ((k : ℤ) → n <ℤ k → k <ℤ later → look_up first_offset k bs ≡ None)
     → before later bs ≡ before n bs ++ cons_option (look_up first_offset n bs) []
 before_next n later low [] rise less none = refl
 before_next n later low (z ∷ bs) rise less none =
@@ -156,7 +156,7 @@ merge_in_range a b is_a is_b =
     all_from_at first_offset (λ (z : BatchValue). (pos 0 ≤ℤ first_offset z) × (first_offset z <ℤ pos (2 ^ 62))) (join a b).start (join a b).kept (merge_rises a b is_a is_b)
     (λ z e. let range = kept_in_range (join a b) (first_offset z) z is e in let ends = kept_ends (join a b) (first_offset z) z is e in (range.0, omega (arith, ints, range.1, ends)))
 
-all_less : (n : ℤ) (bs : Batches) → AllByRecursion (λ b. (pos 0 ≤ℤ first_offset b) × (first_offset b <ℤ n)) bs → AllByRecursion (λ b. first_offset b <ℤ n) bs
+pub all_less : (n : ℤ) (bs : Batches) → AllByRecursion (λ b. (pos 0 ≤ℤ first_offset b) × (first_offset b <ℤ n)) bs → AllByRecursion (λ b. first_offset b <ℤ n) bs
 all_less n [] all = tt
 all_less n (z ∷ bs) all = (all.0.1, all_less n bs all.1)
 
@@ -226,11 +226,11 @@ front_left (x ∷ xs) (y ∷ ys) = by (int_lt (first_offset x) (first_offset y))
     by false true = refl
     by false false = refl
 
-push_made : (made : Batches) (z : Option BatchValue) (rest : Batches) → made ++ cons_option z rest ≡ (made ++ cons_option z []) ++ rest
+pub push_made : (made : Batches) (z : Option BatchValue) (rest : Batches) → made ++ cons_option z rest ≡ (made ++ cons_option z []) ++ rest
 push_made made None rest = ap (λ (bs : Batches). bs ++ rest) (sym (append-nil made))
 push_made made (Some z) rest = sym (append_assoc made (z ∷ []) rest)
 
-made_next : (kept xs next made : Batches) (left z : Option BatchValue) (turns later : List Turn) (more news : Batches) → Adds left z turns later more news → xs ≡ cons_option left next
+pub made_next : (kept xs next made : Batches) (left z : Option BatchValue) (turns later : List Turn) (more news : Batches) → Adds left z turns later more news → xs ≡ cons_option left next
     → ((rest : List Turn) (ms : Batches) → woven (turns ++ rest) kept (more ++ ms) ≡ made ++ woven rest xs ms)
     → (rest : List Turn) (ms : Batches) → woven (later ++ rest) kept (news ++ ms) ≡ (made ++ cons_option z []) ++ woven rest next ms
 made_next kept xs next made left z turns later more news adds front makes rest ms =
@@ -241,15 +241,15 @@ made_next kept xs next made left z turns later more news adds front makes rest m
     ∙ ap (λ (bs : Batches). made ++ bs) (adds.makes rest next ms)
     ∙ push_made made z (woven rest next ms)
 
-all_later : (bs : Batches) (n later : ℤ) (more : Batches) → n <ℤ later → AllByRecursion (IsOfBefore bs n) more → AllByRecursion (IsOfBefore bs later) more
+pub all_later : (bs : Batches) (n later : ℤ) (more : Batches) → n <ℤ later → AllByRecursion (IsOfBefore bs n) more → AllByRecursion (IsOfBefore bs later) more
 all_later bs n later [] less all = tt
 all_later bs n later (m ∷ more) less all = ((all.0.0, omega (arith, ints, less, all.0.1)), all_later bs n later more less all.1)
 
-all_append : (P : BatchValue → Type 0) (xs ys : Batches) → AllByRecursion P xs → AllByRecursion P ys → AllByRecursion P (xs ++ ys)
+pub all_append : (P : BatchValue → Type 0) (xs ys : Batches) → AllByRecursion P xs → AllByRecursion P ys → AllByRecursion P (xs ++ ys)
 all_append P [] ys all others = others
 all_append P (x ∷ xs) ys all others = (all.0, all_append P xs ys all.1 others)
 
-all_new : (bs : Batches) (n later : ℤ) (z : Option BatchValue) (news : Batches) → n <ℤ later → look_up first_offset n bs ≡ z → AllByRecursion (λ b. z ≡ Some b) news → AllByRecursion (IsOfBefore bs later) news
+pub all_new : (bs : Batches) (n later : ℤ) (z : Option BatchValue) (news : Batches) → n <ℤ later → look_up first_offset n bs ≡ z → AllByRecursion (λ b. z ≡ Some b) news → AllByRecursion (IsOfBefore bs later) news
 all_new bs n later z [] less there all = tt
 all_new bs n later z (m ∷ news) less there all =
     let here : look_up first_offset n bs ≡ Some m = there ∙ all.0 in

@@ -55,7 +55,7 @@ deltas_rise h before (r ∷ rs) valid =
     let rises : before <ℤ r.delta = valid.0.rises in
     (omega (arith, ints, rises), deltas_rise h r.delta rs valid.1)
 
-records_of_rise : (b : BatchValue) → Writable b → Rises delta_of (pos 0) b.recs
+pub records_of_rise : (b : BatchValue) → Writable b → Rises delta_of (pos 0) b.recs
 records_of_rise b w = deltas_rise b.head (negsuc 0) b.recs w.valid.records
 
 pub common_of : (x y : BatchValue) → Writable x → Writable y → walk_common x.recs y.recs ≡ (with_common_records x y).recs

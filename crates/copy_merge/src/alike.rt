@@ -104,9 +104,10 @@ fn are_alike_by_records<'a>(x: &BatchView<'a>, y: &BatchView<'a>) -> bool
     have_equal_heads(x, y) && have_equal_records(x, y)
 }
 
-/// The same. Batches of equal bytes are not read.
+/// Whether two batches have equal heads, and equal records at each offset at which both have one. Batches
+/// of equal bytes are not read.
 #[tactic(auto, using(crate::proofs::Walks::alike_same))]
-pub(crate) fn are_alike<'a>(x: &BatchView<'a>, y: &BatchView<'a>) -> bool
+pub fn are_alike<'a>(x: &BatchView<'a>, y: &BatchView<'a>) -> bool
     ensures { IsTrue result ↔ AreAlike x.now y.now }
 {
     have_equal_bytes(x, y) || are_alike_by_records(x, y)

@@ -16,7 +16,7 @@ use segment::BatchStore;
 use std::alloc::Allocator;
 
 /// Whether all of a batch's span was seen, or none of it.
-fn has_all_or_none<A: Allocator + Copy>(seen: &Cover<A>, batch: &BatchView<'_>) -> bool
+pub fn has_all_or_none<A: Allocator + Copy>(seen: &Cover<A>, batch: &BatchView<'_>) -> bool
     requires { IsInRange batch.now }
     ensures { IsTrue result ↔ CoversAllOrNone seen.now.runs batch.now }
 {

@@ -5,17 +5,18 @@
 //! agree; two that agree need not be of one log.
 //!
 //! Each walks over the kept batches of both, by rising base offset, twice. The first walk judges,
-//! and takes no memory. The second plans what becomes of each batch: those that stay are not copied.
+//! and takes no memory. The second plans what becomes of each batch: those that stay are not copied. What
+//! deltas share with merges stands in the public modules.
 #![tactic(auto)]
 
-mod alike;
+pub mod alike;
 mod common;
 mod error;
-mod judging;
+pub mod judging;
 mod laws;
 mod merging;
-mod next;
-mod planning;
+pub mod next;
+pub mod planning;
 mod walk;
 
 pub use error::MergeError;

@@ -12,7 +12,7 @@ use segment::BatchStore;
 
 /// A copy's content is a valid one, and its batches can be counted: this is known behind the call,
 /// which does nothing.
-pub(crate) fn know_content<S: BatchStore>(log: &PartitionLog<S>)
+pub fn know_content<S: BatchStore>(log: &PartitionLog<S>)
     ensures is_content { IsContent log.now }
     ensures few { length log.now.kept < 2 ^ 64 }
 {
@@ -21,7 +21,7 @@ pub(crate) fn know_content<S: BatchStore>(log: &PartitionLog<S>)
 }
 
 /// The start of two copies' merge.
-pub(crate) fn greater_start<S: BatchStore>(a: &PartitionLog<S>, b: &PartitionLog<S>) -> i64
+pub fn greater_start<S: BatchStore>(a: &PartitionLog<S>, b: &PartitionLog<S>) -> i64
     ensures { result ≡ greater_start a.now b.now }
 {
     a.start().max(b.start())

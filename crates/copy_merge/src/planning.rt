@@ -22,15 +22,19 @@ use std::alloc::{AllocError, Allocator};
 
 /// What becomes of the kept batches of two copies.
 #[derive(Drop)]
-pub(crate) struct Plan<S: BatchStore> {
+pub struct Plan<S: BatchStore> {
     /// For each batch of the first copy whether it stays or goes, and where others come in.
-    pub(crate) turns: Vec<Turn, S::Alloc>,
+    pub turns: Vec<Turn, S::Alloc>,
     /// The batches that come in.
-    pub(crate) more: S,
+    pub more: S,
 }
 
-/// Adds a turn.
-fn add_turn<S: BatchStore>(plan: &mut Plan<S>, turn: Turn) -> Result<(), AllocError>
+/// Adds a turn to a plan.
+///
+/// # Errors
+///
+/// Out of memory. What was added until then stays.
+pub fn add_turn<S: BatchStore>(plan: &mut Plan<S>, turn: Turn) -> Result<(), AllocError>
     ensures turns { OnOk result (plan.new.turns.items ≡ plan.old.turns.items ++ turn ∷ []) }
     ensures more { S.batches plan.new.more ≡ S.batches plan.old.more }
 {
@@ -39,7 +43,11 @@ fn add_turn<S: BatchStore>(plan: &mut Plan<S>, turn: Turn) -> Result<(), AllocEr
 }
 
 /// Adds a batch behind those that come in.
-fn bring<S: BatchStore>(plan: &mut Plan<S>, batch: &BatchView<'_>) -> Result<(), AllocError>
+///
+/// # Errors
+///
+/// Out of memory. What was added until then stays.
+pub fn bring<S: BatchStore>(plan: &mut Plan<S>, batch: &BatchView<'_>) -> Result<(), AllocError>
     requires in_range { IsInRange batch.now }
     requires behind { EndBefore (first_offset batch.now) (S.batches plan.old.more) }
     ensures turns { OnOk result (plan.new.turns.items ≡ plan.old.turns.items ++ Come ∷ []) }
@@ -72,7 +80,11 @@ fn bring_encoded<S: BatchStore, A: Allocator + Copy>(
 }
 
 /// Lets the first copy's next batch go, and brings in another in its place.
-fn replace<S: BatchStore, A: Allocator + Copy>(
+///
+/// # Errors
+///
+/// Out of memory. What was added until then stays.
+pub fn replace<S: BatchStore, A: Allocator + Copy>(
     plan: &mut Plan<S>,
     alloc: A,
     batch: &Batch<A>,
@@ -88,7 +100,11 @@ fn replace<S: BatchStore, A: Allocator + Copy>(
 }
 
 /// What becomes of a batch that the first copy keeps alone: it goes if the second one has seen it.
-fn plan_left<S: BatchStore>(
+///
+/// # Errors
+///
+/// Out of memory. What was added until then stays.
+pub fn plan_left<S: BatchStore>(
     plan: &mut Plan<S>,
     batch: &BatchView<'_>,
     seen: &Cover<S::Alloc>,
@@ -106,7 +122,11 @@ fn plan_left<S: BatchStore>(
 
 /// What becomes of a batch that the second copy keeps alone: it comes in if the first one has not
 /// seen it.
-fn plan_right<S: BatchStore>(
+///
+/// # Errors
+///
+/// Out of memory. What was added until then stays.
+pub fn plan_right<S: BatchStore>(
     plan: &mut Plan<S>,
     batch: &BatchView<'_>,
     seen: &Cover<S::Alloc>,
@@ -127,7 +147,11 @@ fn plan_right<S: BatchStore>(
 
 /// What becomes of a batch that both copies keep: it stays if each of its records is in both, else
 /// it is written anew with the common ones.
-fn plan_both<'a, S: BatchStore>(
+///
+/// # Errors
+///
+/// Out of memory. What was added until then stays.
+pub fn plan_both<'a, S: BatchStore>(
     plan: &mut Plan<S>,
     alloc: S::Alloc,
     x: &BatchView<'a>,

@@ -4,7 +4,7 @@ use Rattle.std.specs.Int.{w32}
 use Rattle.batch_codec.specs.Reading.{batch_of}
 use Rattle.batch_codec.proofs.Encoded.{batch_again}
 use Rattle.copy_images.proofs.Kept.{front_long, sized, within, taken, left, encoding_is}
-use Rattle.copy_images.proofs.build.split_batch.Goals as goal
+use Rattle.copy_images.proofs.batches.split_batch.Goals as goal
 
 pub be_i32_at-requires : goal.be_i32_at-requires
 be_i32_at-requires c = front_long c.requires.0 c.requires.1 c.args.bytes.now c.requires.2 c.requires.3
