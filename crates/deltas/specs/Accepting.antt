@@ -26,7 +26,11 @@ IsKnown c o = (o <ℤ c.start) ⊎ (covers c.cover o ≡ true)
 abbrev pub IsFor : Content → Runs → Type 0
 IsFor c asked = (o : ℤ) → covers asked o ≡ true → IsKnown c o
 
--- the same as a test: whether one run has all of each asked range, from the start on
+-- an offset was asked that the copy doesn't know
+abbrev pub HasUnknown : Content → Runs → Type 0
+HasUnknown c asked = (o : ℤ) × (covers asked o ≡ true) × ¬ IsKnown c o
+
+-- whether it knows all, as a test: whether one run has all of each asked range, from the start on
 abbrev pub has_seen_range : Content → ℤ × ℤ → Bool
 has_seen_range c range = has_all c.cover (int_max c.start range.0) range.1
 

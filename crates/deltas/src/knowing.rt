@@ -1,6 +1,6 @@
 //! Laws of what a copy knows: the offsets that it has seen, and those below its start.
 
-ghost use Rattle.std.specs.Prelude.{◌↔◌, ℤ, ◌≤ℤ◌, IsTrue};
+ghost use Rattle.std.specs.Prelude.{◌≡◌, ◌↔◌, ℤ, ◌≤ℤ◌, false, IsTrue};
 ghost use Rattle.cover_ranges.specs.Runs.{Runs};
 ghost use Rattle.batch_codec.specs.Values.{BatchValue};
 ghost use Rattle.content.specs.Content.{Content, IsContent, add, cut};
@@ -8,7 +8,7 @@ ghost use Rattle.content.specs.Cleaning.{clean};
 ghost use Rattle.content.specs.Joins.{join};
 ghost use Rattle.deltas.specs.Deltas.{Delta};
 ghost use Rattle.deltas.specs.Patches.{patch};
-ghost use Rattle.deltas.specs.Accepting.{IsKnown, IsFor, is_for};
+ghost use Rattle.deltas.specs.Accepting.{IsKnown, IsFor, HasUnknown, is_for};
 
 /// What a copy knows it knows after anything that may happen to it. So an answer to what it asked
 /// earlier is for it later, too.
@@ -24,7 +24,9 @@ pub fn what_is_known_stays_known()
 {}
 
 /// Whether all that was asked is known is decided by the runs of what the copy has seen, one asked range
-/// after another.
+/// after another. Where it isn't, there is an offset that was asked and is not known.
 pub fn what_is_asked_is_judged_by_runs()
-    ensures { (c : Content) (asked : Runs) → IsContent c → IsTrue (is_for c asked) ↔ IsFor c asked }
+    ensures known { (c : Content) (asked : Runs) → IsContent c → IsTrue (is_for c asked) ↔ IsFor c asked }
+    ensures unknown { (c : Content) (asked : Runs) → IsContent c → is_for c asked ≡ false
+        → HasUnknown c asked }
 {}
