@@ -138,12 +138,12 @@ fits_start (pos n) starts = let a = starts.1 in record { sfits = omega (arith, i
 fits_start (negsuc n) starts = let a = starts.0 in absurd (omega (arith, ints, a))
 
 -- what bytes of a delta are read as
-record IsReadAs (bytes : List ℕ) (e : Delta) : Type 0 where
-  starts : HasStart bytes
-  start_is : start_in bytes ≡ e.start
-  body : HasBody (start_in bytes) (body_in bytes) e.cover e.asked (entries_encoding e.entries) e.entries
+pub record IsReadAs (bytes : List ℕ) (e : Delta) : Type 0 where
+  pub starts : HasStart bytes
+  pub start_is : start_in bytes ≡ e.start
+  pub body : HasBody (start_in bytes) (body_in bytes) e.cover e.asked (entries_encoding e.entries) e.entries
 
-delta_again : (bytes : List ℕ) (e : Delta) → IsDeltaOf bytes e → IsReadAs bytes e
+pub delta_again : (bytes : List ℕ) (e : Delta) → IsDeltaOf bytes e → IsReadAs bytes e
 delta_again bytes e is =
     let frame : IsFrameOf bytes e.start (body_encoding e) = frame_again bytes e.start (body_encoding e) (fits_start e.start is.valid.in_range) (body_long e) is.encoded in
     let body = body_again e is.valid is.ranges is.asked is.entries in

@@ -10,3 +10,6 @@ pub mod OneFault
 pub mod OneBody
 pub mod WholeDelta
 pub mod DeltaAgain
+pub mod EntriesRead
+pub mod ReadBack
+pub mod EntryViews

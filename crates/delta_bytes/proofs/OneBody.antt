@@ -27,16 +27,16 @@ use Rattle.delta_bytes.proofs.OneFault.{one_items_fault, no_items_fault, one_ite
 -- ---- a list of ranges
 
 -- each part of it as it is read
-record IsReadAs (bytes : List ℕ) (ranges : Runs) (rest : List ℕ) : Type 0 where
-  counted : count_in bytes ≡ pos (length ranges)
-  size : length bytes ≡ 4 + 16 * length ranges + length rest
-  ranges_are : ranges ≡ ranges_of (first_chunks 16 (length ranges) (drop 4 bytes))
-  rest_is : rest ≡ drop (16 * length ranges) (drop 4 bytes)
+pub record IsReadAs (bytes : List ℕ) (ranges : Runs) (rest : List ℕ) : Type 0 where
+  pub counted : count_in bytes ≡ pos (length ranges)
+  pub size : length bytes ≡ 4 + 16 * length ranges + length rest
+  pub ranges_are : ranges ≡ ranges_of (first_chunks 16 (length ranges) (drop 4 bytes))
+  pub rest_is : rest ≡ drop (16 * length ranges) (drop 4 bytes)
 
 fits_count : (n : ℕ) → n ≤ MAX_COUNT → FitsSigned w32 (pos n)
 fits_count n le = record { sfits = omega arith }
 
-ranges_read : (behind : ℕ) (bytes : List ℕ) (ranges : Runs) (rest : List ℕ) → IsRangeList behind bytes ranges rest → IsReadAs bytes ranges rest
+pub ranges_read : (behind : ℕ) (bytes : List ℕ) (ranges : Runs) (rest : List ℕ) → IsRangeList behind bytes ranges rest → IsReadAs bytes ranges rest
 unfolding ranges_encoding number_in
 ranges_read behind bytes ranges rest list =
     let fs = signed w32 (pos (length ranges)) ∷ [] in

@@ -18,7 +18,7 @@ length-chunks zero bytes = refl
 length-chunks (suc n) bytes = ap suc (length-chunks n (drop 16 bytes))
 
 -- so many ranges behind their count
-ranges_cut : (bytes : List ℕ) (n behind : ℕ) (parts : List (List ℕ)) (rest : List ℕ) → IsBytes bytes → count_in bytes ≡ pos n → n ≤ MAX_COUNT → 4 + 16 * n + behind ≤ length bytes
+pub ranges_cut : (bytes : List ℕ) (n behind : ℕ) (parts : List (List ℕ)) (rest : List ℕ) → IsBytes bytes → count_in bytes ≡ pos n → n ≤ MAX_COUNT → 4 + 16 * n + behind ≤ length bytes
     → parts ≡ first_chunks 16 n (take (16 * n) (drop 4 bytes)) → rest ≡ drop (4 + 16 * n) bytes → IsRangeList behind bytes (ranges_of parts) rest
 unfolding ranges_encoding
 ranges_cut bytes n behind parts rest fits counted small long chunks rest_is =

@@ -23,7 +23,7 @@ use Rattle.delta_bytes.specs.RangeLists.{count_encoding, ranges_encoding}
 use Rattle.delta_bytes.specs.declared.error.BodyError.{BodyError}
 use Rattle.delta_bytes.specs.declared.error.DeltaError.TheVariants.{InBody}
 use Rattle.delta_bytes.specs.Faults.{HasBody, BodyFault}
-use Rattle.delta_bytes.specs.Deltas.{front_of, first_front, entries_encoding, body_encoding, delta_with, IsDeltaAt}
+use Rattle.delta_bytes.specs.Deltas.{front_of, first_front, entries_encoding, body_encoding, delta_with, IsDeltaOf, IsDeltaAt}
 use Rattle.delta_bytes.specs.Fronts.{HasCrc, HasStart, Refuses}
 
 -- ---- the front
@@ -100,23 +100,26 @@ module _ (start : ℤ) (body : List ℕ) (runs asked : Runs) (more : List ℕ) (
   with_frame : (bytes : List ℕ) → IsFramed start body bytes → IsFramed start (body_encoding (delta_with start runs asked xs)) bytes
   with_frame bytes framed = subst (λ (x : List ℕ). IsFramed start x bytes) body_is framed
 
-pub is_delta_at : (bytes body : List ℕ) (start : ℤ) (runs asked : Runs) (more : List ℕ) → IsBytes bytes → HasStart bytes → start ≡ start_in bytes → body ≡ body_in bytes → (xs : List Entry) × HasBody start body runs asked more xs
-    → IsDeltaAt bytes start runs asked more
-is_delta_at bytes body start runs asked more fits has start_is body_is found =
-    let xs = found.0 in
+pub is_delta_of : (bytes body : List ℕ) (start : ℤ) (runs asked : Runs) (more : List ℕ) (xs : List Entry) → IsBytes bytes → HasStart bytes → start ≡ start_in bytes → body ≡ body_in bytes → HasBody start body runs asked more xs
+    → IsDeltaOf bytes (delta_with start runs asked xs)
+is_delta_of bytes body start runs asked more xs fits has start_is body_is found =
     let framed : IsFramed start body bytes = subst (λ (z : ℤ). IsFramed z body bytes) (sym start_is) (subst (λ (x : List ℕ). IsFramed (start_in bytes) x bytes) (sym body_is) (frame_back bytes fits has.0)) in
     let here : IsBytes body = subst IsBytes (sym body_is) (body_bytes bytes fits) in
     record {
-      entries = xs;
-      delta = record {
-        valid = is_delta start body runs asked more xs found.1 (subst IsLogStart (sym start_is) has.1);
-        ranges = found.1.ranges.0.counted;
-        asked = found.1.asked_ranges.0.counted;
-        entries = few_entries start body runs asked more xs found.1 here;
-        encoded = with_frame start body runs asked more xs found.1 bytes framed;
-      };
-      entries_are = entries_are start body runs asked more xs found.1;
+      valid = is_delta start body runs asked more xs found (subst IsLogStart (sym start_is) has.1);
+      ranges = found.ranges.0.counted;
+      asked = found.asked_ranges.0.counted;
+      entries = few_entries start body runs asked more xs found here;
+      encoded = with_frame start body runs asked more xs found bytes framed;
     }
+
+pub is_delta_at : (bytes body : List ℕ) (start : ℤ) (runs asked : Runs) (more : List ℕ) → IsBytes bytes → HasStart bytes → start ≡ start_in bytes → body ≡ body_in bytes → (xs : List Entry) × HasBody start body runs asked more xs
+    → IsDeltaAt bytes start runs asked more
+is_delta_at bytes body start runs asked more fits has start_is body_is found = record {
+  entries = found.0;
+  delta = is_delta_of bytes body start runs asked more found.0 fits has start_is body_is found.1;
+  entries_are = entries_are start body runs asked more found.0 found.1;
+}
 
 pub in_body : (bytes body : List ℕ) (start : ℤ) (e : BodyError) → HasStart bytes → start ≡ start_in bytes → body ≡ body_in bytes → BodyFault start body e → Refuses bytes (InBody e)
 in_body bytes body start e has start_is body_is fault = (has, subst (λ (z : ℤ). BodyFault z (body_in bytes) e) start_is (subst (λ (x : List ℕ). BodyFault start x e) body_is fault))

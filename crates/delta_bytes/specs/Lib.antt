@@ -5,3 +5,5 @@ pub mod Faults
 pub mod Fronts
 pub mod Judging
 pub mod EntryLists
+pub mod Reading
+pub mod EntryViews

@@ -14,8 +14,8 @@ pub enum RangesError {
 #[derive(Clone, Copy, Drop)]
 pub enum EntriesError {
     /// There is no valid entry at this index, from 0: its kind is another, it is cut, its offsets do not
-    /// rise from its base on, its batch is refused, or it does not lie behind the entry before it. A
-    /// negative count is a bad entry 0.
+    /// rise from its base on, its batch is refused, has a null key or offsets below 0 or above 2^62 - 1, or it
+    /// does not lie behind the entry before it. A negative count is a bad entry 0.
     BadBatch(u32),
     /// An entry tells of an offset that the sender has not seen, or sends a batch whose span has an asked
     /// one.

@@ -1,9 +1,10 @@
 //! Laws of deltas in bytes, over the definitions alone. The functions do nothing: what they ensure is the
 //! law.
 
-ghost use Rattle.std.specs.Prelude.{◌≡◌, ℕ, ◌≤◌, ℤ, pos, List, [], ◌∷◌, length};
+ghost use Rattle.std.specs.Prelude.{◌≡◌, ℕ, ◌≤◌, ℤ, pos, List, [], ◌∷◌, length, Some};
 ghost use Rattle.cover_ranges.specs.Runs.{Runs};
 ghost use Rattle.copy_images.specs.declared.layout.TheConstants.{MAX_COUNT};
+ghost use Rattle.copy_images.specs.Reading.{IsBytes};
 ghost use Rattle.deltas.specs.Entries.{Entry};
 ghost use Rattle.deltas.specs.Entries.Entry.{Listed};
 ghost use Rattle.deltas.specs.Deltas.{Delta, IsDelta};
@@ -11,6 +12,7 @@ ghost use Rattle.delta_bytes.specs.declared.error.BodyError.{BodyError};
 ghost use Rattle.delta_bytes.specs.declared.error.DeltaError.{DeltaError};
 ghost use Rattle.delta_bytes.specs.Deltas.{delta_encoding, first_encoding, delta_with, IsDeltaOf};
 ghost use Rattle.delta_bytes.specs.Fronts.{Refuses};
+ghost use Rattle.delta_bytes.specs.Reading.{delta_at};
 ghost use Rattle.delta_bytes.specs.EntryBytes.{entry_bytes, IsNext};
 ghost use Rattle.delta_bytes.specs.RangeLists.{IsRangeList};
 ghost use Rattle.delta_bytes.specs.Faults.{HasBody, BodyFault};
@@ -92,4 +94,11 @@ pub fn one_refusal()
 pub fn a_delta_is_not_refused()
     ensures { (bytes : List ℕ) (e : Delta) (f : DeltaError) → IsDeltaOf bytes e
         → Refuses bytes f → ⊥ }
+{}
+
+/// What is read of bytes is the delta of which they are an encoding; of other bytes it is nothing.
+pub fn reading_is_exact()
+    ensures reads { (bytes : List ℕ) (e : Delta) → IsDeltaOf bytes e → delta_at bytes ≡ Some e }
+    ensures reads_only_deltas { (bytes : List ℕ) (e : Delta) → IsBytes bytes
+        → delta_at bytes ≡ Some e → IsDeltaOf bytes e }
 {}

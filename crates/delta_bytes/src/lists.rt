@@ -8,11 +8,11 @@ use crate::layout::{COUNT_AT, OFFSET_SIZE, OFFSETS_AT};
 use batch_codec::numbers::{be_i32_at, be_i64_at};
 
 /// An offset as it stands in a list.
-pub(crate) type OffsetBytes = [u8; OFFSET_SIZE];
+pub type OffsetBytes = [u8; OFFSET_SIZE];
 
 /// A list of offsets, borrowed from the bytes of an entry.
 #[derive(Drop)]
-pub(crate) struct ListBytes<'a> {
+pub struct ListBytes<'a> {
     /// The base offset of the batch.
     pub base: i64,
     /// The offsets of its records, in order.
@@ -20,10 +20,22 @@ pub(crate) struct ListBytes<'a> {
 }
 
 /// The offset that eight bytes say.
-pub(crate) fn offset_at(bytes: &OffsetBytes) -> i64
+pub fn offset_at(bytes: &OffsetBytes) -> i64
     ensures { result ≡ offset_at bytes.now }
 {
     i64::from_be_bytes(*bytes)
+}
+
+impl<'a> ListBytes<'a> {
+    /// The last of the offsets, or the base where there are none.
+    pub(crate) fn last(&self) -> i64
+        ensures { result ≡ last_listed self.now.base (offsets_of self.now.offsets.now) }
+    {
+        match self.offsets.last() {
+            Some(bytes) => offset_at(bytes),
+            None => self.base,
+        }
+    }
 }
 
 /// The list behind the kind, if it is all there.

@@ -49,7 +49,7 @@ pub(crate) fn is_seen(ranges: &[RangeBytes], list: &ListBytes<'_>) -> bool
 }
 
 /// Whether the ranges hold all offsets from `first` to `last`.
-fn covers_all(ranges: &[RangeBytes], first: i64, last: i64) -> bool
+pub fn covers_all(ranges: &[RangeBytes], first: i64, last: i64) -> bool
     requires canonical { IsCanonical (ranges_of ranges.now) }
     requires some { first ≤ℤ last }
     ensures { IsTrue result ↔ CoversAll (ranges_of ranges.now) first last }
@@ -69,7 +69,7 @@ fn first_starts_by(ranges: &[RangeBytes], last: i64) -> bool
 }
 
 /// Whether the ranges hold some offset from `first` to `last`.
-fn covers_any(ranges: &[RangeBytes], first: i64, last: i64) -> bool
+pub fn covers_any(ranges: &[RangeBytes], first: i64, last: i64) -> bool
     requires canonical { IsCanonical (ranges_of ranges.now) }
     requires some { first ≤ℤ last }
     ensures { IsTrue result ↔ CoversAny (ranges_of ranges.now) first last }
