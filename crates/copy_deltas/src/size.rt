@@ -1,6 +1,6 @@
 //! How many bytes a delta has.
 
-ghost use Rattle.std.specs.Prelude.{◌≡◌, ◌≤ℤ◌, ◌+◌, ◌*◌, min, length};
+ghost use Rattle.std.specs.Prelude.{◌≡◌, ◌↔◌, ◌≤◌, ◌≤ℤ◌, ◌+◌, ◌*◌, min, length, IsTrue};
 ghost use Rattle.batch_codec.specs.Offsets.{first_offset, last_offset};
 ghost use Rattle.cover_ranges.specs.Runs.{IsCanonical};
 ghost use Rattle.content.specs.Content.{IsInRange};
@@ -79,4 +79,15 @@ pub(crate) fn size_of<B: Allocator + Copy, S: BatchStore>(
 {
     let fixed = fixed_size(copy.cover().ranges().len(), asked.ranges().len());
     size_with(fixed, copy, asked)
+}
+
+/// Whether the delta of a copy for what was asked has at most this many bytes. Takes no memory.
+pub fn has_delta_within<B: Allocator + Copy, S: BatchStore>(
+    copy: &PartitionLog<S>,
+    asked: &Cover<B>,
+    limit: u32,
+) -> bool
+    ensures { IsTrue result ↔ (length (delta_encoding (delta_of copy.now asked.now.runs)) ≤ limit) }
+{
+    size_of(copy, asked) <= limit as usize
 }
