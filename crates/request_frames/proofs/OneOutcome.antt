@@ -1,7 +1,5 @@
 -- A frame is one request, or has one refusal.
-use Rattle.std.proofs.Common.{◌≡◌, ◌≢◌, ℕ, ◌<◌, ◌≤◌, Bool, false, cond, ltb, ℤ, List, [], ◌∷◌, length, Option, None, Some, Result, Ok, Err, refl, ap, sym, ◌∙◌, arith}
-use Rattle.std.specs.Ordering.{int_eq}
-use Rattle.std.proofs.lemmas.Int.{ints}
+use Rattle.std.proofs.Common.{◌≡◌, ℕ, ◌<◌, ◌≤◌, Bool, false, cond, ltb, ℤ, List, [], ◌∷◌, length, Option, None, Some, Result, Ok, Err, refl, ap, sym, ◌∙◌, arith}
 use Rattle.std.proofs.lemmas.Bool.{le-ltb, lt-ltb}
 use Rattle.request_frames.specs.declared.api.Api.{Api}
 use Rattle.frame_fields.specs.declared.error.FieldFault.{FieldFault}
@@ -10,19 +8,16 @@ use Rattle.frame_fields.specs.declared.error.FrameError.{FrameError}
 use Rattle.frame_fields.specs.declared.error.FrameError.TheVariants as frame
 use Rattle.frame_fields.specs.Fields.{Value}
 use Rattle.frame_fields.specs.Reading.{At, read_fields}
-use Rattle.request_frames.specs.Apis.{api_version, IsApi, IsNoApi}
+use Rattle.request_frames.specs.Apis.{IsApi, IsNoApi}
 use Rattle.request_frames.specs.Requests.{RequestValue, body_fields, body_value, body_of, key_of, version_of, correlation_of, IsOf, IsRequest, HasFault, IsRefused}
-use Rattle.request_frames.proofs.ApiTable.{api_of_key, key_finds, no_key}
+use Rattle.request_frames.proofs.ApiTable.{api_of_key, in_version, key_finds, no_key, right_version, wrong_version}
 use Rattle.frame_fields.proofs.FieldLaws.{encodes_read, breaks_read}
 
 -- ---- the outcome as a function
 
-abbrev at_version : (version read : ℤ) → Api → Result Api FrameError
-at_version version read api = cond (int_eq version read) (Ok api) (Err frame.BadVersion)
-
 abbrev of_known : ℤ → Option Api → Result Api FrameError
 of_known version None = Err frame.UnknownApi
-of_known version (Some api) = at_version version (api_version api) api
+of_known version (Some old) = in_version version old
 
 abbrev find_api : (key version : ℤ) → Result Api FrameError
 find_api key version = of_known version (api_of_key key)
@@ -48,20 +43,14 @@ outcome bytes = cond (ltb (length bytes) 8) (Err frame.ShortHeader) (from_api by
 
 -- ---- the table
 
-right_version : (version read : ℤ) (api : Api) → version ≡ read → at_version version read api ≡ Ok api
-right_version version read api is = grind (arith, ints)
-
-wrong_version : (version read : ℤ) (api : Api) → version ≢ read → at_version version read api ≡ Err frame.BadVersion
-wrong_version version read api is = grind (arith, ints)
-
 found_api : (key version : ℤ) (api : Api) → IsApi key version api → find_api key version ≡ Ok api
 found_api key version api is =
-    ap (of_known version) (ap api_of_key is.0 ∙ key_finds api) ∙ right_version version (api_version api) api is.1
+    ap (of_known version) (ap api_of_key is.0 ∙ key_finds api) ∙ right_version version api is.1
 
 no_api : (key version : ℤ) (e : FrameError) → IsNoApi key version e → find_api key version ≡ Err e
 no_api key version frame.UnknownApi h = ap (of_known version) (no_key key h)
 no_api key version frame.BadVersion (known, k, h) =
-    ap (of_known version) (ap api_of_key k ∙ key_finds known) ∙ wrong_version version (api_version known) known (h known k)
+    ap (of_known version) (ap api_of_key k ∙ key_finds known) ∙ wrong_version key version known k h
 no_api key version frame.NegativeSize h = absurd h
 no_api key version frame.TooLarge h = absurd h
 no_api key version frame.ShortHeader h = absurd h

@@ -2,7 +2,7 @@
 -- keys from 20000 on are this project's own.
 use Rattle.std.specs.Prelude.{◌≡◌, ◌≢◌, ℤ, pos}
 use Rattle.request_frames.specs.declared.api.Api.{Api}
-use Rattle.request_frames.specs.declared.api.Api.TheVariants.{Produce, Fetch, ListOffsets, Metadata, OffsetCommit, OffsetFetch, Deliver, Clean, Export, Import, Get, Cover, ForgetGroup, Trim}
+use Rattle.request_frames.specs.declared.api.Api.TheVariants.{Produce, Fetch, ListOffsets, Metadata, OffsetCommit, OffsetFetch, Deliver, Clean, Export, ExportDelta, Import, ImportDelta, Get, Cover, ForgetGroup, Trim}
 use Rattle.frame_fields.specs.declared.error.FrameError.{FrameError}
 use Rattle.frame_fields.specs.declared.error.FrameError.TheVariants.{UnknownApi, BadVersion}
 
@@ -16,7 +16,9 @@ api_key OffsetFetch = pos 9
 api_key Deliver = pos 20000
 api_key Clean = pos 20001
 api_key Export = pos 20002
+api_key ExportDelta = pos 20002
 api_key Import = pos 20003
+api_key ImportDelta = pos 20003
 api_key Get = pos 20004
 api_key Cover = pos 20005
 api_key ForgetGroup = pos 20006
@@ -32,11 +34,21 @@ api_version OffsetFetch = pos 1
 api_version Deliver = pos 0
 api_version Clean = pos 0
 api_version Export = pos 0
+api_version ExportDelta = pos 1
 api_version Import = pos 0
+api_version ImportDelta = pos 1
 api_version Get = pos 0
 api_version Cover = pos 0
 api_version ForgetGroup = pos 0
 api_version Trim = pos 0
+
+-- the request of the same key in its other version; itself, where it has one version alone
+abbrev pub other_version : Api → Api
+other_version Export = ExportDelta
+other_version ExportDelta = Export
+other_version Import = ImportDelta
+other_version ImportDelta = Import
+other_version api = api
 
 abbrev pub IsApi : (key version : ℤ) → Api → Type 0
 IsApi key version api = (key ≡ api_key api) × (version ≡ api_version api)

@@ -1,10 +1,10 @@
 -- Requests read from left to right, as the code goes; `Requests` says what comes of it.
 use Rattle.std.specs.Prelude.{List, ℕ}
 use Rattle.request_frames.specs.declared.api.Api.{Api}
-use Rattle.request_frames.specs.declared.api.Api.TheVariants.{Produce, Fetch, ListOffsets, Metadata, OffsetCommit, OffsetFetch, Deliver, Clean, Export, Import, Get, Cover, ForgetGroup, Trim}
+use Rattle.request_frames.specs.declared.api.Api.TheVariants.{Produce, Fetch, ListOffsets, Metadata, OffsetCommit, OffsetFetch, Deliver, Clean, Export, ExportDelta, Import, ImportDelta, Get, Cover, ForgetGroup, Trim}
 use Rattle.frame_fields.specs.Types.{nullable_string}
 use Rattle.frame_fields.specs.Reading.{◌>>=◌, At, map_read, read_field, read_fields}
-use Rattle.request_frames.specs.Requests.BodyValue.{produce, fetch, list_offsets, metadata, offset_commit, offset_fetch, deliver, clean, export, import, get, cover, forget_group, trim}
+use Rattle.request_frames.specs.Requests.BodyValue.{produce, fetch, list_offsets, metadata, offset_commit, offset_fetch, deliver, clean, export, export_delta, import, import_delta, get, cover, forget_group, trim}
 use Rattle.request_frames.specs.Requests.{BodyValue}
 use Rattle.request_frames.specs.Produce.{produce_fields, produce_request}
 use Rattle.request_frames.specs.Fetch.{fetch_fields, fetch_request}
@@ -15,7 +15,9 @@ use Rattle.request_frames.specs.OffsetFetch.{offset_fetch_fields, offset_fetch_r
 use Rattle.request_frames.specs.Deliver.{deliver_fields, deliver_request}
 use Rattle.request_frames.specs.Clean.{clean_fields, clean_request}
 use Rattle.request_frames.specs.Export.{export_fields, export_request}
+use Rattle.request_frames.specs.ExportDelta.{export_delta_fields, export_delta_request}
 use Rattle.request_frames.specs.Import.{import_fields, import_request}
+use Rattle.request_frames.specs.ImportDelta.{import_delta_fields, import_delta_request}
 use Rattle.request_frames.specs.Get.{get_fields, get_request}
 use Rattle.request_frames.specs.Cover.{cover_fields, cover_request}
 use Rattle.request_frames.specs.ForgetGroup.{forget_group_fields, forget_group_request}
@@ -32,7 +34,9 @@ read_body OffsetFetch bytes = map_read offset_fetch (map_read offset_fetch_reque
 read_body Deliver bytes = map_read deliver (map_read deliver_request (read_fields deliver_fields bytes))
 read_body Clean bytes = map_read clean (map_read clean_request (read_fields clean_fields bytes))
 read_body Export bytes = map_read export (map_read export_request (read_fields export_fields bytes))
+read_body ExportDelta bytes = map_read export_delta (map_read export_delta_request (read_fields export_delta_fields bytes))
 read_body Import bytes = map_read import (map_read import_request (read_fields import_fields bytes))
+read_body ImportDelta bytes = map_read import_delta (map_read import_delta_request (read_fields import_delta_fields bytes))
 read_body Get bytes = map_read get (map_read get_request (read_fields get_fields bytes))
 read_body Cover bytes = map_read cover (map_read cover_request (read_fields cover_fields bytes))
 read_body ForgetGroup bytes = map_read forget_group (map_read forget_group_request (read_fields forget_group_fields bytes))

@@ -8,7 +8,9 @@ pub mod OffsetFetch
 pub mod Deliver
 pub mod Clean
 pub mod Export
+pub mod ExportDelta
 pub mod Import
+pub mod ImportDelta
 pub mod Get
 pub mod Cover
 pub mod ForgetGroup

@@ -2,7 +2,7 @@
 -- "Protocol Guide", sections "Request Header" and "The Messages".
 use Rattle.std.specs.Prelude.{◌≡◌, ℕ, ◌<◌, ◌≤◌, ℤ, List, [], length, drop, Option}
 use Rattle.request_frames.specs.declared.api.Api.{Api}
-use Rattle.request_frames.specs.declared.api.Api.TheVariants.{Produce, Fetch, ListOffsets, Metadata, OffsetCommit, OffsetFetch, Deliver, Clean, Export, Import, Get, Cover, ForgetGroup, Trim}
+use Rattle.request_frames.specs.declared.api.Api.TheVariants.{Produce, Fetch, ListOffsets, Metadata, OffsetCommit, OffsetFetch, Deliver, Clean, Export, ExportDelta, Import, ImportDelta, Get, Cover, ForgetGroup, Trim}
 use Rattle.frame_fields.specs.declared.error.FieldFault.{FieldFault}
 use Rattle.frame_fields.specs.declared.error.FieldFault.TheVariants as field
 use Rattle.frame_fields.specs.declared.error.FrameError.{FrameError}
@@ -19,7 +19,9 @@ use Rattle.request_frames.specs.OffsetFetch.{OffsetFetchValue, offset_fetch_fiel
 use Rattle.request_frames.specs.Deliver.{DeliverValue, deliver_fields, deliver_request}
 use Rattle.request_frames.specs.Clean.{CleanValue, clean_fields, clean_request}
 use Rattle.request_frames.specs.Export.{ExportValue, export_fields, export_request}
+use Rattle.request_frames.specs.ExportDelta.{ExportDeltaValue, export_delta_fields, export_delta_request}
 use Rattle.request_frames.specs.Import.{ImportValue, import_fields, import_request}
+use Rattle.request_frames.specs.ImportDelta.{ImportDeltaValue, import_delta_fields, import_delta_request}
 use Rattle.request_frames.specs.Get.{GetValue, get_fields, get_request}
 use Rattle.request_frames.specs.Cover.{CoverValue, cover_fields, cover_request}
 use Rattle.request_frames.specs.ForgetGroup.{forget_group_fields, forget_group_request}
@@ -38,7 +40,9 @@ fields_of OffsetFetch = offset_fetch_fields
 fields_of Deliver = deliver_fields
 fields_of Clean = clean_fields
 fields_of Export = export_fields
+fields_of ExportDelta = export_delta_fields
 fields_of Import = import_fields
+fields_of ImportDelta = import_delta_fields
 fields_of Get = get_fields
 fields_of Cover = cover_fields
 fields_of ForgetGroup = forget_group_fields
@@ -56,7 +60,9 @@ pub data BodyValue : Type 0 where
   deliver : DeliverValue → BodyValue
   clean : CleanValue → BodyValue
   export : ExportValue → BodyValue
+  export_delta : ExportDeltaValue → BodyValue
   import : ImportValue → BodyValue
+  import_delta : ImportDeltaValue → BodyValue
   get : GetValue → BodyValue
   cover : CoverValue → BodyValue
   forget_group : List ℕ → BodyValue
@@ -76,7 +82,9 @@ body_value OffsetFetch v = offset_fetch (offset_fetch_request v)
 body_value Deliver v = deliver (deliver_request v)
 body_value Clean v = clean (clean_request v)
 body_value Export v = export (export_request v)
+body_value ExportDelta v = export_delta (export_delta_request v)
 body_value Import v = import (import_request v)
+body_value ImportDelta v = import_delta (import_delta_request v)
 body_value Get v = get (get_request v)
 body_value Cover v = cover (cover_request v)
 body_value ForgetGroup v = forget_group (forget_group_request v)

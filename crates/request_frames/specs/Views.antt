@@ -13,12 +13,14 @@ use Rattle.request_frames.specs.OffsetFetch.{offset_fetch_view}
 use Rattle.request_frames.specs.Deliver.{deliver_view}
 use Rattle.request_frames.specs.Clean.{clean_view}
 use Rattle.request_frames.specs.Export.{export_view}
+use Rattle.request_frames.specs.ExportDelta.{export_delta_view}
 use Rattle.request_frames.specs.Import.{import_view}
+use Rattle.request_frames.specs.ImportDelta.{import_delta_view}
 use Rattle.request_frames.specs.Get.{get_view}
 use Rattle.request_frames.specs.Cover.{cover_view}
 use Rattle.request_frames.specs.ForgetGroup.{forget_group_view}
 use Rattle.request_frames.specs.Trim.{trim_view}
-use Rattle.request_frames.specs.Requests.BodyValue.{produce, fetch, list_offsets, metadata, offset_commit, offset_fetch, deliver, clean, export, import, get, cover, forget_group, trim}
+use Rattle.request_frames.specs.Requests.BodyValue.{produce, fetch, list_offsets, metadata, offset_commit, offset_fetch, deliver, clean, export, export_delta, import, import_delta, get, cover, forget_group, trim}
 use Rattle.request_frames.specs.Requests.{BodyValue, RequestValue, key_of, version_of, correlation_of}
 
 abbrev pub request_body : RequestBody → BodyValue
@@ -31,7 +33,9 @@ request_body (variants.OffsetFetch r) = offset_fetch (offset_fetch_view r)
 request_body (variants.Deliver r) = deliver (deliver_view r)
 request_body (variants.Clean r) = clean (clean_view r)
 request_body (variants.Export r) = export (export_view r)
+request_body (variants.ExportDelta r) = export_delta (export_delta_view r)
 request_body (variants.Import r) = import (import_view r)
+request_body (variants.ImportDelta r) = import_delta (import_delta_view r)
 request_body (variants.Get r) = get (get_view r)
 request_body (variants.Cover r) = cover (cover_view r)
 request_body (variants.ForgetGroup r) = forget_group (forget_group_view r)

@@ -1,11 +1,11 @@
 //! Which request a frame is.
 
 ghost use Rattle.std.specs.Prelude.{◌≡◌, ◌≢◌, IfSome, IfNone, IfOk, IfErr};
-ghost use Rattle.request_frames.specs.Apis.{api_key, api_version, IsApi, IsNoApi};
+ghost use Rattle.request_frames.specs.Apis.{api_key, api_version, other_version, IsApi, IsNoApi};
 
 use frame_fields::FrameError;
 
-/// A kind of request that is read, in its one version. From Deliver on they are this project's own.
+/// A kind of request that is read, in one version. From Deliver on they are this project's own.
 #[derive(Clone, Copy, Debug)]
 pub enum Api {
     /// Produce, version 3.
@@ -26,8 +26,12 @@ pub enum Api {
     Clean,
     /// Export, version 0.
     Export,
+    /// Export, version 1.
+    ExportDelta,
     /// Import, version 0.
     Import,
+    /// Import, version 1.
+    ImportDelta,
     /// Get, version 0.
     Get,
     /// Cover, version 0.
@@ -53,7 +57,9 @@ impl Api {
             Api::Deliver => 20_000,
             Api::Clean => 20_001,
             Api::Export => 20_002,
+            Api::ExportDelta => 20_002,
             Api::Import => 20_003,
+            Api::ImportDelta => 20_003,
             Api::Get => 20_004,
             Api::Cover => 20_005,
             Api::ForgetGroup => 20_006,
@@ -61,7 +67,7 @@ impl Api {
         }
     }
 
-    /// The one version that is read.
+    /// The version.
     pub fn version(self) -> i16
         ensures { result ≡ api_version self }
     {
@@ -75,7 +81,9 @@ impl Api {
             Api::Deliver => 0,
             Api::Clean => 0,
             Api::Export => 0,
+            Api::ExportDelta => 1,
             Api::Import => 0,
+            Api::ImportDelta => 1,
             Api::Get => 0,
             Api::Cover => 0,
             Api::ForgetGroup => 0,
@@ -83,7 +91,7 @@ impl Api {
         }
     }
 
-    /// The request of this key, `None` where none has it.
+    /// The request of this key, of several the one of the least version; `None` where none has it.
     fn of_key(key: i16) -> Option<Api>
         ensures found { IfSome result (λ api. key ≡ api_key api) }
         ensures none { IfNone result ((api : Api) → key ≢ api_key api) }
@@ -107,6 +115,19 @@ impl Api {
         }
     }
 
+    /// The request of the same key in its other version; itself, where it is read in one alone.
+    fn in_other_version(self) -> Api
+        ensures { result ≡ other_version self }
+    {
+        match self {
+            Api::Export => Api::ExportDelta,
+            Api::ExportDelta => Api::Export,
+            Api::Import => Api::ImportDelta,
+            Api::ImportDelta => Api::Import,
+            _ => self,
+        }
+    }
+
     /// The request of this key and version. `UnknownApi` where none has the key, else `BadVersion`
     /// where it isn't read in this version.
     pub(crate) fn find(key: i16, version: i16) -> Result<Api, FrameError>
@@ -116,8 +137,11 @@ impl Api {
         let Some(api) = Api::of_key(key) else {
             return Err(FrameError::UnknownApi);
         };
+        let other = api.in_other_version();
         if version == api.version() {
             Ok(api)
+        } else if version == other.version() {
+            Ok(other)
         } else {
             Err(FrameError::BadVersion)
         }

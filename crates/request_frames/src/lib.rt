@@ -7,10 +7,12 @@ mod clean;
 mod cover;
 mod deliver;
 mod export;
+mod export_delta;
 mod fetch;
 mod forget_group;
 mod get;
 mod import;
+mod import_delta;
 mod laws;
 mod list_offsets;
 mod metadata;
@@ -25,6 +27,7 @@ pub use clean::CleanRequest;
 pub use cover::CoverRequest;
 pub use deliver::DeliverRequest;
 pub use export::ExportRequest;
+pub use export_delta::{AskedRange, ExportDeltaRequest};
 pub use fetch::{FetchPartition, FetchRequest};
 pub use forget_group::ForgetGroupRequest;
 pub use frame_fields::{
@@ -33,6 +36,7 @@ pub use frame_fields::{
 };
 pub use get::GetRequest;
 pub use import::ImportRequest;
+pub use import_delta::ImportDeltaRequest;
 pub use laws::one_outcome;
 pub use list_offsets::{ListOffsetsPartition, ListOffsetsRequest};
 pub use metadata::MetadataRequest;

@@ -11,10 +11,12 @@ use crate::clean::{CleanRequest, clean_at};
 use crate::cover::{CoverRequest, cover_at};
 use crate::deliver::{DeliverRequest, deliver_at};
 use crate::export::{ExportRequest, export_at};
+use crate::export_delta::{ExportDeltaRequest, export_delta_at};
 use crate::fetch::{FetchRequest, fetch_at};
 use crate::forget_group::{ForgetGroupRequest, forget_group_at};
 use crate::get::{GetRequest, get_at};
 use crate::import::{ImportRequest, import_at};
+use crate::import_delta::{ImportDeltaRequest, import_delta_at};
 use crate::list_offsets::{ListOffsetsRequest, list_offsets_at};
 use crate::metadata::{MetadataRequest, metadata_at};
 use crate::offset_commit::{OffsetCommitRequest, offset_commit_at};
@@ -54,8 +56,12 @@ pub enum RequestBody<'a> {
     Clean(CleanRequest<'a>),
     /// The image of a copy is wanted.
     Export(ExportRequest<'a>),
+    /// The delta of a copy is wanted.
+    ExportDelta(ExportDeltaRequest<'a>),
     /// An image is to be taken into a copy.
     Import(ImportRequest<'a>),
+    /// A delta is to be taken into a copy.
+    ImportDelta(ImportDeltaRequest<'a>),
     /// The value of a key is wanted.
     Get(GetRequest<'a>),
     /// The offsets that a copy has seen are wanted.
@@ -101,7 +107,9 @@ fn body_at(api: Api, bytes: &[u8]) -> Result<(RequestBody<'_>, &[u8]), FieldFaul
         Api::Deliver => deliver_at(bytes),
         Api::Clean => clean_at(bytes),
         Api::Export => export_at(bytes),
+        Api::ExportDelta => export_delta_at(bytes),
         Api::Import => import_at(bytes),
+        Api::ImportDelta => import_delta_at(bytes),
         Api::Get => get_at(bytes),
         Api::Cover => cover_at(bytes),
         Api::ForgetGroup => forget_group_at(bytes),

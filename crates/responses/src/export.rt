@@ -1,4 +1,4 @@
-//! The response to Export, version 0: `export_head`, and the image's bytes.
+//! The response to Export, versions 0 and 1: `export_head`, and the bytes of the image or of the delta.
 
 ghost use Rattle.std.specs.Prelude.{◌≡◌, ◌++◌, ℕ, List, length};
 ghost use Rattle.frame_fields.specs.Fields.{encoded};
@@ -6,11 +6,11 @@ ghost use Rattle.responses.specs.Export.{export_response, export_value};
 
 use byteorder::{BigEndian, ByteOrder};
 
-/// The number of bytes before the image.
+/// The number of bytes before the image or the delta.
 pub const EXPORT_HEAD_BYTES: usize = 6;
 
-/// What stands before an image of `len` bytes: the error code, 0 for none, and that length. Where
-/// there is an error the image has no bytes. Of more than `MAX_COUNT` the length can't be read.
+/// What stands before an image or a delta of `len` bytes: the error code, 0 for none, and that
+/// length, 0 where there is an error. Of more than `MAX_COUNT` the length can't be read.
 pub fn export_head(code: i16, len: usize) -> [u8; EXPORT_HEAD_BYTES]
     ensures { (image : List ℕ) → length image ≡ len
         → result ++ image ≡ encoded export_response (export_value code image) }

@@ -1,4 +1,4 @@
-//! The response to Import, version 0.
+//! The response to Import, versions 0 and 1.
 
 ghost use Rattle.std.specs.Prelude.{◌≡◌};
 ghost use Rattle.frame_fields.specs.Fields.{encoded};
@@ -7,7 +7,7 @@ ghost use Rattle.responses.specs.Import.{import_response, import_value};
 /// The number of bytes of the fields.
 pub const IMPORT_ANSWER_BYTES: usize = 2;
 
-/// The answer to an import.
+/// The answer to an import, of an image or of a delta.
 #[derive(Clone, Copy)]
 pub struct ImportAnswer {
     /// The error code, 0 for none.
