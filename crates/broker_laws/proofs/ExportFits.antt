@@ -1,4 +1,4 @@
--- The response to Export fits its fields: no larger image is sent.
+-- The response to Export fits its fields: no larger image is sent, and no larger delta.
 use Rattle.std.proofs.Common.{◌≡◌, ℕ, ◌≤◌, ℤ, pos, false, List, [], ◌∷◌, ◌++◌, length, Option, None, arith}
 use Rattle.std.specs.Prelude.{nat_lt, FitsSigned}
 use Rattle.std.specs.Int.{w16, w32}
@@ -25,29 +25,29 @@ use Rattle.broker_laws.proofs.Works.{no_error_fits, code_fits}
 use Rattle.broker_laws.proofs.FittingResponses.{IsKept, frame_limit}
 use Rattle.broker_laws.proofs.OnceFits.{FitsOnce, once_fits}
 
-abbrev value_of : ExportResult → Value export_response
-value_of r = export_value r.code r.image
+abbrev pub value_of : ExportResult → Value export_response
+value_of r = export_value r.code r.sent
 
-answered : (code : ℤ) (image : List ℕ) → FitsSigned w16 code → length image ≤ MAX_EXPORT_BYTES → FitsOnce export_response (export_value code image)
+pub answered : (code : ℤ) (sent : List ℕ) → FitsSigned w16 code → length sent ≤ MAX_EXPORT_BYTES → FitsOnce export_response (export_value code sent)
 unfolding Fits encoded
-answered code image c small =
-    let count = be size32 (pos (length image)) in
+answered code sent c small =
+    let count = be size32 (pos (length sent)) in
     record {
       fits = (c, (record { sfits = omega (arith, small) }, tt));
       size = omega (
         arith,
         small,
-        length-append (be size16 code) ((count ++ image) ++ []),
+        length-append (be size16 code) ((count ++ sent) ++ []),
         length-be size16 code,
-        length-append (count ++ image) [],
-        length-append count image,
-        length-be size32 (pos (length image)),
+        length-append (count ++ sent) [],
+        length-append count sent,
+        length-be size32 (pos (length sent)),
       );
     }
 
--- an image that passes the check is of a size that is sent
-small_image : (o : Option ErrorCode) (size : ℕ) → first_some (o ∷ fault_if (nat_lt MAX_EXPORT_BYTES size) MessageTooLarge ∷ []) ≡ None → size ≤ MAX_EXPORT_BYTES
-small_image o size none =
+-- what passes the check is of a size that is sent
+pub is_small : (o : Option ErrorCode) (size : ℕ) → first_some (o ∷ fault_if (nat_lt MAX_EXPORT_BYTES size) MessageTooLarge ∷ []) ≡ None → size ≤ MAX_EXPORT_BYTES
+is_small o size none =
     let check = none_first o _ none in
     let within : nat_lt MAX_EXPORT_BYTES size ≡ false = no_fault _ MessageTooLarge (none_first (fault_if (nat_lt MAX_EXPORT_BYTES size) MessageTooLarge) None check.1).0 in
     grind (arith, within)
@@ -59,5 +59,5 @@ export_fits n s correlation v out after low sound number part h =
     let image = image_of (content_at s q.topic q.partition) in
     once_fits correlation export_response value_of (export_work s q) s out after number sound
     (λ code. answered (code_number code) [] (code_fits code) (omega arith))
-    (λ none. (answered no_error image no_error_fits (small_image (unknown s q.topic q.partition) (length image) (none_both (export_work s q).early [] none).0), sound))
+    (λ none. (answered no_error image no_error_fits (is_small (unknown s q.topic q.partition) (length image) (none_both (export_work s q).early [] none).0), sound))
     h

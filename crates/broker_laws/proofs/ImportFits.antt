@@ -39,7 +39,7 @@ imported_valid : (role : Role) (here given : Content) → IsContent here → IsC
 imported_valid Leader here given is_here is_given = is_given
 imported_valid Follower here given is_here is_given = content_join here given is_here is_given
 
-answered : (code : ℤ) → FitsSigned w16 code → FitsOnce import_response (import_value (record { code = code }))
+pub answered : (code : ℤ) → FitsSigned w16 code → FitsOnce import_response (import_value (record { code = code }))
 unfolding Fits encoded
 answered code c = record { fits = (c, tt); size = omega arith }
 

@@ -16,7 +16,9 @@ mod OffsetFetchFits
 mod DeliverFits
 mod CleanFits
 mod ExportFits
+mod ExportDeltaFits
 mod ImportFits
+mod ImportDeltaFits
 mod GetFits
 mod CoverFits
 mod ForgetGroupFits

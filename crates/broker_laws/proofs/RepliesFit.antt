@@ -13,7 +13,7 @@ use Rattle.frame_fields.specs.Fields.{size32, Value, encoded, Encodes}
 use Rattle.frame_fields.specs.Frames.{IsBytes, IsWithinLimit}
 use Rattle.frame_fields.proofs.Numbers.{IsBytes-drop, number_fits}
 use Rattle.request_frames.specs.declared.api.Api.{Api}
-use Rattle.request_frames.specs.declared.api.Api.TheVariants.{Produce, Fetch, ListOffsets, Metadata, OffsetCommit, OffsetFetch, Deliver, Clean, Export, Import, Get, Cover, ForgetGroup, Trim}
+use Rattle.request_frames.specs.declared.api.Api.TheVariants.{Produce, Fetch, ListOffsets, Metadata, OffsetCommit, OffsetFetch, Deliver, Clean, Export, ExportDelta, Import, ImportDelta, Get, Cover, ForgetGroup, Trim}
 use Rattle.request_frames.specs.Requests.{fields_of, body_value, RequestValue, body_fields, body_of, correlation_of, IsRequest}
 use Rattle.answering.specs.Work.{MayAnswer}
 use Rattle.broker_state.specs.State.{State}
@@ -31,7 +31,9 @@ use Rattle.broker_laws.proofs.OffsetFetchFits.{offset_fetch_fits}
 use Rattle.broker_laws.proofs.DeliverFits.{deliver_fits}
 use Rattle.broker_laws.proofs.CleanFits.{clean_fits}
 use Rattle.broker_laws.proofs.ExportFits.{export_fits}
+use Rattle.broker_laws.proofs.ExportDeltaFits.{export_delta_fits}
 use Rattle.broker_laws.proofs.ImportFits.{import_fits}
+use Rattle.broker_laws.proofs.ImportDeltaFits.{import_delta_fits}
 use Rattle.broker_laws.proofs.GetFits.{get_fits}
 use Rattle.broker_laws.proofs.CoverFits.{cover_fits}
 use Rattle.broker_laws.proofs.ForgetGroupFits.{forget_group_fits}
@@ -59,7 +61,9 @@ body_fits OffsetFetch = offset_fetch_fits
 body_fits Deliver = deliver_fits
 body_fits Clean = clean_fits
 body_fits Export = export_fits
+body_fits ExportDelta = export_delta_fits
 body_fits Import = import_fits
+body_fits ImportDelta = import_delta_fits
 body_fits Get = get_fits
 body_fits Cover = cover_fits
 body_fits ForgetGroup = forget_group_fits

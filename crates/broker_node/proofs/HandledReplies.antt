@@ -6,7 +6,7 @@ use Rattle.request_frames.specs.declared.parsing.RequestBody.TheVariants as vari
 use Rattle.request_frames.specs.declared.metadata.request.MetadataRequest.{MetadataRequest}
 use Rattle.request_frames.specs.declared.parsing.Request.{Request}
 use Rattle.request_frames.specs.declared.parsing.RequestBody.{RequestBody}
-use Rattle.request_frames.specs.Requests.BodyValue.{produce, fetch, list_offsets, metadata, offset_commit, offset_fetch, deliver, clean, export, import, get, cover, forget_group, trim}
+use Rattle.request_frames.specs.Requests.BodyValue.{produce, fetch, list_offsets, metadata, offset_commit, offset_fetch, deliver, clean, export, export_delta, import, import_delta, get, cover, forget_group, trim}
 use Rattle.request_frames.specs.Requests.{BodyValue, RequestValue}
 use Rattle.request_frames.specs.Metadata.{metadata_view}
 use Rattle.request_frames.specs.Views.{request_body, request_value}
@@ -79,7 +79,9 @@ tells s after n (offset_fetch q) response r = ap answer_of (sym r.sends)
 tells s after n (deliver q) response r = ap answer_of (sym r.sends)
 tells s after n (clean q) response r = ap answer_of (sym r.sends)
 tells s after n (export q) response r = ap answer_of (sym r.sends)
+tells s after n (export_delta q) response r = ap answer_of (sym r.sends)
 tells s after n (import q) response r = ap answer_of (sym r.sends)
+tells s after n (import_delta q) response r = ap answer_of (sym r.sends)
 tells s after n (get q) response r = ap answer_of (sym r.sends)
 tells s after n (cover q) response r = ap answer_of (sym r.sends)
 tells s after n (forget_group q) response r = ap answer_of (sym r.sends)

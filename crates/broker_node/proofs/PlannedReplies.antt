@@ -1,7 +1,7 @@
 -- The reply as a function, and as a relation.
 use Rattle.std.proofs.Common.{◌≡◌, ℕ, ℤ, List, Option, ap}
 use Rattle.std.specs.Prelude.{◌↔◌}
-use Rattle.request_frames.specs.Requests.BodyValue.{produce, fetch, list_offsets, metadata, offset_commit, offset_fetch, deliver, clean, export, import, get, cover, forget_group, trim}
+use Rattle.request_frames.specs.Requests.BodyValue.{produce, fetch, list_offsets, metadata, offset_commit, offset_fetch, deliver, clean, export, export_delta, import, import_delta, get, cover, forget_group, trim}
 use Rattle.request_frames.specs.Requests.{BodyValue, RequestValue}
 use Rattle.broker_state.specs.State.{State}
 use Rattle.answering.specs.Work.{IsAnswer, MayAnswer}
@@ -14,7 +14,9 @@ use Rattle.group_requests.specs.ForgetGroup.{forget_group_work, forget_group_sen
 use Rattle.copy_requests.specs.Deliver.{deliver_work, deliver_sent}
 use Rattle.copy_requests.specs.Clean.{clean_work, clean_sent}
 use Rattle.copy_requests.specs.Export.{export_work, export_sent}
+use Rattle.copy_requests.specs.ExportDelta.{export_delta_work}
 use Rattle.copy_requests.specs.Import.{import_work, import_sent}
+use Rattle.copy_requests.specs.ImportDelta.{import_delta_work}
 use Rattle.copy_requests.specs.Get.{get_work, get_sent}
 use Rattle.copy_requests.specs.Cover.{cover_work, cover_sent}
 use Rattle.copy_requests.specs.Trim.{trim_work, trim_sent}
@@ -32,7 +34,9 @@ is_reply_to s after n (offset_fetch q) out replies = plan_replies (offset_fetch_
 is_reply_to s after n (deliver q) out replies = once_replies (deliver_sent n) (deliver_work s q) s out after replies
 is_reply_to s after n (clean q) out replies = once_replies (clean_sent n) (clean_work s q) s out after replies
 is_reply_to s after n (export q) out replies = once_replies (export_sent n) (export_work s q) s out after replies
+is_reply_to s after n (export_delta q) out replies = once_replies (export_sent n) (export_delta_work s q) s out after replies
 is_reply_to s after n (import q) out replies = once_replies (import_sent n) (import_work s q) s out after replies
+is_reply_to s after n (import_delta q) out replies = once_replies (import_sent n) (import_delta_work s q) s out after replies
 is_reply_to s after n (get q) out replies = once_replies (get_sent n) (get_work s q) s out after replies
 is_reply_to s after n (cover q) out replies = once_replies (cover_sent n) (cover_work s q) s out after replies
 is_reply_to s after n (forget_group group) out replies = once_replies (forget_group_sent n) (forget_group_work s group) s out after replies
@@ -48,7 +52,9 @@ replies_to s after n (offset_fetch q) out is = plan_given (offset_fetch_plan s n
 replies_to s after n (deliver q) out is = once_given (deliver_sent n) (deliver_work s q) s out after is
 replies_to s after n (clean q) out is = once_given (clean_sent n) (clean_work s q) s out after is
 replies_to s after n (export q) out is = once_given (export_sent n) (export_work s q) s out after is
+replies_to s after n (export_delta q) out is = once_given (export_sent n) (export_delta_work s q) s out after is
 replies_to s after n (import q) out is = once_given (import_sent n) (import_work s q) s out after is
+replies_to s after n (import_delta q) out is = once_given (import_sent n) (import_delta_work s q) s out after is
 replies_to s after n (get q) out is = once_given (get_sent n) (get_work s q) s out after is
 replies_to s after n (cover q) out is = once_given (cover_sent n) (cover_work s q) s out after is
 replies_to s after n (forget_group group) out is = once_given (forget_group_sent n) (forget_group_work s group) s out after is
@@ -64,7 +70,9 @@ may_reply_to s after n (offset_fetch q) out replies = plan_weaker (offset_fetch_
 may_reply_to s after n (deliver q) out replies = once_weaker (deliver_sent n) (deliver_work s q) s out after replies
 may_reply_to s after n (clean q) out replies = once_weaker (clean_sent n) (clean_work s q) s out after replies
 may_reply_to s after n (export q) out replies = once_weaker (export_sent n) (export_work s q) s out after replies
+may_reply_to s after n (export_delta q) out replies = once_weaker (export_sent n) (export_delta_work s q) s out after replies
 may_reply_to s after n (import q) out replies = once_weaker (import_sent n) (import_work s q) s out after replies
+may_reply_to s after n (import_delta q) out replies = once_weaker (import_sent n) (import_delta_work s q) s out after replies
 may_reply_to s after n (get q) out replies = once_weaker (get_sent n) (get_work s q) s out after replies
 may_reply_to s after n (cover q) out replies = once_weaker (cover_sent n) (cover_work s q) s out after replies
 may_reply_to s after n (forget_group group) out replies = once_weaker (forget_group_sent n) (forget_group_work s group) s out after replies

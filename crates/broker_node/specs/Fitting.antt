@@ -4,7 +4,7 @@
 use Rattle.std.specs.Prelude.{◌≡◌, ◌^◌, ℕ, ◌<◌, ℤ, List, length, Option, Some, None, FitsSigned, ⊤}
 use Rattle.std.specs.Int.{w32}
 use Rattle.frame_fields.specs.Fields.{Fields, Value, Fits}
-use Rattle.request_frames.specs.Requests.BodyValue.{produce, fetch, list_offsets, metadata, offset_commit, offset_fetch, deliver, clean, export, import, get, cover, forget_group, trim}
+use Rattle.request_frames.specs.Requests.BodyValue.{produce, fetch, list_offsets, metadata, offset_commit, offset_fetch, deliver, clean, export, export_delta, import, import_delta, get, cover, forget_group, trim}
 use Rattle.request_frames.specs.Requests.{BodyValue, RequestValue}
 use Rattle.responses.specs.Responses.{response}
 use Rattle.responses.specs.Produce.{produce_response}
@@ -33,7 +33,9 @@ response_fields (offset_fetch q) = offset_fetch_response
 response_fields (deliver q) = deliver_response
 response_fields (clean q) = clean_response
 response_fields (export q) = export_response
+response_fields (export_delta q) = export_response
 response_fields (import q) = import_response
+response_fields (import_delta q) = import_response
 response_fields (get q) = get_response
 response_fields (cover q) = cover_response
 response_fields (forget_group group) = forget_group_response

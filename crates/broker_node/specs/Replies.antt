@@ -1,7 +1,7 @@
 -- What a broker replies to a request, and the state after. Kafka's documentation, "Protocol Guide", sections "The
 -- Messages" and "Network" (requests are answered in order, and Produce with acks 0 is not answered).
 use Rattle.std.specs.Prelude.{◌≡◌, ℕ, ℤ, List, Option, Some}
-use Rattle.request_frames.specs.Requests.BodyValue.{produce, fetch, list_offsets, metadata, offset_commit, offset_fetch, deliver, clean, export, import, get, cover, forget_group, trim}
+use Rattle.request_frames.specs.Requests.BodyValue.{produce, fetch, list_offsets, metadata, offset_commit, offset_fetch, deliver, clean, export, export_delta, import, import_delta, get, cover, forget_group, trim}
 use Rattle.request_frames.specs.Requests.{BodyValue, RequestValue}
 use Rattle.answering.specs.Work.{IsAnswer, MayAnswer}
 use Rattle.answering.specs.Plans.{HowAnswered, reply_by, RepliesBy}
@@ -17,7 +17,9 @@ use Rattle.group_requests.specs.ForgetGroup.{forget_group_work, forget_group_sen
 use Rattle.copy_requests.specs.Deliver.{deliver_work, deliver_sent}
 use Rattle.copy_requests.specs.Clean.{clean_work, clean_sent}
 use Rattle.copy_requests.specs.Export.{export_work, export_sent}
+use Rattle.copy_requests.specs.ExportDelta.{export_delta_work}
 use Rattle.copy_requests.specs.Import.{import_work, import_sent}
+use Rattle.copy_requests.specs.ImportDelta.{import_delta_work}
 use Rattle.copy_requests.specs.Get.{get_work, get_sent}
 use Rattle.copy_requests.specs.Cover.{cover_work, cover_sent}
 use Rattle.copy_requests.specs.Trim.{trim_work, trim_sent}
@@ -32,7 +34,9 @@ reply_to s correlation (offset_fetch q) = reply_by (offset_fetch_plan s correlat
 reply_to s correlation (deliver q) = reply_once (deliver_sent correlation) (deliver_work s q) s
 reply_to s correlation (clean q) = reply_once (clean_sent correlation) (clean_work s q) s
 reply_to s correlation (export q) = reply_once (export_sent correlation) (export_work s q) s
+reply_to s correlation (export_delta q) = reply_once (export_sent correlation) (export_delta_work s q) s
 reply_to s correlation (import q) = reply_once (import_sent correlation) (import_work s q) s
+reply_to s correlation (import_delta q) = reply_once (import_sent correlation) (import_delta_work s q) s
 reply_to s correlation (get q) = reply_once (get_sent correlation) (get_work s q) s
 reply_to s correlation (cover q) = reply_once (cover_sent correlation) (cover_work s q) s
 reply_to s correlation (forget_group group) = reply_once (forget_group_sent correlation) (forget_group_work s group) s
@@ -52,7 +56,9 @@ RepliesTo A s correlation (offset_fetch q) out after = RepliesBy A (offset_fetch
 RepliesTo A s correlation (deliver q) out after = RepliesOnce A (deliver_sent correlation) (deliver_work s q) s out after
 RepliesTo A s correlation (clean q) out after = RepliesOnce A (clean_sent correlation) (clean_work s q) s out after
 RepliesTo A s correlation (export q) out after = RepliesOnce A (export_sent correlation) (export_work s q) s out after
+RepliesTo A s correlation (export_delta q) out after = RepliesOnce A (export_sent correlation) (export_delta_work s q) s out after
 RepliesTo A s correlation (import q) out after = RepliesOnce A (import_sent correlation) (import_work s q) s out after
+RepliesTo A s correlation (import_delta q) out after = RepliesOnce A (import_sent correlation) (import_delta_work s q) s out after
 RepliesTo A s correlation (get q) out after = RepliesOnce A (get_sent correlation) (get_work s q) s out after
 RepliesTo A s correlation (cover q) out after = RepliesOnce A (cover_sent correlation) (cover_work s q) s out after
 RepliesTo A s correlation (forget_group group) out after = RepliesOnce A (forget_group_sent correlation) (forget_group_work s group) s out after

@@ -9,8 +9,8 @@ ghost use Rattle.broker_node.specs.Answers.{RespondsTo, answer_to};
 use crate::node::Node;
 use broker_state::BrokerState;
 use copy_requests::{
-    reply_to_clean, reply_to_cover, reply_to_deliver, reply_to_export, reply_to_get,
-    reply_to_import, reply_to_trim,
+    reply_to_clean, reply_to_cover, reply_to_deliver, reply_to_export, reply_to_export_delta,
+    reply_to_get, reply_to_import, reply_to_import_delta, reply_to_trim,
 };
 use group_requests::{reply_to_forget_group, reply_to_offset_commit, reply_to_offset_fetch};
 use log_requests::{reply_to_fetch, reply_to_list_offsets, reply_to_metadata, reply_to_produce};
@@ -60,7 +60,9 @@ fn reply_to<S: BatchStore, A: Allocator + Copy>(
         RequestBody::Deliver(asked) => reply_to_deliver(state, correlation, asked, out),
         RequestBody::Clean(asked) => reply_to_clean(state, correlation, asked, out),
         RequestBody::Export(asked) => reply_to_export(state, correlation, asked, out),
+        RequestBody::ExportDelta(asked) => reply_to_export_delta(state, correlation, asked, out),
         RequestBody::Import(asked) => reply_to_import(state, correlation, asked, out),
+        RequestBody::ImportDelta(asked) => reply_to_import_delta(state, correlation, asked, out),
         RequestBody::Get(asked) => reply_to_get(state, correlation, asked, out),
         RequestBody::Cover(asked) => reply_to_cover(state, correlation, asked, out),
         RequestBody::ForgetGroup(asked) => reply_to_forget_group(state, correlation, asked, out),
@@ -72,9 +74,9 @@ impl<S: BatchStore> Node<S> {
     /// Handles a request: does what it asks for, and appends the response frame to the output, if the
     /// request is answered.
     ///
-    /// Where an entry's work lacks memory (for a batch, a look-up, a cleaning, an image, a merge, a
-    /// group's keys), its partition is as it was, its own answer is the error code of a storage error, and
-    /// the request's other entries are handled.
+    /// Where an entry's work lacks memory (for a batch, a look-up, a cleaning, an image, a delta, a
+    /// merge, a group's keys), its partition is as it was, its own answer is the error code of a storage
+    /// error, and the request's other entries are handled.
     ///
     /// # Errors
     ///

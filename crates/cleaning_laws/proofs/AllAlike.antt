@@ -1,7 +1,7 @@
 -- Two lists of requests that are the same once their Cleans are left out are answered alike.
 use Rattle.std.proofs.Common.{◌≡◌, ℕ, ℤ, Bool, true, false, not, cond, List, [], ◌∷◌, refl, sym, ap, subst, ◌∙◌}
 use Rattle.std.specs.List.{filter, AllByRecursion}
-use Rattle.request_frames.specs.Requests.BodyValue.{produce, fetch, list_offsets, metadata, offset_commit, offset_fetch, deliver, clean, export, import, get, cover, forget_group, trim}
+use Rattle.request_frames.specs.Requests.BodyValue.{produce, fetch, list_offsets, metadata, offset_commit, offset_fetch, deliver, clean, export, export_delta, import, import_delta, get, cover, forget_group, trim}
 use Rattle.request_frames.specs.Requests.{BodyValue, RequestValue}
 use Rattle.content.specs.Logs.{IsPlainLog}
 use Rattle.broker_state.specs.declared.config.Role.{Role}
@@ -39,7 +39,9 @@ kept_by logs s n (offset_commit q) e is = absurd cc
 kept_by logs s n (offset_fetch q) e is = absurd cc
 kept_by logs s n (deliver q) e is = absurd cc
 kept_by logs s n (export q) e is = absurd cc
+kept_by logs s n (export_delta q) e is = absurd cc
 kept_by logs s n (import q) e is = absurd cc
+kept_by logs s n (import_delta q) e is = absurd cc
 kept_by logs s n (get q) e is = absurd cc
 kept_by logs s n (cover q) e is = absurd cc
 kept_by logs s n (forget_group group) e is = absurd cc
@@ -56,7 +58,9 @@ settled_stays (offset_fetch q) e = refl
 settled_stays (deliver q) e = refl
 settled_stays (clean q) e = absurd cc
 settled_stays (export q) e = refl
+settled_stays (export_delta q) e = refl
 settled_stays (import q) e = refl
+settled_stays (import_delta q) e = refl
 settled_stays (get q) e = refl
 settled_stays (cover q) e = refl
 settled_stays (forget_group group) e = refl
@@ -130,7 +134,9 @@ within_cleaned role logs (offset_commit q) e = absurd cc
 within_cleaned role logs (offset_fetch q) e = absurd cc
 within_cleaned role logs (deliver q) e = absurd cc
 within_cleaned role logs (export q) e = absurd cc
+within_cleaned role logs (export_delta q) e = absurd cc
 within_cleaned role logs (import q) e = absurd cc
+within_cleaned role logs (import_delta q) e = absurd cc
 within_cleaned role logs (get q) e = absurd cc
 within_cleaned role logs (cover q) e = absurd cc
 within_cleaned role logs (forget_group group) e = absurd cc

@@ -1,7 +1,7 @@
 -- No reply changes a broker's configuration.
 use Rattle.std.proofs.Common.{◌≡◌, ℕ, ℤ, ◌++◌, List, [], ◌∷◌, Option, Some, None, refl, ◌∙◌}
 use Rattle.frame_fields.specs.Types.{TopicOf}
-use Rattle.request_frames.specs.Requests.BodyValue.{produce, fetch, list_offsets, metadata, offset_commit, offset_fetch, deliver, clean, export, import, get, cover, forget_group, trim}
+use Rattle.request_frames.specs.Requests.BodyValue.{produce, fetch, list_offsets, metadata, offset_commit, offset_fetch, deliver, clean, export, export_delta, import, import_delta, get, cover, forget_group, trim}
 use Rattle.request_frames.specs.Requests.{BodyValue, RequestValue}
 use Rattle.answering.specs.declared.codes.ErrorCode.{ErrorCode}
 use Rattle.answering.specs.Lists.{first_some, map_accum}
@@ -16,7 +16,9 @@ use Rattle.group_requests.specs.ForgetGroup.{forget_group_work}
 use Rattle.copy_requests.specs.Deliver.{deliver_work}
 use Rattle.copy_requests.specs.Clean.{clean_work}
 use Rattle.copy_requests.specs.Export.{export_work}
+use Rattle.copy_requests.specs.ExportDelta.{export_delta_work}
 use Rattle.copy_requests.specs.Import.{import_work}
+use Rattle.copy_requests.specs.ImportDelta.{import_delta_work}
 use Rattle.copy_requests.specs.Get.{get_work}
 use Rattle.copy_requests.specs.Cover.{cover_work}
 use Rattle.copy_requests.specs.Trim.{trim_work}
@@ -50,7 +52,9 @@ config_to s n (offset_fetch q) = works_config (offset_fetch_plan s n q).work (λ
 config_to s n (deliver q) = answer_config (deliver_work s q) s refl
 config_to s n (clean q) = answer_config (clean_work s q) s refl
 config_to s n (export q) = answer_config (export_work s q) s refl
+config_to s n (export_delta q) = answer_config (export_delta_work s q) s refl
 config_to s n (import q) = answer_config (import_work s q) s refl
+config_to s n (import_delta q) = answer_config (import_delta_work s q) s refl
 config_to s n (get q) = answer_config (get_work s q) s refl
 config_to s n (cover q) = answer_config (cover_work s q) s refl
 config_to s n (forget_group group) = answer_config (forget_group_work s group) s refl

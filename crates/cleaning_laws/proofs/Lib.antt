@@ -19,6 +19,7 @@ pub mod SameShown
 pub mod OnlyRead
 pub mod MetadataAlike
 pub mod DeliverAlike
+pub mod ImportDeltaAlike
 pub mod TrimAlike
 pub mod RepliesAlike
 pub mod LongerLogs

@@ -10,11 +10,12 @@ use Rattle.content.specs.Table.{Table}
 use Rattle.content.specs.Content.{Content, shown_table, end}
 use Rattle.partition_log.specs.Lookups.{first_by_time}
 use Rattle.frame_fields.specs.Types.{TopicOf}
-use Rattle.request_frames.specs.Requests.BodyValue.{fetch, list_offsets, offset_fetch, export, get, cover}
+use Rattle.request_frames.specs.Requests.BodyValue.{fetch, list_offsets, offset_fetch, export, export_delta, get, cover}
 use Rattle.request_frames.specs.Requests.{BodyValue}
 use Rattle.request_frames.specs.Get.{GetValue}
 use Rattle.request_frames.specs.Cover.{CoverValue}
 use Rattle.request_frames.specs.Export.{ExportValue}
+use Rattle.request_frames.specs.ExportDelta.{ExportDeltaValue}
 use Rattle.request_frames.specs.Fetch.{FetchValue}
 use Rattle.request_frames.specs.ListOffsets.{ListOffsetsPartitionValue}
 use Rattle.request_frames.specs.OffsetFetch.{OffsetFetchValue, OffsetFetchPartitionValue}
@@ -35,6 +36,7 @@ use Rattle.log_requests.specs.ListOffsets.{list_offsets_latest, list_offsets_ear
 use Rattle.copy_requests.specs.Get.{get_work, get_sent}
 use Rattle.copy_requests.specs.Cover.{cover_work, cover_sent}
 use Rattle.copy_requests.specs.Export.{export_work}
+use Rattle.copy_requests.specs.ExportDelta.{export_delta_work}
 use Rattle.copy_requests.specs.declared.cover.TheConstants.{MAX_COVER_RUNS}
 use Rattle.broker_node.specs.Replies.{reply_to}
 use Rattle.cleaning_laws.specs.Logs.{Logs}
@@ -101,6 +103,13 @@ cover_alike logs s z n q alike =
 pub export_alike : (logs : Logs) (s z : State) (n : ℤ) (q : ExportValue) → AreAlike logs s z → BodyAlike logs s z n (export q)
 export_alike logs s z n q alike = record {
   states = unchanged logs s z (answer (export_work s q) s).1 (answer (export_work z q) z).1 (stay logs s z alike) (work_stays (export_work s q) s refl) (work_stays (export_work z q) z refl);
+  replies = λ settled. absurd cc;
+}
+
+-- so does a delta
+pub export_delta_alike : (logs : Logs) (s z : State) (n : ℤ) (q : ExportDeltaValue) → AreAlike logs s z → BodyAlike logs s z n (export_delta q)
+export_delta_alike logs s z n q alike = record {
+  states = unchanged logs s z (answer (export_delta_work s q) s).1 (answer (export_delta_work z q) z).1 (stay logs s z alike) (work_stays (export_delta_work s q) s refl) (work_stays (export_delta_work z q) z refl);
   replies = λ settled. absurd cc;
 }
 

@@ -1,6 +1,6 @@
 -- Two brokers that are alike answer a request within the logs alike, and stay alike.
 use Rattle.std.proofs.Common.{◌≡◌, ℤ, Bool, true, false, not, refl}
-use Rattle.request_frames.specs.Requests.BodyValue.{produce, fetch, list_offsets, metadata, offset_commit, offset_fetch, deliver, clean, export, import, get, cover, forget_group, trim}
+use Rattle.request_frames.specs.Requests.BodyValue.{produce, fetch, list_offsets, metadata, offset_commit, offset_fetch, deliver, clean, export, export_delta, import, import_delta, get, cover, forget_group, trim}
 use Rattle.request_frames.specs.Requests.{BodyValue, RequestValue}
 use Rattle.broker_state.specs.State.{State}
 use Rattle.broker_node.specs.Replies.{reply_to}
@@ -12,9 +12,10 @@ use Rattle.cleaning_laws.proofs.TopicsAlike.{Same}
 use Rattle.cleaning_laws.proofs.ProduceAlike.{produce_alike}
 use Rattle.cleaning_laws.proofs.OffsetCommitAlike.{offset_commit_alike}
 use Rattle.cleaning_laws.proofs.ForgetGroupAlike.{forget_group_alike}
-use Rattle.cleaning_laws.proofs.OnlyRead.{BodyAlike, get_alike, cover_alike, export_alike, fetch_alike, offset_fetch_alike, list_offsets_alike}
+use Rattle.cleaning_laws.proofs.OnlyRead.{BodyAlike, get_alike, cover_alike, export_alike, export_delta_alike, fetch_alike, offset_fetch_alike, list_offsets_alike}
 use Rattle.cleaning_laws.proofs.MetadataAlike.{metadata_alike}
 use Rattle.cleaning_laws.proofs.DeliverAlike.{deliver_alike}
+use Rattle.cleaning_laws.proofs.ImportDeltaAlike.{import_delta_alike}
 use Rattle.cleaning_laws.proofs.TrimAlike.{trim_alike}
 
 -- a reply that is the same in any case
@@ -31,7 +32,9 @@ body_alike logs s z n (offset_fetch q) alike within may other_may no_clean = off
 body_alike logs s z n (deliver q) alike within may other_may no_clean = deliver_alike logs s z n q within.0 within.1 alike
 body_alike logs s z n (clean q) alike within may other_may no_clean = absurd cc
 body_alike logs s z n (export q) alike within may other_may no_clean = export_alike logs s z n q alike
+body_alike logs s z n (export_delta q) alike within may other_may no_clean = export_delta_alike logs s z n q alike
 body_alike logs s z n (import q) alike within may other_may no_clean = absurd within.1
+body_alike logs s z n (import_delta q) alike within may other_may no_clean = import_delta_alike logs s z n q within.0 within.1 alike
 body_alike logs s z n (get q) alike within may other_may no_clean = get_alike logs s z n q alike
 body_alike logs s z n (cover q) alike within may other_may no_clean = cover_alike logs s z n q alike
 body_alike logs s z n (forget_group group) alike within may other_may no_clean = always logs s z n (forget_group group) (forget_group_alike logs s z group alike n)

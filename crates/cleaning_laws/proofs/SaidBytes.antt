@@ -1,5 +1,5 @@
--- A request that is read from a frame of bytes is within the logs, where it is no Import and delivers only what is of them:
--- its byte strings are of bytes, and its numbers and names are those that its fields can hold.
+-- A request that is read from a frame of bytes is within the logs, where it brings no image, and only batches and deltas that
+-- are of them: its byte strings are of bytes, and its numbers and names are those that its fields can hold.
 use Rattle.std.proofs.Common.{◌≡◌, ℕ, pos, List, [], ◌∷◌, ◌++◌, length, drop, Option, Some, None, refl, sym, subst, ◌∙◌, arith}
 use Rattle.std.specs.Prelude.{map}
 use Rattle.std.specs.List.{flat_map, AllByRecursion}
@@ -10,7 +10,7 @@ use Rattle.frame_fields.specs.Types.{nullable_string, nullable_bytes, topic, top
 use Rattle.frame_fields.specs.Frames.{IsBytes}
 use Rattle.frame_fields.proofs.Numbers.{IsBytes-drop, IsBytes-take, IsBytes-second}
 use Rattle.request_frames.specs.declared.api.Api.{Api}
-use Rattle.request_frames.specs.declared.api.Api.TheVariants.{Produce, Fetch, ListOffsets, Metadata, OffsetCommit, OffsetFetch, Deliver, Clean, Export, Import, Get, Cover, ForgetGroup, Trim}
+use Rattle.request_frames.specs.declared.api.Api.TheVariants.{Produce, Fetch, ListOffsets, Metadata, OffsetCommit, OffsetFetch, Deliver, Clean, Export, ExportDelta, Import, ImportDelta, Get, Cover, ForgetGroup, Trim}
 use Rattle.request_frames.specs.Requests.{fields_of, body_value, RequestValue, body_fields, IsRequest}
 use Rattle.request_frames.specs.Produce.{produce_partition, produce_partition_value, produce_fields, produce_request}
 use Rattle.request_frames.specs.OffsetCommit.{offset_commit_partition, offset_commit_partition_value, offset_commit_fields, offset_commit_request}
@@ -109,7 +109,9 @@ said_within role logs OffsetFetch v fits all from = (tt, from)
 said_within role logs Deliver v fits all from = (all.1.1.0, from)
 said_within role logs Clean v fits all from = (tt, from)
 said_within role logs Export v fits all from = (tt, from)
+said_within role logs ExportDelta v fits all from = (tt, from)
 said_within role logs Import v fits all from = (tt, from)
+said_within role logs ImportDelta v fits all from = (all.1.1.0, from)
 said_within role logs Get v fits all from = (tt, from)
 said_within role logs Cover v fits all from = (tt, from)
 said_within role logs ForgetGroup v fits all from = (tt, from)

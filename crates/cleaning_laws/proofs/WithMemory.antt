@@ -1,7 +1,7 @@
 -- Where no entry's result lacks memory, what may be replied is the reply itself.
 use Rattle.std.proofs.Common.{◌≡◌, ℕ, ℤ, List, ◌++◌, Option, inl, inr, ap, ◌∙◌}
 use Rattle.std.specs.Prelude.{◌≢◌}
-use Rattle.request_frames.specs.Requests.BodyValue.{produce, fetch, list_offsets, metadata, offset_commit, offset_fetch, deliver, clean, export, import, get, cover, forget_group, trim}
+use Rattle.request_frames.specs.Requests.BodyValue.{produce, fetch, list_offsets, metadata, offset_commit, offset_fetch, deliver, clean, export, export_delta, import, import_delta, get, cover, forget_group, trim}
 use Rattle.request_frames.specs.Requests.{BodyValue, RequestValue}
 use Rattle.answering.specs.declared.codes.ErrorCode.TheVariants.{StorageError}
 use Rattle.answering.specs.Work.{Work, IsAnswer, MayAnswer}
@@ -19,7 +19,9 @@ use Rattle.group_requests.specs.ForgetGroup.{forget_group_work, forget_group_sen
 use Rattle.copy_requests.specs.Deliver.{deliver_work, deliver_sent}
 use Rattle.copy_requests.specs.Clean.{clean_work, clean_sent}
 use Rattle.copy_requests.specs.Export.{export_work, export_sent}
+use Rattle.copy_requests.specs.ExportDelta.{export_delta_work}
 use Rattle.copy_requests.specs.Import.{import_work, import_sent}
+use Rattle.copy_requests.specs.ImportDelta.{import_delta_work}
 use Rattle.copy_requests.specs.Get.{get_work, get_sent}
 use Rattle.copy_requests.specs.Cover.{cover_work, cover_sent}
 use Rattle.copy_requests.specs.Trim.{trim_work, trim_sent}
@@ -59,7 +61,9 @@ full_to s after n (offset_fetch q) out replies = plan_in_full (offset_fetch_plan
 full_to s after n (deliver q) out replies = once_in_full (deliver_sent n) (deliver_work s q) s out after replies
 full_to s after n (clean q) out replies = once_in_full (clean_sent n) (clean_work s q) s out after replies
 full_to s after n (export q) out replies = once_in_full (export_sent n) (export_work s q) s out after replies
+full_to s after n (export_delta q) out replies = once_in_full (export_sent n) (export_delta_work s q) s out after replies
 full_to s after n (import q) out replies = once_in_full (import_sent n) (import_work s q) s out after replies
+full_to s after n (import_delta q) out replies = once_in_full (import_sent n) (import_delta_work s q) s out after replies
 full_to s after n (get q) out replies = once_in_full (get_sent n) (get_work s q) s out after replies
 full_to s after n (cover q) out replies = once_in_full (cover_sent n) (cover_work s q) s out after replies
 full_to s after n (forget_group group) out replies = once_in_full (forget_group_sent n) (forget_group_work s group) s out after replies

@@ -7,12 +7,18 @@ use Rattle.frame_fields.specs.Types.{TopicOf}
 use Rattle.batch_codec.specs.Reading.{batch_of, IsEncoding}
 use Rattle.batch_codec.specs.Offsets.{first_offset}
 use Rattle.content.specs.ByOffset.{look_up}
-use Rattle.content.specs.Content.{IsLogBatch}
-use Rattle.request_frames.specs.Requests.BodyValue.{produce, fetch, list_offsets, offset_commit, deliver, clean, export, import, trim}
+use Rattle.batch_codec.specs.Values.{BatchValue}
+use Rattle.content.specs.Content.{Content, IsContent, IsLogBatch}
+use Rattle.content.specs.Logs.{IsPlainLog}
+use Rattle.content.specs.Copies.{IsCopy}
+use Rattle.deltas.specs.Deltas.{Delta, delta_of}
+use Rattle.delta_bytes.specs.Reading.{delta_at}
+use Rattle.request_frames.specs.Requests.BodyValue.{produce, fetch, list_offsets, offset_commit, deliver, clean, export, export_delta, import, import_delta, trim}
 use Rattle.request_frames.specs.Requests.{BodyValue, RequestValue}
 use Rattle.request_frames.specs.ListOffsets.{ListOffsetsPartitionValue}
 use Rattle.request_frames.specs.OffsetCommit.{OffsetCommitPartitionValue}
 use Rattle.request_frames.specs.Deliver.{DeliverValue}
+use Rattle.request_frames.specs.ImportDelta.{ImportDeltaValue}
 use Rattle.group_offsets.specs.Keys.{GroupKeyFits}
 use Rattle.group_offsets.specs.CommittedValues.{CommittedFits}
 use Rattle.broker_state.specs.declared.config.Role.{Role}
@@ -36,6 +42,18 @@ IsOfLog Follower logs q =
     let b = batch_of q.batch in
     IsEncoding q.batch → IsLogBatch b → look_up first_offset (first_offset b) (logs q.topic q.partition) ≡ Some b
 
+-- It is the delta of a copy of the log, for whatever was asked. Only a plain log is one that copies are of.
+pub record IsFromCopy (log : List BatchValue) (e : Delta) : Type 0 where
+  pub sender : Content
+  pub content : IsContent sender
+  pub copy : IsPlainLog log → IsCopy sender log
+  pub delta : e ≡ delta_of sender e.asked
+
+-- a delta that comes to a follower, as bytes, is that of a copy of the log
+abbrev pub IsDeltaOfLog : Role → Logs → ImportDeltaValue → Type 0
+IsDeltaOfLog Leader logs q = ⊤
+IsDeltaOfLog Follower logs q = (e : Delta) → delta_at q.delta ≡ Some e → IsFromCopy (logs q.topic q.partition) e
+
 -- a STRING holds each name of a commit and its metadata, and its numbers are of their types
 abbrev pub CommitFits : (group name : List ℕ) → OffsetCommitPartitionValue → Type 0
 CommitFits group name e =
@@ -47,12 +65,14 @@ abbrev pub HoldsFields : BodyValue → Type 0
 HoldsFields (produce q) = EachEntry (λ name e. IsBytes e.records) q.topics
 HoldsFields (offset_commit q) = EachEntry (CommitFits q.group) q.topics
 HoldsFields (deliver q) = IsBytes q.batch
+HoldsFields (import_delta q) = IsBytes q.delta
 HoldsFields _ = ⊤
 
 -- what a request brings is of the logs
 abbrev pub IsFromLogs : Role → Logs → BodyValue → Type 0
 IsFromLogs role logs (deliver q) = IsOfLog role logs q
 IsFromLogs role logs (import q) = ⊥
+IsFromLogs role logs (import_delta q) = IsDeltaOfLog role logs q
 IsFromLogs role logs _ = ⊤
 
 abbrev pub IsWithin : Role → Logs → BodyValue → Type 0
@@ -75,6 +95,7 @@ is_no_time e = int_lt e.time (pos 0)
 abbrev pub is_settled : BodyValue → Bool
 is_settled (fetch q) = false
 is_settled (export q) = false
+is_settled (export_delta q) = false
 is_settled (clean q) = false
 is_settled (import q) = false
 is_settled (list_offsets topics) = list_all (λ t. list_all is_no_time t.entries) topics

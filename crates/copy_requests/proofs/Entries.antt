@@ -141,7 +141,7 @@ abbrev pub get_answer : Option (Bor (List ℕ)) → GetResult
 get_answer value = record { code = no_error; value = option_map (λ bytes. bytes.now) value }
 
 abbrev pub export_answer : {A : Type 0} → Vec ℕ A → ExportResult
-export_answer image = record { code = no_error; image = image.items }
+export_answer image = record { code = no_error; sent = image.items }
 
 abbrev pub cover_answer : Bor Runs → CoverResult
 cover_answer runs = record { code = no_error; runs = runs.now }

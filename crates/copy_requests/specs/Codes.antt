@@ -1,9 +1,12 @@
--- The code that answers each refusal of a delivery, of an image and of a trim. Which code answers which refusal is this project's own; their numbers
--- are those of Kafka's documentation, "Protocol Guide", section "Error Codes".
+-- The code that answers each refusal of a delivery, of an image, of a delta and of a trim. Which code answers which
+-- refusal is this project's own; their numbers are those of Kafka's documentation, "Protocol Guide", section "Error
+-- Codes".
 use Rattle.content.specs.declared.delivery.DeliverError.{DeliverError}
 use Rattle.content.specs.declared.delivery.DeliverError.TheVariants.{NotWhole, NoKey, BadOffset, Overlap, OutOfMemory}
 use Rattle.copy_images.specs.declared.error.ImageError.{ImageError}
 use Rattle.copy_images.specs.declared.error.ImageError.TheVariants as image
+use Rattle.copy_deltas.specs.declared.error.PatchError.{PatchError}
+use Rattle.copy_deltas.specs.declared.error.PatchError.TheVariants as patch
 use Rattle.partition_log.specs.declared.trim.TrimError.{TrimError}
 use Rattle.partition_log.specs.declared.trim.TrimError.TheVariants as trim
 use Rattle.answering.specs.declared.codes.ErrorCode.{ErrorCode}
@@ -21,6 +24,13 @@ deliver_code OutOfMemory = StorageError
 abbrev pub image_code : ImageError → ErrorCode
 image_code image.OutOfMemory = StorageError
 image_code e = CorruptMessage
+
+-- of a delta that a copy does not take
+abbrev pub patch_code : PatchError → ErrorCode
+patch_code patch.NotFor = InvalidRequest
+patch_code (patch.Disagree base) = InvalidRequest
+patch_code patch.OutOfMemory = StorageError
+patch_code e = CorruptMessage
 
 -- of an offset that a start can't move to
 abbrev pub trim_code : TrimError → ErrorCode

@@ -12,9 +12,10 @@ use Rattle.broker_state.specs.State.{State, content_at}
 use Rattle.broker_state.specs.Checks.{unknown}
 use Rattle.copy_requests.specs.declared.export.TheConstants.{MAX_EXPORT_BYTES}
 
+-- the bytes are an image, or a delta
 pub record ExportResult : Type 0 where
   pub code : ℤ
-  pub image : List ℕ
+  pub sent : List ℕ
 
 abbrev pub export_work : State → ExportValue → Work ExportResult State
 export_work s q =
@@ -23,9 +24,9 @@ export_work s q =
       early = unknown s q.topic q.partition ∷ fault_if (nat_lt MAX_EXPORT_BYTES (length image)) MessageTooLarge ∷ [];
       takes_memory = true;
       late = [];
-      done = (record { code = no_error; image = image }, s);
-      failed = λ code. record { code = code_number code; image = [] };
+      done = (record { code = no_error; sent = image }, s);
+      failed = λ code. record { code = code_number code; sent = [] };
     }
 
 abbrev pub export_sent : (correlation : ℤ) → ExportResult → List ℕ
-export_sent correlation r = response correlation export_response (export_value r.code r.image)
+export_sent correlation r = response correlation export_response (export_value r.code r.sent)

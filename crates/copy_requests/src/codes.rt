@@ -1,9 +1,10 @@
-//! The error codes that answer each refusal of a delivery, of an image and of a trim.
+//! The error codes that answer each refusal of a delivery, of an image, of a delta and of a trim.
 
 ghost use Rattle.std.specs.Prelude.{◌≡◌};
-ghost use Rattle.copy_requests.specs.Codes.{deliver_code, image_code, trim_code};
+ghost use Rattle.copy_requests.specs.Codes.{deliver_code, image_code, patch_code, trim_code};
 
 use answering::ErrorCode;
+use copy_deltas::PatchError;
 use copy_images::ImageError;
 use partition_log::{DeliverError, TrimError};
 
@@ -33,6 +34,24 @@ pub(crate) fn image_code(fault: ImageError) -> ErrorCode
         | ImageError::Outside
         | ImageError::Extra => ErrorCode::CorruptMessage,
         ImageError::OutOfMemory => ErrorCode::StorageError,
+    }
+}
+
+/// The code that answers a delta that a copy does not take.
+pub(crate) fn patch_code(fault: PatchError) -> ErrorCode
+    ensures { result ≡ patch_code fault }
+{
+    match fault {
+        PatchError::Short
+        | PatchError::BadMark
+        | PatchError::BadVersion
+        | PatchError::BadCrc
+        | PatchError::BadCover
+        | PatchError::BadBatch(_)
+        | PatchError::Outside
+        | PatchError::Extra => ErrorCode::CorruptMessage,
+        PatchError::NotFor | PatchError::Disagree { .. } => ErrorCode::InvalidRequest,
+        PatchError::OutOfMemory => ErrorCode::StorageError,
     }
 }
 

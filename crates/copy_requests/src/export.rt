@@ -15,7 +15,7 @@ use responses::export::export_head;
 use segment::BatchStore;
 use std::alloc::{AllocError, Allocator};
 
-/// The most bytes of an image that is sent.
+/// The most bytes of an image or of a delta that is sent.
 pub const MAX_EXPORT_BYTES: u32 = 8_300_000;
 
 /// The image of a partition.
@@ -27,7 +27,7 @@ fn image_of_partition<S: BatchStore, A: Allocator + Copy>(
 ) -> Result<Vec<u8, A>, ErrorCode>
     ensures { DoesWork (export_work state.now
         (record { topic = topic.now; partition = partition }))
-        (λ image. record { code = no_error; image = image.items }) result state.now state.now }
+        (λ image. record { code = no_error; sent = image.items }) result state.now state.now }
 {
     let Some(copy) = state.log(topic, partition) else {
         return Err(ErrorCode::UnknownTopicOrPartition);
@@ -41,19 +41,19 @@ fn image_of_partition<S: BatchStore, A: Allocator + Copy>(
     }
 }
 
-/// Appends the response of a code and an image.
-fn put_answer<A: Allocator + Copy>(
+/// Appends the response of a code and the bytes of an image or of a delta.
+pub(crate) fn put_answer<A: Allocator + Copy>(
     correlation: i32,
     code: i16,
-    image: &[u8],
+    sent: &[u8],
     out: &mut Vec<u8, A>,
 ) -> Result<(), AllocError>
     ensures appends { OnOk result (out.new.items ≡ out.old.items ++ export_sent correlation
-        (record { code = code; image = image.now })) }
+        (record { code = code; sent = sent.now })) }
     ensures unchanged_on_error { OnErr result (out.new.items ≡ out.old.items) }
 {
-    let head = export_head(code, image.len());
-    respond_once(correlation, &[], &head, image, out)
+    let head = export_head(code, sent.len());
+    respond_once(correlation, &[], &head, sent, out)
 }
 
 /// Appends the response to an Export request. It changes nothing else.

@@ -7,8 +7,12 @@ use Rattle.copy_requests.specs.Clean.{clean_work, clean_sent}
 use Rattle.request_frames.specs.Clean.{clean_view}
 use Rattle.copy_requests.specs.Export.{export_work, export_sent}
 use Rattle.request_frames.specs.Export.{export_view}
+use Rattle.copy_requests.specs.ExportDelta.{export_delta_work}
+use Rattle.request_frames.specs.ExportDelta.{export_delta_view}
 use Rattle.copy_requests.specs.Import.{import_work, import_sent}
 use Rattle.request_frames.specs.Import.{import_view}
+use Rattle.copy_requests.specs.ImportDelta.{import_delta_work}
+use Rattle.request_frames.specs.ImportDelta.{import_delta_view}
 use Rattle.copy_requests.specs.Get.{get_work, get_sent}
 use Rattle.request_frames.specs.Get.{get_view}
 use Rattle.copy_requests.specs.Cover.{cover_work, cover_sent}
@@ -40,10 +44,20 @@ returns-in-Export-clause-responds g c =
     let fits : FitsSigned w32 c.args.request.now.correlation = search rules in
     once_responds export_sent (export_work c.args.state.now (export_view c.in-Export.asked)) c.reply_to_export.result c.args.state.now c.args.state.now c.args.request.now (variants.Export c.in-Export.asked) _ c.args.out.now.items c.reply_to_export.new.out.items (to_z-of_z w32 c.args.request.now.correlation fits) c.in-Export.is (λ response r. r) c.reply_to_export.ensures.responds
 
+pub returns-in-ExportDelta-clause-responds : goal.returns-in-ExportDelta-clause-responds
+returns-in-ExportDelta-clause-responds g c =
+    let fits : FitsSigned w32 c.args.request.now.correlation = search rules in
+    once_responds export_sent (export_delta_work c.args.state.now (export_delta_view c.in-ExportDelta.asked)) c.reply_to_export_delta.result c.args.state.now c.args.state.now c.args.request.now (variants.ExportDelta c.in-ExportDelta.asked) _ c.args.out.now.items c.reply_to_export_delta.new.out.items (to_z-of_z w32 c.args.request.now.correlation fits) c.in-ExportDelta.is (λ response r. r) c.reply_to_export_delta.ensures.responds
+
 pub returns-in-Import-clause-responds : goal.returns-in-Import-clause-responds
 returns-in-Import-clause-responds g c =
     let fits : FitsSigned w32 c.args.request.now.correlation = search rules in
     once_responds import_sent (import_work c.args.state.now (import_view c.in-Import.asked)) c.reply_to_import.result c.args.state.now c.reply_to_import.new.state c.args.request.now (variants.Import c.in-Import.asked) _ c.args.out.now.items c.reply_to_import.new.out.items (to_z-of_z w32 c.args.request.now.correlation fits) c.in-Import.is (λ response r. r) c.reply_to_import.ensures.responds
+
+pub returns-in-ImportDelta-clause-responds : goal.returns-in-ImportDelta-clause-responds
+returns-in-ImportDelta-clause-responds g c =
+    let fits : FitsSigned w32 c.args.request.now.correlation = search rules in
+    once_responds import_sent (import_delta_work c.args.state.now (import_delta_view c.in-ImportDelta.asked)) c.reply_to_import_delta.result c.args.state.now c.reply_to_import_delta.new.state c.args.request.now (variants.ImportDelta c.in-ImportDelta.asked) _ c.args.out.now.items c.reply_to_import_delta.new.out.items (to_z-of_z w32 c.args.request.now.correlation fits) c.in-ImportDelta.is (λ response r. r) c.reply_to_import_delta.ensures.responds
 
 pub returns-in-Get-clause-responds : goal.returns-in-Get-clause-responds
 returns-in-Get-clause-responds g c =

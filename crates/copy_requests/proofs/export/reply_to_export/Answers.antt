@@ -18,7 +18,7 @@ returns-in-Ok-clause-responds g c =
     on_ok c.put_answer.result
     (λ e. written export_sent (export_work s (record { topic = q.topic.now; partition = q.partition })) s s (result c.in-Ok.image) c.args.correlation _ c.args.out.now.items c.put_answer.new.out.items (to_z-of_z w32 c.args.correlation c.ranges.correlation)
     (done_answers (export_work s (record { topic = q.topic.now; partition = q.partition })) result c.in-Ok.image s s did)
-    (e ∙ ap (λ image. c.args.out.now.items ++ export_sent (to_z w32 (of_z w32 c.args.correlation)) (record { code = no_error; image = image })) c.deref.ensures.value))
+    (e ∙ ap (λ image. c.args.out.now.items ++ export_sent (to_z w32 (of_z w32 c.args.correlation)) (record { code = no_error; sent = image })) c.deref.ensures.value))
     c.put_answer.ensures.appends
 
 pub returns-in-Err-clause-responds : goal.returns-in-Err-clause-responds
@@ -30,7 +30,7 @@ returns-in-Err-clause-responds g c =
     let number : FitsSigned w16 c.number.result = search rules in
     let did = subst (λ p. FailsWork (export_work s (record { topic = q.topic.now; partition = p })) c.in-Err.fault s s) (to_z-of_z w32 q.partition fits) c.in-Err.ensures in
     on_ok c.put_answer-in-Err.result
-    (λ e. written export_sent (export_work s (record { topic = q.topic.now; partition = q.partition })) s s (record { code = code_number c.in-Err.fault; image = [] }) n (to_z w32 (of_z w32 n)) c.args.out.now.items c.put_answer-in-Err.new.out.items (to_z-of_z w32 n c.ranges.correlation)
+    (λ e. written export_sent (export_work s (record { topic = q.topic.now; partition = q.partition })) s s (record { code = code_number c.in-Err.fault; sent = [] }) n (to_z w32 (of_z w32 n)) c.args.out.now.items c.put_answer-in-Err.new.out.items (to_z-of_z w32 n c.ranges.correlation)
     (failed_answers (export_work s (record { topic = q.topic.now; partition = q.partition })) c.in-Err.fault s s did)
-    (e ∙ ap (λ code. c.args.out.now.items ++ export_sent (to_z w32 (of_z w32 n)) (record { code = code; image = [] })) (to_z-of_z w16 c.number.result number ∙ c.number.ensures)))
+    (e ∙ ap (λ code. c.args.out.now.items ++ export_sent (to_z w32 (of_z w32 n)) (record { code = code; sent = [] })) (to_z-of_z w16 c.number.result number ∙ c.number.ensures)))
     c.put_answer-in-Err.ensures.appends
