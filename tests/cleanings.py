@@ -17,8 +17,9 @@ import exchanges
 from exchanges import PLACES, TOPICS, place, rarely
 from generated import Numbers
 
-PRODUCE, FETCH, LISTOFFSETS, COMMIT, OFFSETS = 0, 1, 2, 8, 9
-DELIVER, CLEAN, EXPORT, IMPORT, GET, COVER, FORGET, TRIM = range(20000, 20008)
+PRODUCE, FETCH, LISTOFFSETS, COMMIT, OFFSETS = (0, 3), (1, 4), (2, 1), (8, 2), (9, 1)
+DELIVER, CLEAN, EXPORT, IMPORT, GET, COVER, FORGET, TRIM = [(key, 0) for key in range(20000, 20008)]
+EXPORT_DELTA, IMPORT_DELTA = (20002, 1), (20003, 1)
 CHANGING = (PRODUCE, COMMIT, FORGET, TRIM)  # what changes a leader's partitions
 WAYS = ["with its Cleans", "without Cleans", "with other Cleans"]
 KEYS = [b"a", b"b", b"fig tree"]  # so few that most records are soon older than another one of their key
@@ -28,30 +29,31 @@ NO_BATCH = bytes(80)
 CORRELATION_OF_CLEANS = -1  # that of another request is its number, from 0
 
 
-def framed(key, correlation, client, values):
-    fields = ["h", "h", "i", "S", *broker.REQUESTS[key][1]]
-    return broker.framed(broker.written(fields, [key, broker.REQUESTS[key][0], correlation, client, *values]))
+def framed(kind, correlation, client, values):
+    fields = ["h", "h", "i", "S", *broker.REQUESTS[kind][0]]
+    return broker.framed(broker.written(fields, [*kind, correlation, client, *values]))
 
 
-def shows_kept_batches(key, values):
+def shows_kept_batches(kind, values):
     """Whether the reply to a request depends on which batches are kept."""
-    if key == LISTOFFSETS:
+    if kind == LISTOFFSETS:
         return any(time >= 0 for _, entries in values[1] for _, time in entries)
-    return key in (FETCH, EXPORT)
+    return kind in (FETCH, EXPORT, EXPORT_DELTA)
 
 
 class Request:
     """A request that is no Clean, and where the partitions end when it comes."""
 
-    def __init__(self, number, key, values, client, ends):
-        self.number, self.key, self.ends = number, key, ends
-        self.is_compared = not shows_kept_batches(key, values)
-        self.frame = framed(key, number, client, values)
+    def __init__(self, number, kind, values, client, ends):
+        self.number, self.kind, self.ends = number, kind, ends
+        self.is_compared = not shows_kept_batches(kind, values)
+        self.frame = framed(kind, number, client, values)
 
 
 class Requests(exchanges.Exchange):
     """Draws the requests of a leader, and those of a follower to which the leader's batches are delivered."""
 
+    roles = (True, False)
     groups = [b"g", b"g", b"h t", b""]
     metadata_texts = [None, b"", b"m", b"read \x00", bytes(300)]
 
@@ -184,7 +186,7 @@ OFTEN = {
     False: {DELIVER: 16, OFFSETS: 4, LISTOFFSETS: 2, GET: 4, COVER: 3},
 }
 KINDS = {
-    leads: [key for key in DRAWS if key not in (CLEAN, IMPORT) for _ in range(often.get(key, 1))]
+    leads: [key for key in DRAWS if key not in (CLEAN, IMPORT, IMPORT_DELTA) for _ in range(often.get(key, 1))]
     for leads, often in OFTEN.items()
 }
 
@@ -251,7 +253,7 @@ class Session:
     def named(self, number):
         if number is None or not 0 <= number < len(self.requests):
             return "no reply to a request"
-        return f"reply to request {number} with key {self.requests[number].key}"
+        return f"reply to request {number} of kind {self.requests[number].kind}"
 
 
 def replies_of(output):

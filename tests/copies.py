@@ -1,4 +1,4 @@
-"""Images of copies, and requests about copies and groups that Kafka has none for, as docs/FORMATS.md has them; and lines of
+"""Images and deltas of copies, and requests about copies and groups that Kafka has none for, as docs/FORMATS.md has them; and lines of
 scripts.
 
 It shares nothing with the program that is tested on them.
@@ -11,6 +11,7 @@ import batches
 import frames
 
 FIELDS = "mark version start ranges count crc tail".split()
+FIELDS_OF_A_DELTA = [*FIELDS, "asked"]
 
 
 def image(ranges, kept, fields):
@@ -21,7 +22,7 @@ def image(ranges, kept, fields):
     body = struct.pack(">Ih", fields.get("mark", 0x4B435059), version)
     body += struct.pack(">q", fields.get("start", 0)) if version else b""
     body += struct.pack(">i", fields.get("ranges", len(ranges)))
-    body += b"".join(struct.pack(">qq", first, last) for first, last in ranges)
+    body += b"".join(packed(ranges))
     body += struct.pack(">i", fields.get("count", len(kept)))
     body += b"".join(kept) + bytes(fields.get("tail", 0))
     return body + struct.pack(">I", fields.get("crc", batches.crc32c(body)))
@@ -39,25 +40,78 @@ def ranges_of(words):
     return found
 
 
-def image_of(words, root):
-    """The image of words FIELD:VALUE, ranges, and batches with ` + ` between."""
+def fields_of(words, known):
+    """The fields FIELD:VALUE in front of other words."""
     fields = {}
     name, colon, rest = words.partition(":")
-    while colon and name in FIELDS:
+    while colon and name in known:
         value, _, words = rest.partition(" ")
         fields[name] = int(value, 0)
         name, colon, rest = words.partition(":")
+    return fields, words
+
+
+def packed(ranges):
+    return [struct.pack(">qq", first, last) for first, last in ranges]
+
+
+def image_of(words, root):
+    """The image of words FIELD:VALUE, ranges, and batches with ` + ` between."""
+    fields, words = fields_of(words, FIELDS)
     ranges, _, forms = words.partition(" ")
     return image(ranges_of(ranges), [input_of(it, root) for it in forms.split(" + ") if it], fields)
+
+
+# ---- deltas
+
+
+def delta(ranges, asked, entries, fields):
+    """The delta of a copy that has seen these ranges, for one that asked for those, with these entries, which are given as
+    bytes. `fields` may set each field, as of an image; `ranges`, `asked` and `count` are the three counts."""
+    version = fields.get("version", 1)
+    body = struct.pack(">Ih", fields.get("mark", 0x4B444C54), version)
+    body += struct.pack(">q", fields.get("start", 0)) if version else b""
+    for name, them in (("ranges", ranges), ("asked", asked)):
+        body += struct.pack(">i", fields.get(name, len(them)))
+        body += b"".join(packed(them))
+    body += struct.pack(">i", fields.get("count", len(entries)))
+    body += b"".join(entries) + bytes(fields.get("tail", 0))
+    return body + struct.pack(">I", fields.get("crc", batches.crc32c(body)))
+
+
+def entry_of(words, root):
+    """What a delta says of a batch: `list BASE [OFFSETS]`, with commas between and `count:N` in front of them for another
+    count; bytes as they are, `as-is FORM`; else the batch of an input."""
+    kind, _, rest = words.partition(" ")
+    if kind == "each":
+        count, _, form = rest.partition(" ")
+        return b"".join(entry_of(form.replace("#", str(n)), root) for n in range(int(count)))
+    if kind == "as-is":
+        return input_of(rest, root)
+    if kind != "list":
+        return b"\1" + input_of(words, root)
+    base, _, rest = rest.partition(" ")
+    fields, rest = fields_of(rest, ["count"])
+    offsets = [int(it) for it in rest.split(",") if it]
+    head = struct.pack(">bqi", 0, int(base), fields.get("count", len(offsets)))
+    return head + b"".join(struct.pack(">q", it) for it in offsets)
+
+
+def delta_of(words, root):
+    """The delta of words FIELD:VALUE, the sender's ranges, the asked ones, and entries with ` + ` between."""
+    fields, words = fields_of(words, FIELDS_OF_A_DELTA)
+    ranges, _, words = words.partition(" ")
+    asked, _, forms = words.partition(" ")
+    return delta(ranges_of(ranges), ranges_of(asked), [entry_of(it, root) for it in forms.split(" + ") if it], fields)
 
 
 # ---- requests about a partition's copy, and the one that forgets a group
 
 
-def of_copy(key, words, encode):
+def of_copy(key, words, encode, version=0):
     """The request with this key for `TOPIC:PARTITION REST`; `encode` gives the bytes behind the partition."""
     name, partition, rest = frames.place_of(words)
-    return frames.request(key, 0, frames.text(name) + partition + encode(rest))
+    return frames.request(key, version, frames.text(name) + partition + encode(rest))
 
 
 def sent_of(words, root):
@@ -81,6 +135,14 @@ def import_(words, root):
     return of_copy(20003, words, lambda it: frames.data(input_of(it, root) if it else b""))
 
 
+def export_delta(words, root):
+    return of_copy(20002, words, lambda it: frames.array(packed(ranges_of(it))), 1)
+
+
+def import_delta(words, root):
+    return of_copy(20003, words, lambda it: frames.data(input_of(it, root) if it else b""), 1)
+
+
 def get(words, root):
     return of_copy(20004, words, lambda it: frames.data(batches.unescaped(it)))
 
@@ -102,6 +164,8 @@ REQUESTS = {
     "clean": clean,
     "export": export,
     "import": import_,
+    "export-delta": export_delta,
+    "import-delta": import_delta,
     "get": get,
     "cover": cover,
     "forget": forget,
@@ -134,8 +198,7 @@ def got(words, root):
 
 def covered(words, root):
     code, _, ranges = words.partition(" ")
-    ranges = [struct.pack(">qq", first, last) for first, last in ranges_of(ranges)]
-    return frames.response(struct.pack(">h", int(code)) + frames.array(ranges))
+    return frames.response(struct.pack(">h", int(code)) + frames.array(packed(ranges_of(ranges))))
 
 
 def trimmed(words, root):
@@ -182,6 +245,8 @@ def input_of(words, root):
         return b"".join(input_of(form.replace("#", str(n)), root) for n in range(int(count)))
     if kind == "image":
         return image_of(rest, root)
+    if kind == "delta":
+        return delta_of(rest, root)
     if kind == "sized":
         data = input_of(rest, root)
         return struct.pack(">i", len(data)) + data
@@ -202,7 +267,7 @@ def reply_of(words, root):
     if kind == "each":
         count, _, form = rest.partition(" ")
         return b"".join(reply_of(form.replace("#", str(n)), root) for n in range(int(count)))
-    if kind in ("line", "image"):
+    if kind in ("line", "image", "delta"):
         return input_of(words, root)
     if kind in RESPONSES:
         return RESPONSES[kind](rest, root)

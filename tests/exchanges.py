@@ -1,4 +1,5 @@
-"""Generated sessions of `kbroker session`: a leader's, and that of a follower which gets its batches and images.
+"""Generated sessions of `kbroker session`: a leader's, and those of two followers, which get its batches and images, and of
+which one brings the other up to date by deltas.
 
 The replies that must come are those of tests/broker.py.
 """
@@ -69,21 +70,25 @@ def damaged(numbers, data):
 
 
 class Exchange:
-    """Two brokers, what was sent to each and what it must answer, and the batches and images that have left them."""
+    """Brokers, the first of which leads, what was sent to each and what it must answer, and the batches, images and deltas that
+    have left them."""
 
     groups, metadata_texts = GROUPS, METADATA  # of which each commit has one
 
+    roles = (True, False, False)
+
     def __init__(self, start):
         self.numbers = Numbers(start)
-        self.sides = [(broker.Broker(leads, TOPICS), [], []) for leads in (True, False)]
+        self.sides = [(broker.Broker(leads, TOPICS), [], []) for leads in self.roles]
         self.batches = {it: [] for it in PLACES}
         self.images = {it: [] for it in PLACES}
+        self.deltas = {it: [] for it in PLACES}
 
-    def send(self, side, key, values):
+    def send(self, side, kind, values):
         node, given, wanted = side
         client = self.numbers.one_of([None, b"", b"me"])
-        head = [key, broker.REQUESTS[key][0], self.numbers.below(2**15), client]
-        frame = broker.written(["h", "h", "i", "S", *broker.REQUESTS[key][1]], [*head, *values])
+        head = [*kind, self.numbers.below(2**15), client]
+        frame = broker.written(["h", "h", "i", "S", *broker.REQUESTS[kind][0]], [*head, *values])
         given.append(broker.framed(frame))
         wanted.append(node.reply(frame))
         if node.leads:
@@ -107,8 +112,8 @@ class Exchange:
         return found
 
     def step(self, side):
-        key = self.numbers.one_of(KINDS[side[0].leads])
-        self.send(side, key, DRAWS[key](self, side[0]))
+        kind = self.numbers.one_of(KINDS[side[0].leads])
+        self.send(side, kind, DRAWS[kind](self, side[0]))
 
     # -- the values of each request
 
@@ -189,6 +194,32 @@ class Exchange:
         batch = batches.batch([batches.record(0, key, numbers.one_of(VALUES), [], {})], {"base": 900})
         return [*where, damaged(numbers, broker.Copy([(900, 900)], [broker.view(batch)[0]]).image())]
 
+    def asked(self, where):
+        """Mostly what a side has seen of a partition, or had; else ranges of a few offsets, or what is none."""
+        numbers = self.numbers
+        if numbers.below(4):
+            return self.copy(numbers.one_of(self.sides)[0], *where).cover
+        first = numbers.below(9)
+        ranges = [(first, first + numbers.below(4)), (first + 6, first + 6 + numbers.below(40))]
+        return numbers.one_of([[], ranges, ranges[:1], rarely(numbers, ranges, numbers.one_of([ranges[::-1], [(3, 2)], [(-1, 2)]]))])
+
+    def export_delta(self, node):
+        where = place(self.numbers)
+        asked = self.asked(where)
+        if where in PLACES and broker.are_maximal(asked):
+            self.deltas[where].append(node.copy(*where).delta(asked))
+        return [*where, asked]
+
+    def import_delta(self, node):
+        """Mostly a delta that was sent of the same partition; now and then one of another, or an image."""
+        numbers = self.numbers
+        where = place(numbers)
+        known = self.deltas.get(rarely(numbers, where, numbers.one_of(PLACES)), [])
+        if known and numbers.below(15):
+            return [*where, damaged(numbers, numbers.one_of(known[-6:]))]
+        images = self.images.get(where, [])
+        return [*where, numbers.one_of(images) if images else b""]
+
     def get(self, node):
         return [*place(self.numbers), self.numbers.one_of([*KEYS, b"k"])]
 
@@ -201,38 +232,57 @@ class Exchange:
         boundaries = sorted(self.copy(node, *where).boundaries())
         return [*where, rarely(self.numbers, self.numbers.one_of(boundaries[:3]), self.offset(node, *where))]
 
+    def bring_up_to_date(self):
+        """One side asks what another has that it lacks: what it has seen goes to the other, and the delta for it comes back,
+        mostly after more has happened to both."""
+        numbers, where = self.numbers, self.numbers.one_of(PLACES)
+        asking, answering = numbers.one_of(self.sides[1:]), numbers.one_of(self.sides)
+        self.send(asking, (20005, 0), [*where])
+        asked = asking[0].copy(*where).cover
+        self.send(answering, (20002, 1), [*where, asked])
+        delta = answering[0].copy(*where).delta(asked)
+        for _ in range(numbers.below(4)):
+            self.step(numbers.one_of(self.sides))
+        self.send(asking, (20003, 1), [*where, delta])
+
     def looks(self):
-        """Asks each side for an image of each partition."""
+        """Asks each side for an image of each partition, and for the values of some keys."""
         for side in self.sides:
             for where in PLACES:
-                self.send(side, 20002, [*where])
+                self.send(side, (20002, 0), [*where])
+                self.send(side, (20004, 0), [*where, self.numbers.one_of(KEYS)])
 
     def begin(self, before):
         """Gives the leader images of another exchange, of each partition until one is taken."""
         for where in PLACES:
             while before.images[where] and not self.copy(self.sides[0][0], *where).cover and self.numbers.below(4):
-                self.send(self.sides[0], 20003, [*where, self.numbers.one_of(before.images[where])])
+                self.send(self.sides[0], (20003, 0), [*where, self.numbers.one_of(before.images[where])])
 
 
 DRAWS = {
-    0: Exchange.produce,
-    1: Exchange.fetch,
-    2: Exchange.listoffsets,
-    3: Exchange.metadata,
-    8: Exchange.commit,
-    9: Exchange.offsets,
-    20000: Exchange.deliver,
-    20001: Exchange.clean,
-    20002: Exchange.export,
-    20003: Exchange.import_,
-    20004: Exchange.get,
-    20005: Exchange.cover,
-    20006: Exchange.forget,
-    20007: Exchange.trim,
+    (0, 3): Exchange.produce,
+    (1, 4): Exchange.fetch,
+    (2, 1): Exchange.listoffsets,
+    (3, 1): Exchange.metadata,
+    (8, 2): Exchange.commit,
+    (9, 1): Exchange.offsets,
+    (20000, 0): Exchange.deliver,
+    (20001, 0): Exchange.clean,
+    (20002, 0): Exchange.export,
+    (20002, 1): Exchange.export_delta,
+    (20003, 0): Exchange.import_,
+    (20003, 1): Exchange.import_delta,
+    (20004, 0): Exchange.get,
+    (20005, 0): Exchange.cover,
+    (20006, 0): Exchange.forget,
+    (20007, 0): Exchange.trim,
 }
 
 # of a leader and of a follower, each request as often as it is drawn among the others
-OFTEN = {True: {0: 5, 1: 3, 8: 4, 9: 3, 20001: 2, 20002: 2}, False: {20000: 8, 20001: 2, 20002: 2, 20003: 6, 9: 3}}
+OFTEN = {
+    True: {(0, 3): 5, (1, 4): 3, (8, 2): 4, (9, 1): 3, (20001, 0): 2, (20002, 0): 2},
+    False: {(20000, 0): 8, (20001, 0): 2, (20002, 0): 2, (20003, 0): 4, (20003, 1): 4, (9, 1): 3},
+}
 KINDS = {leads: [key for key in DRAWS for _ in range(often.get(key, 1))] for leads, often in OFTEN.items()}
 
 
@@ -248,9 +298,63 @@ def sessions(count=20, requests=200):
         for step in range(1, requests + 1):
             for side in exchange.sides:
                 exchange.step(side)
+            if step % 5 == 0:
+                exchange.bring_up_to_date()
             if step % 50 == 0:
                 exchange.looks()
-        for role, (_, given, wanted) in zip((b"leader", b"follower"), exchange.sides):
+        for node, given, wanted in exchange.sides:
             topics = [name + b":" + str(many).encode() for name, many in TOPICS]
+            role = b"leader" if node.leads else b"follower"
             made.append(([b"session", b"--role", role, *topics], b"".join(given), b"".join(wanted)))
+    return made
+
+
+# ---- small deltas that lie
+
+
+def log_of_four():
+    """a=1, b=2, a deleted, and b=3 with b=4, at offsets 0 to 4."""
+    forms = ["base:0 a=1", "base:1 b=2", "base:2 a=null", "base:3 b=3 b=4"]
+    return [broker.view(batches.input_of(f"batch {it}", None))[0] for it in forms]
+
+
+def small_deltas():
+    """Deltas of a copy, of a cleaned one, and of one with a start, for a copy that has seen some offsets."""
+    copies = [broker.Copy([(0, 4)], log_of_four()) for _ in range(3)]
+    copies[1].clean(5, 5)
+    copies[2].trim(2)
+    return [it.delta(asked) for it in copies for asked in ([(0, 1)], [(0, 2), (4, 4)])]
+
+
+def sealed(body):
+    return body + broker.struct.pack(">I", batches.crc32c(body))
+
+
+def changed(data):
+    """The delta with each byte another, in four ways, and with each cut; the crc is right each time."""
+    body = data[:-4]
+    turned = [(at, bits) for at in range(len(body)) for bits in (1, 2, 0x80, 0xFF)]
+    made = [body[:at] + bytes([body[at] ^ bits]) + body[at + 1 :] for at, bits in turned]
+    return [sealed(it) for it in made + [body[:size] for size in range(len(body))]]
+
+
+def lies():
+    """Sessions of a follower that has seen the first three offsets, and is given all that small deltas can become, as bytes:
+    the arguments, the input and the output."""
+    made = []
+    for delta in small_deltas():
+        node, given, wanted = broker.Broker(False, [(b"t", 1)]), [], []
+        requests = [((20000, 0), it.encoded()) for it in log_of_four()[:3]]
+        requests += [((20003, 1), it) for it in changed(delta)]
+        for kind, data in requests:
+            frame = broker.written(["h", "h", "i", "S", *broker.REQUESTS[kind][0]], [*kind, 7, None, b"t", 0, data])
+            given.append(broker.framed(frame))
+            wanted.append(node.reply(frame))
+            if kind == (20003, 1) and node.copy(b"t", 0).image() != image_before:
+                # what was taken is shown, and the session goes on
+                frame = broker.written(["h", "h", "i", "S", *broker.REQUESTS[20002, 0][0]], [20002, 0, 7, None, b"t", 0])
+                given.append(broker.framed(frame))
+                wanted.append(node.reply(frame))
+            image_before = node.copy(b"t", 0).image()
+        made.append(([b"session", b"--role", b"follower", b"t:1"], b"".join(given), b"".join(wanted)))
     return made

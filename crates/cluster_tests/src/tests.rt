@@ -9,3 +9,4 @@ mod memory;
 mod merging;
 mod outside;
 mod parts;
+mod taken_deltas;

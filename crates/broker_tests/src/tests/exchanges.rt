@@ -99,3 +99,18 @@ pub(crate) const MERGE: Exchange = Exchange {
     response: b"\0\0\0\x06\0\0\0\x07\0\0",
     failed: Some(b"\0\0\0\x06\0\0\0\x07\08"),
 };
+
+/// An Export request of version 1 for partition 0 of `t`: offset 1 was asked.
+pub(crate) const DELTA: Exchange = Exchange {
+    request: b"\0\0\0%N\x22\0\x01\0\0\0\x07\xff\xff\0\x01t\0\0\0\0\0\0\0\x01\0\0\0\0\0\0\0\x01\0\0\0\0\0\0\0\x01",
+    response: b"\0\0\0\x8f\0\0\0\x07\0\0\0\0\0\x85KDLT\0\x01\0\0\0\0\0\0\0\0\0\0\0\x01\0\0\0\0\0\0\0\0\0\0\0\0\0\0\0\0\0\0\0\x01\0\0\0\0\0\0\0\x01\0\0\0\0\0\0\0\x01\0\0\0\x01\x01\0\0\0\0\0\0\0\0\0\0\0:\0\0\0\0\x022\xc83\x8d\0\0\0\0\0\0\0\0\0\0\0\0\0\0\0\0\0\0\0\0\0\0\xff\xff\xff\xff\xff\xff\xff\xff\xff\xff\xff\xff\xff\xff\0\0\0\x01\x10\0\0\0\x02a\x021\0\xc7t!^",
+    failed: Some(b"\0\0\0\x0a\0\0\0\x07\08\0\0\0\0"),
+};
+
+/// An Import request of version 1 for partition 0 of `t`: lists of two batches that were asked, and one more: `c` = 3 at
+/// offset 2.
+pub(crate) const PATCH: Exchange = Exchange {
+    request: b"\0\0\0\xc4N#\0\x01\0\0\0\x07\xff\xff\0\x01t\0\0\0\0\0\0\0\xafKDLT\0\x01\0\0\0\0\0\0\0\0\0\0\0\x01\0\0\0\0\0\0\0\0\0\0\0\0\0\0\0\x02\0\0\0\x01\0\0\0\0\0\0\0\0\0\0\0\0\0\0\0\x01\0\0\0\x03\0\0\0\0\0\0\0\0\0\0\0\0\x01\0\0\0\0\0\0\0\0\0\0\0\0\0\0\0\0\x01\0\0\0\x01\0\0\0\0\0\0\0\x01\x01\0\0\0\0\0\0\0\x02\0\0\0:\0\0\0\0\x02\xaa\xea\x20\xe2\0\0\0\0\0\0\0\0\0\0\0\0\0\0\0\0\0\0\0\0\0\0\xff\xff\xff\xff\xff\xff\xff\xff\xff\xff\xff\xff\xff\xff\0\0\0\x01\x10\0\0\0\x02c\x023\0O\xa6\xfbV",
+    response: b"\0\0\0\x06\0\0\0\x07\0\0",
+    failed: Some(b"\0\0\0\x06\0\0\0\x07\08"),
+};

@@ -3,8 +3,8 @@
 
 use crate::tests::brokers::new_node;
 use crate::tests::exchanges::{
-    CLEAN, COMMIT, DELIVER, Exchange, FORGET, IMAGE, MERGE, POSITION, SEEN, STORE, TAKE, TRIM,
-    VALUE,
+    CLEAN, COMMIT, DELIVER, DELTA, Exchange, FORGET, IMAGE, MERGE, PATCH, POSITION, SEEN, STORE,
+    TAKE, TRIM, VALUE,
 };
 use broker_core::{GROUP_TOPIC, Node, Role};
 use refusing_alloc::Refusing;
@@ -22,15 +22,15 @@ struct Run {
 static OF_A_LEADER: Run = Run {
     role: Role::Leader,
     exchanges: &[
-        STORE, COMMIT, POSITION, VALUE, SEEN, IMAGE, CLEAN, TRIM, FORGET, TAKE,
+        STORE, COMMIT, POSITION, VALUE, SEEN, IMAGE, DELTA, CLEAN, TRIM, FORGET, TAKE,
     ],
     ends: (1, 1, 2),
 };
 
 static OF_A_FOLLOWER: Run = Run {
     role: Role::Follower,
-    exchanges: &[DELIVER, MERGE, TRIM],
-    ends: (2, 0, 0),
+    exchanges: &[DELIVER, MERGE, PATCH, TRIM],
+    ends: (3, 0, 0),
 };
 
 /// More allocations than all requests ask for.
@@ -218,6 +218,6 @@ fn each_request_lacks_memory_once(rt: HostRuntime) {
     let leads = all_lacking(rt.alloc(), &OF_A_LEADER);
     let follows = all_lacking(rt.alloc(), &OF_A_FOLLOWER);
     // both bits of each, but for Get, Cover and Trim, whose work takes none
-    assert_eq!(rt; leads, Some(0b11_11_01_11_11_01_01_11_11_11));
-    assert_eq!(rt; follows, Some(0b01_11_11));
+    assert_eq!(rt; leads, Some(0b11_11_01_11_11_11_01_01_11_11_11));
+    assert_eq!(rt; follows, Some(0b01_11_11_11));
 }
