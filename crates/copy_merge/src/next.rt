@@ -21,7 +21,7 @@ pub fn know_content<S: BatchStore>(log: &PartitionLog<S>)
 }
 
 /// The start of two copies' merge.
-pub fn greater_start<S: BatchStore>(a: &PartitionLog<S>, b: &PartitionLog<S>) -> i64
+pub(crate) fn greater_start<S: BatchStore>(a: &PartitionLog<S>, b: &PartitionLog<S>) -> i64
     ensures { result ≡ greater_start a.now b.now }
 {
     a.start().max(b.start())
