@@ -1,7 +1,7 @@
 -- The numbers of error codes. Kafka's documentation, "Protocol Guide", section "Error Codes".
 use Rattle.std.specs.Prelude.{ℤ, pos, negsuc}
 use Rattle.answering.specs.declared.codes.ErrorCode.{ErrorCode}
-use Rattle.answering.specs.declared.codes.ErrorCode.TheVariants.{UnknownServerError, OffsetOutOfRange, CorruptMessage, UnknownTopicOrPartition, LeaderNotAvailable, NotLeader, MessageTooLarge, OffsetMetadataTooLarge, InvalidTopic, InvalidRequiredAcks, IllegalGeneration, InvalidGroupId, InvalidRequest, UnsupportedForMessageFormat, OutOfOrderSequence, InvalidProducerEpoch, InvalidTransactionState, StorageError, UnsupportedCompression, InvalidRecord}
+use Rattle.answering.specs.declared.codes.ErrorCode.TheVariants.{UnknownServerError, OffsetOutOfRange, CorruptMessage, UnknownTopicOrPartition, LeaderNotAvailable, NotLeader, MessageTooLarge, OffsetMetadataTooLarge, InvalidTopic, InvalidRequiredAcks, IllegalGeneration, InvalidGroupId, UnsupportedVersion, InvalidRequest, UnsupportedForMessageFormat, OutOfOrderSequence, InvalidProducerEpoch, InvalidTransactionState, StorageError, UnsupportedCompression, InvalidRecord}
 
 -- the number of no error
 abbrev pub no_error : ℤ
@@ -20,6 +20,7 @@ code_number InvalidTopic = pos 17
 code_number InvalidRequiredAcks = pos 21
 code_number IllegalGeneration = pos 22
 code_number InvalidGroupId = pos 24
+code_number UnsupportedVersion = pos 35
 code_number InvalidRequest = pos 42
 code_number UnsupportedForMessageFormat = pos 43
 code_number OutOfOrderSequence = pos 45

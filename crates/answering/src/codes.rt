@@ -30,6 +30,8 @@ pub enum ErrorCode {
     IllegalGeneration,
     /// A group has no name.
     InvalidGroupId,
+    /// The request is not answered in its own version.
+    UnsupportedVersion,
     /// The request can't be answered as it is.
     InvalidRequest,
     /// The format of a batch is not this one.
@@ -66,6 +68,7 @@ impl ErrorCode {
             ErrorCode::InvalidRequiredAcks => 21,
             ErrorCode::IllegalGeneration => 22,
             ErrorCode::InvalidGroupId => 24,
+            ErrorCode::UnsupportedVersion => 35,
             ErrorCode::InvalidRequest => 42,
             ErrorCode::UnsupportedForMessageFormat => 43,
             ErrorCode::OutOfOrderSequence => 45,

@@ -13,6 +13,9 @@ mod ListOffsetsFits
 mod MetadataFits
 mod OffsetCommitFits
 mod OffsetFetchFits
+mod FindCoordinatorFits
+mod ApiVersionsFits
+mod InitProducerIdFits
 mod DeliverFits
 mod CleanFits
 mod ExportFits
@@ -24,3 +27,5 @@ mod CoverFits
 mod ForgetGroupFits
 mod TrimFits
 mod RepliesFit
+mod GivenIds
+mod AnyVersion

@@ -4,7 +4,7 @@
 -- that file shows what `TopicsFit` asks for of one entry, and ends by `topics_fit` and `fitting_response`, as `ListOffsetsFits`. Of one
 -- that is answered once it shows that each result fits and how many bytes it has, and ends by `once_fits`, as `CleanFits`; of one whose
 -- response has many parts it shows the same of the whole, and ends by `fitting_response`, as `MetadataFits`.
-use Rattle.std.proofs.Common.{◌≡◌, ℕ, ◌≤◌, ℤ, pos, List, [], length, drop, Option, sym, ap, subst, ◌∙◌, arith}
+use Rattle.std.proofs.Common.{◌≡◌, inl, inr, ℕ, ◌≤◌, ℤ, pos, List, [], length, drop, Option, sym, ap, subst, ◌∙◌, arith}
 use Rattle.std.specs.Prelude.{FitsSigned}
 use Rattle.std.specs.Int.{w32}
 use Rattle.std.proofs.lemmas.Int.{ints}
@@ -13,8 +13,8 @@ use Rattle.frame_fields.specs.Fields.{size32, Value, encoded, Encodes}
 use Rattle.frame_fields.specs.Frames.{IsBytes, IsWithinLimit}
 use Rattle.frame_fields.proofs.Numbers.{IsBytes-drop, number_fits}
 use Rattle.request_frames.specs.declared.api.Api.{Api}
-use Rattle.request_frames.specs.declared.api.Api.TheVariants.{Produce, Fetch, ListOffsets, Metadata, OffsetCommit, OffsetFetch, Deliver, Clean, Export, ExportDelta, Import, ImportDelta, Get, Cover, ForgetGroup, Trim}
-use Rattle.request_frames.specs.Requests.{fields_of, body_value, RequestValue, body_fields, body_of, correlation_of, IsRequest}
+use Rattle.request_frames.specs.declared.api.Api.TheVariants.{Produce, Fetch, ListOffsets, Metadata, OffsetCommit, OffsetFetch, FindCoordinator, ApiVersions, InitProducerId, Deliver, Clean, Export, ExportDelta, Import, ImportDelta, Get, Cover, ForgetGroup, Trim}
+use Rattle.request_frames.specs.Requests.{fields_of, body_value, RequestValue, body_fields, body_of, version_of, correlation_of, IsRequest}
 use Rattle.answering.specs.Work.{MayAnswer}
 use Rattle.broker_state.specs.State.{State}
 use Rattle.broker_state.specs.Sound.{IsSound}
@@ -28,6 +28,9 @@ use Rattle.broker_laws.proofs.ListOffsetsFits.{list_offsets_fits}
 use Rattle.broker_laws.proofs.MetadataFits.{metadata_fits}
 use Rattle.broker_laws.proofs.OffsetCommitFits.{offset_commit_fits}
 use Rattle.broker_laws.proofs.OffsetFetchFits.{offset_fetch_fits}
+use Rattle.broker_laws.proofs.FindCoordinatorFits.{find_coordinator_fits}
+use Rattle.broker_laws.proofs.ApiVersionsFits.{versions_fit, api_versions_fits}
+use Rattle.broker_laws.proofs.InitProducerIdFits.{init_producer_id_fits}
 use Rattle.broker_laws.proofs.DeliverFits.{deliver_fits}
 use Rattle.broker_laws.proofs.CleanFits.{clean_fits}
 use Rattle.broker_laws.proofs.ExportFits.{export_fits}
@@ -58,6 +61,9 @@ body_fits ListOffsets = list_offsets_fits
 body_fits Metadata = metadata_fits
 body_fits OffsetCommit = offset_commit_fits
 body_fits OffsetFetch = offset_fetch_fits
+body_fits FindCoordinator = find_coordinator_fits
+body_fits ApiVersions = api_versions_fits
+body_fits InitProducerId = init_producer_id_fits
 body_fits Deliver = deliver_fits
 body_fits Clean = clean_fits
 body_fits Export = export_fits
@@ -73,7 +79,11 @@ within_limit : (frame : List ℕ) → IsWithinLimit (pos (length frame)) → len
 within_limit frame low = omega (arith, ints, low)
 
 reply_kept : (s after : State) (frame : List ℕ) (q : RequestValue) (out : Option (List ℕ)) → IsSound s → IsBytes frame → IsWithinLimit (pos (length frame)) → IsRequest frame q → MayReply s q out after → FitsReply q out × IsSound after
-reply_kept s after frame q out sound bytes low (api, is, v, encodes, says) h =
+reply_kept s after frame q out sound bytes low (inr (unread, says)) h =
+    let number : FitsSigned w32 (correlation_of frame) = number_fits size32 (drop 4 frame) (IsBytes-drop 4 frame bytes) in
+    subst (λ (x : RequestValue). FitsReply x out × IsSound after) (sym says)
+    (versions_fit s (correlation_of frame) (version_of frame) out after sound number (subst (λ (x : RequestValue). MayReply s x out after) says h))
+reply_kept s after frame q out sound bytes low (inl (api, is, v, encodes, says)) h =
     let number : FitsSigned w32 (correlation_of frame) = number_fits size32 (drop 4 frame) (IsBytes-drop 4 frame bytes) in
     subst (λ (x : RequestValue). FitsReply x out × IsSound after) (sym says)
     (body_fits api (length frame) s (correlation_of frame) v.1 out after (within_limit frame low) sound number (body_part api frame v bytes encodes) (subst (λ (x : RequestValue). MayReply s x out after) says h))

@@ -5,7 +5,7 @@ use Rattle.std.specs.Option.{option_map}
 use Rattle.std.specs.Int.{w8, w16}
 use Rattle.frame_fields.specs.Types.{flag}
 use Rattle.answering.specs.declared.codes.ErrorCode.{ErrorCode}
-use Rattle.answering.specs.declared.codes.ErrorCode.TheVariants.{UnknownServerError, OffsetOutOfRange, CorruptMessage, UnknownTopicOrPartition, LeaderNotAvailable, NotLeader, MessageTooLarge, OffsetMetadataTooLarge, InvalidTopic, InvalidRequiredAcks, IllegalGeneration, InvalidGroupId, InvalidRequest, UnsupportedForMessageFormat, OutOfOrderSequence, InvalidProducerEpoch, InvalidTransactionState, StorageError, UnsupportedCompression, InvalidRecord}
+use Rattle.answering.specs.declared.codes.ErrorCode.TheVariants.{UnknownServerError, OffsetOutOfRange, CorruptMessage, UnknownTopicOrPartition, LeaderNotAvailable, NotLeader, MessageTooLarge, OffsetMetadataTooLarge, InvalidTopic, InvalidRequiredAcks, IllegalGeneration, InvalidGroupId, UnsupportedVersion, InvalidRequest, UnsupportedForMessageFormat, OutOfOrderSequence, InvalidProducerEpoch, InvalidTransactionState, StorageError, UnsupportedCompression, InvalidRecord}
 use Rattle.answering.specs.Codes.{no_error, code_number}
 use Rattle.answering.specs.Lists.{first_some}
 use Rattle.answering.specs.Work.{Work, answer_after, MayAnswer}
@@ -48,6 +48,7 @@ code_fits InvalidTopic = record { sfits = omega arith }
 code_fits InvalidRequiredAcks = record { sfits = omega arith }
 code_fits IllegalGeneration = record { sfits = omega arith }
 code_fits InvalidGroupId = record { sfits = omega arith }
+code_fits UnsupportedVersion = record { sfits = omega arith }
 code_fits InvalidRequest = record { sfits = omega arith }
 code_fits UnsupportedForMessageFormat = record { sfits = omega arith }
 code_fits OutOfOrderSequence = record { sfits = omega arith }

@@ -38,6 +38,7 @@ config_with topics = record {
   host = codes "127.0.0.1";
   port = 9092;
   topics = topics;
+  first_producer = pos 0;
 }
 
 -- one topic with one partition

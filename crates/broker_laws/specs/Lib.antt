@@ -1,1 +1,2 @@
+pub mod ProducerIds
 pub mod Examples

@@ -31,6 +31,10 @@ pub fn configurations()
         ≡ Some config.BadHost }
     ensures too_many_topics { config_fault (config_with (replicate 65 (topic topic_t 1)))
         ≡ Some config.TooManyTopics }
+    ensures negative_first_producer { config_fault (record (config_with (topic (codes ".") 1 ∷ []))
+        { first_producer = negsuc 0 }) ≡ Some config.BadFirstProducer }
+    ensures too_many_topics_first { config_fault (record (config_with (replicate 65 (topic topic_t 1)))
+        { first_producer = negsuc 0 }) ≡ Some config.TooManyTopics }
     ensures twice { config_fault (config_with (topic topic_t 1 ∷ topic topic_t 1 ∷ []))
         ≡ Some config.TopicTwice }
     ensures group_topic_twice { config_fault (config_with (topic group_topic 1 ∷ []))

@@ -10,13 +10,23 @@ ghost use Rattle.frame_fields.specs.Fields.{Fields};
 ghost use Rattle.frame_fields.specs.Types.{int32, ◌⨾◌};
 ghost use Rattle.frame_fields.specs.Frames.{IsBytes, IsWithinLimit};
 ghost use Rattle.frame_fields.specs.Reading.{read_fields};
-ghost use Rattle.request_frames.specs.Requests.{RequestValue, IsRequest};
+ghost use Rattle.frame_fields.specs.declared.error.FrameError.TheVariants.{BadVersion};
+ghost use Rattle.request_frames.specs.declared.api.Api.TheVariants.{ApiVersions};
+ghost use Rattle.request_frames.specs.Apis.{api_key};
+ghost use Rattle.request_frames.specs.Requests.{RequestValue, key_of, correlation_of, IsUnread, unread_request, IsRequest, IsRefused};
+ghost use Rattle.responses.specs.Responses.{response};
+ghost use Rattle.responses.specs.ApiVersions.{api_versions_response, api_versions_value};
+ghost use Rattle.answering.specs.declared.codes.ErrorCode.TheVariants.{UnsupportedVersion};
+ghost use Rattle.answering.specs.Codes.{code_number};
+ghost use Rattle.answering.specs.Plans.{AnswersAll};
+ghost use Rattle.client_requests.specs.ApiVersions.{listed_ranges};
 ghost use Rattle.broker_state.specs.Batches.{append_fault, FaultIs};
-ghost use Rattle.broker_state.specs.State.{State, partition_at, is_known, with_content};
-ghost use Rattle.broker_state.specs.Sound.{IsSound};
+ghost use Rattle.broker_state.specs.State.{ConfigValue, State, new_state, partition_at, is_known, with_content};
+ghost use Rattle.broker_state.specs.Sound.{IsSoundConfig, IsSound};
 ghost use Rattle.broker_node.specs.Replies.{reply, IsReply, MayReply};
 ghost use Rattle.broker_node.specs.Fitting.{IsFitting, FitsReply};
 ghost use Rattle.broker_node.specs.Streams.{IsAnswered, AreAnswered};
+ghost use Rattle.broker_laws.specs.ProducerIds.{ids_given, AreInARow};
 
 /// The reply that is a function is the one case of what may be replied in which no entry runs out of
 /// memory.
@@ -58,6 +68,31 @@ pub fn answered_snoc()
     ensures { (s m after : State) (frames : List (List ℕ))
         (frame out one : List ℕ) → AreAnswered s frames out m → IsAnswered m frame one after
         → AreAnswered s (frames ++ frame ∷ []) (out ++ one) after }
+{}
+
+/// Over any list of requests to a new broker, wherever memory lacks, the producer ids in the responses with
+/// code 0 are the configured first one and the numbers after it, in order, and the next one is the number
+/// behind them. So it goes on from any state that a broker can be in.
+pub fn producer_ids_are_in_a_row()
+    ensures from_the_start { (g : ConfigValue) (after : State) (qs : List RequestValue)
+        (outs : List (Option (List ℕ))) → IsSoundConfig g
+        → AnswersAll (λ s q out m. MayReply s q out m) (new_state g) qs outs after
+        → AreInARow g.first_producer (ids_given qs outs) after.next_producer }
+    ensures from_any_state { (s after : State) (qs : List RequestValue) (outs : List (Option (List ℕ)))
+        → IsSound s → AnswersAll (λ s q out m. MayReply s q out m) s qs outs after
+        → AreInARow s.next_producer (ids_given qs outs) after.next_producer }
+{}
+
+/// ApiVersions in a version other than 0 is a request, whatever stands behind the first 8 bytes of its frame.
+/// What is sent for it is the list of version 0 in the form of version 0, with the code of an unsupported
+/// version, and nothing changes. In no version has it the fault of a bad one.
+pub fn any_version_is_answered()
+    ensures is_request { (frame : List ℕ) → IsUnread frame → IsRequest frame (unread_request frame) }
+    ensures same_list { (s after : State) (frame out : List ℕ) → IsUnread frame
+        → IsAnswered s frame out after → (out ≡ response (correlation_of frame) api_versions_response
+        (api_versions_value (code_number UnsupportedVersion) listed_ranges)) × (after ≡ s) }
+    ensures never_a_bad_version { (frame : List ℕ) → key_of frame ≡ api_key ApiVersions
+        → IsRefused BadVersion frame → ⊥ }
 {}
 
 /// Whatever may be replied to a frame, in a state that a broker can be in, fits its fields: nothing is sent,

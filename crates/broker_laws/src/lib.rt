@@ -5,4 +5,7 @@
 pub mod examples;
 mod laws;
 
-pub use laws::{answered_snoc, answers_function, append_faults, one_content_changes, replies_fit};
+pub use laws::{
+    answered_snoc, answers_function, any_version_is_answered, append_faults, one_content_changes,
+    producer_ids_are_in_a_row, replies_fit,
+};

@@ -3,11 +3,13 @@ use Rattle.std.proofs.Common.{◌≡◌, ℕ, ℤ, pos, Bool, true, false, cond,
 use Rattle.std.specs.Ordering.{int_eq}
 use Rattle.std.specs.Prelude.{OnOk}
 use Rattle.request_frames.specs.declared.parsing.RequestBody.TheVariants as variants
+use Rattle.request_frames.specs.declared.api_versions.ApiVersionsRequest.{ApiVersionsRequest}
 use Rattle.request_frames.specs.declared.metadata.request.MetadataRequest.{MetadataRequest}
 use Rattle.request_frames.specs.declared.parsing.Request.{Request}
 use Rattle.request_frames.specs.declared.parsing.RequestBody.{RequestBody}
-use Rattle.request_frames.specs.Requests.BodyValue.{produce, fetch, list_offsets, metadata, offset_commit, offset_fetch, deliver, clean, export, export_delta, import, import_delta, get, cover, forget_group, trim}
+use Rattle.request_frames.specs.Requests.BodyValue.{produce, fetch, list_offsets, metadata, offset_commit, offset_fetch, find_coordinator, api_versions, init_producer_id, deliver, clean, export, export_delta, import, import_delta, get, cover, forget_group, trim}
 use Rattle.request_frames.specs.Requests.{BodyValue, RequestValue}
+use Rattle.request_frames.specs.ApiVersions.{api_versions_view}
 use Rattle.request_frames.specs.Metadata.{metadata_view}
 use Rattle.request_frames.specs.Views.{request_body, request_value}
 use Rattle.answering.specs.Work.{Work, MayAnswer}
@@ -16,6 +18,7 @@ use Rattle.answering.specs.Once.{RepliesOnce, WritesOnce}
 use Rattle.broker_state.specs.State.{State}
 use Rattle.answering.specs.Responding.{RespondsBy}
 use Rattle.log_requests.specs.Metadata.{metadata_reply}
+use Rattle.client_requests.specs.ApiVersions.{api_versions_reply}
 use Rattle.broker_node.specs.declared.handling.Answer.{Answer}
 use Rattle.broker_node.specs.declared.handling.Answer.TheVariants.{Reply, Silent}
 use Rattle.broker_node.specs.Replies.{RepliesTo}
@@ -63,6 +66,17 @@ metadata_responds (Ok x) s request asked z held held' same is written = record {
   appends = written;
 }
 
+-- of an ApiVersions request, which is read of no state
+pub versions_respond : {T E : Type 0} (r : Result T E) (s : State) (request : Request) (asked : ApiVersionsRequest) (z : ℤ) (held held' : List ℕ) → z ≡ request.correlation → request.body ≡ variants.ApiVersions asked
+    → OnOk r (held' ≡ held ++ api_versions_reply z (api_versions_view asked)) → OnOk r (RespondsTo s (request_value request) held held' s)
+versions_respond (Err e) s request asked z held held' same is written = tt
+versions_respond (Ok x) s request asked z held held' same is written = record {
+  response = Some (api_versions_reply z (api_versions_view asked));
+  replies = subst (λ b. RepliesTo (λ R S w. MayAnswer w) s request.correlation (request_body b) (Some (api_versions_reply z (api_versions_view asked))) s) (sym is)
+      (ap (λ n. Some (api_versions_reply n (api_versions_view asked))) same, refl);
+  appends = written;
+}
+
 -- ---- whether there is a reply
 
 silent : (acks : ℤ) (response : Option (List ℕ)) (whole : List ℕ) (b : Bool) → int_eq acks (pos 0) ≡ b → response ≡ cond b None (Some whole) → cond b Silent Reply ≡ answer_of response
@@ -76,6 +90,9 @@ tells s after n (list_offsets ts) response r = ap answer_of (sym r.sends)
 tells s after n (metadata names) response r = ap answer_of (sym r.0)
 tells s after n (offset_commit q) response r = ap answer_of (sym r.sends)
 tells s after n (offset_fetch q) response r = ap answer_of (sym r.sends)
+tells s after n (find_coordinator group) response r = ap answer_of (sym r.sends)
+tells s after n (api_versions version) response r = ap answer_of (sym r.0)
+tells s after n (init_producer_id id) response r = ap answer_of (sym r.sends)
 tells s after n (deliver q) response r = ap answer_of (sym r.sends)
 tells s after n (clean q) response r = ap answer_of (sym r.sends)
 tells s after n (export q) response r = ap answer_of (sym r.sends)

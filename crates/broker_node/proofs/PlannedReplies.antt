@@ -1,7 +1,7 @@
 -- The reply as a function, and as a relation.
 use Rattle.std.proofs.Common.{◌≡◌, ℕ, ℤ, List, Option, ap}
 use Rattle.std.specs.Prelude.{◌↔◌}
-use Rattle.request_frames.specs.Requests.BodyValue.{produce, fetch, list_offsets, metadata, offset_commit, offset_fetch, deliver, clean, export, export_delta, import, import_delta, get, cover, forget_group, trim}
+use Rattle.request_frames.specs.Requests.BodyValue.{produce, fetch, list_offsets, metadata, offset_commit, offset_fetch, find_coordinator, api_versions, init_producer_id, deliver, clean, export, export_delta, import, import_delta, get, cover, forget_group, trim}
 use Rattle.request_frames.specs.Requests.{BodyValue, RequestValue}
 use Rattle.broker_state.specs.State.{State}
 use Rattle.answering.specs.Work.{IsAnswer, MayAnswer}
@@ -11,6 +11,8 @@ use Rattle.log_requests.specs.ListOffsets.{list_offsets_plan}
 use Rattle.group_requests.specs.OffsetCommit.{offset_commit_plan}
 use Rattle.group_requests.specs.OffsetFetch.{offset_fetch_plan}
 use Rattle.group_requests.specs.ForgetGroup.{forget_group_work, forget_group_sent}
+use Rattle.client_requests.specs.FindCoordinator.{find_coordinator_work, find_coordinator_sent}
+use Rattle.client_requests.specs.InitProducerId.{init_producer_id_work, init_producer_id_sent}
 use Rattle.copy_requests.specs.Deliver.{deliver_work, deliver_sent}
 use Rattle.copy_requests.specs.Clean.{clean_work, clean_sent}
 use Rattle.copy_requests.specs.Export.{export_work, export_sent}
@@ -31,6 +33,9 @@ is_reply_to s after n (list_offsets ts) out replies = plan_replies (list_offsets
 is_reply_to s after n (metadata names) out replies = λ i. (replies.0 i, replies.1 i)
 is_reply_to s after n (offset_commit q) out replies = plan_replies (offset_commit_plan s n q) out after replies
 is_reply_to s after n (offset_fetch q) out replies = plan_replies (offset_fetch_plan s n q) out after replies
+is_reply_to s after n (find_coordinator group) out replies = once_replies (find_coordinator_sent n) (find_coordinator_work s group) s out after replies
+is_reply_to s after n (api_versions version) out replies = λ i. (replies.0 i, replies.1 i)
+is_reply_to s after n (init_producer_id id) out replies = once_replies (init_producer_id_sent n) (init_producer_id_work s id) s out after replies
 is_reply_to s after n (deliver q) out replies = once_replies (deliver_sent n) (deliver_work s q) s out after replies
 is_reply_to s after n (clean q) out replies = once_replies (clean_sent n) (clean_work s q) s out after replies
 is_reply_to s after n (export q) out replies = once_replies (export_sent n) (export_work s q) s out after replies
@@ -49,6 +54,9 @@ replies_to s after n (list_offsets ts) out is = plan_given (list_offsets_plan s 
 replies_to s after n (metadata names) out is = (ap (λ x. x.0) is, ap (λ x. x.1) is)
 replies_to s after n (offset_commit q) out is = plan_given (offset_commit_plan s n q) out after is
 replies_to s after n (offset_fetch q) out is = plan_given (offset_fetch_plan s n q) out after is
+replies_to s after n (find_coordinator group) out is = once_given (find_coordinator_sent n) (find_coordinator_work s group) s out after is
+replies_to s after n (api_versions version) out is = (ap (λ x. x.0) is, ap (λ x. x.1) is)
+replies_to s after n (init_producer_id id) out is = once_given (init_producer_id_sent n) (init_producer_id_work s id) s out after is
 replies_to s after n (deliver q) out is = once_given (deliver_sent n) (deliver_work s q) s out after is
 replies_to s after n (clean q) out is = once_given (clean_sent n) (clean_work s q) s out after is
 replies_to s after n (export q) out is = once_given (export_sent n) (export_work s q) s out after is
@@ -67,6 +75,9 @@ may_reply_to s after n (list_offsets ts) out replies = plan_weaker (list_offsets
 may_reply_to s after n (metadata names) out replies = replies
 may_reply_to s after n (offset_commit q) out replies = plan_weaker (offset_commit_plan s n q) out after replies
 may_reply_to s after n (offset_fetch q) out replies = plan_weaker (offset_fetch_plan s n q) out after replies
+may_reply_to s after n (find_coordinator group) out replies = once_weaker (find_coordinator_sent n) (find_coordinator_work s group) s out after replies
+may_reply_to s after n (api_versions version) out replies = replies
+may_reply_to s after n (init_producer_id id) out replies = once_weaker (init_producer_id_sent n) (init_producer_id_work s id) s out after replies
 may_reply_to s after n (deliver q) out replies = once_weaker (deliver_sent n) (deliver_work s q) s out after replies
 may_reply_to s after n (clean q) out replies = once_weaker (clean_sent n) (clean_work s q) s out after replies
 may_reply_to s after n (export q) out replies = once_weaker (export_sent n) (export_work s q) s out after replies

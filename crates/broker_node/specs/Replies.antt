@@ -1,7 +1,7 @@
 -- What a broker replies to a request, and the state after. Kafka's documentation, "Protocol Guide", sections "The
 -- Messages" and "Network" (requests are answered in order, and Produce with acks 0 is not answered).
 use Rattle.std.specs.Prelude.{◌≡◌, ℕ, ℤ, List, Option, Some}
-use Rattle.request_frames.specs.Requests.BodyValue.{produce, fetch, list_offsets, metadata, offset_commit, offset_fetch, deliver, clean, export, export_delta, import, import_delta, get, cover, forget_group, trim}
+use Rattle.request_frames.specs.Requests.BodyValue.{produce, fetch, list_offsets, metadata, offset_commit, offset_fetch, find_coordinator, api_versions, init_producer_id, deliver, clean, export, export_delta, import, import_delta, get, cover, forget_group, trim}
 use Rattle.request_frames.specs.Requests.{BodyValue, RequestValue}
 use Rattle.answering.specs.Work.{IsAnswer, MayAnswer}
 use Rattle.answering.specs.Plans.{HowAnswered, reply_by, RepliesBy}
@@ -14,6 +14,9 @@ use Rattle.log_requests.specs.Metadata.{metadata_reply}
 use Rattle.group_requests.specs.OffsetCommit.{offset_commit_plan}
 use Rattle.group_requests.specs.OffsetFetch.{offset_fetch_plan}
 use Rattle.group_requests.specs.ForgetGroup.{forget_group_work, forget_group_sent}
+use Rattle.client_requests.specs.FindCoordinator.{find_coordinator_work, find_coordinator_sent}
+use Rattle.client_requests.specs.ApiVersions.{api_versions_reply}
+use Rattle.client_requests.specs.InitProducerId.{init_producer_id_work, init_producer_id_sent}
 use Rattle.copy_requests.specs.Deliver.{deliver_work, deliver_sent}
 use Rattle.copy_requests.specs.Clean.{clean_work, clean_sent}
 use Rattle.copy_requests.specs.Export.{export_work, export_sent}
@@ -31,6 +34,11 @@ reply_to s correlation (list_offsets topics) = reply_by (list_offsets_plan s cor
 reply_to s correlation (metadata names) = (Some (metadata_reply s correlation names), s)
 reply_to s correlation (offset_commit q) = reply_by (offset_commit_plan s correlation q)
 reply_to s correlation (offset_fetch q) = reply_by (offset_fetch_plan s correlation q)
+reply_to s correlation (find_coordinator group) =
+    reply_once (find_coordinator_sent correlation) (find_coordinator_work s group) s
+reply_to s correlation (api_versions version) = (Some (api_versions_reply correlation version), s)
+reply_to s correlation (init_producer_id id) =
+    reply_once (init_producer_id_sent correlation) (init_producer_id_work s id) s
 reply_to s correlation (deliver q) = reply_once (deliver_sent correlation) (deliver_work s q) s
 reply_to s correlation (clean q) = reply_once (clean_sent correlation) (clean_work s q) s
 reply_to s correlation (export q) = reply_once (export_sent correlation) (export_work s q) s
@@ -53,6 +61,11 @@ RepliesTo A s correlation (list_offsets topics) out after = RepliesBy A (list_of
 RepliesTo A s correlation (metadata names) out after = (out ≡ Some (metadata_reply s correlation names)) × (after ≡ s)
 RepliesTo A s correlation (offset_commit q) out after = RepliesBy A (offset_commit_plan s correlation q) out after
 RepliesTo A s correlation (offset_fetch q) out after = RepliesBy A (offset_fetch_plan s correlation q) out after
+RepliesTo A s correlation (find_coordinator group) out after =
+    RepliesOnce A (find_coordinator_sent correlation) (find_coordinator_work s group) s out after
+RepliesTo A s correlation (api_versions version) out after = (out ≡ Some (api_versions_reply correlation version)) × (after ≡ s)
+RepliesTo A s correlation (init_producer_id id) out after =
+    RepliesOnce A (init_producer_id_sent correlation) (init_producer_id_work s id) s out after
 RepliesTo A s correlation (deliver q) out after = RepliesOnce A (deliver_sent correlation) (deliver_work s q) s out after
 RepliesTo A s correlation (clean q) out after = RepliesOnce A (clean_sent correlation) (clean_work s q) s out after
 RepliesTo A s correlation (export q) out after = RepliesOnce A (export_sent correlation) (export_work s q) s out after

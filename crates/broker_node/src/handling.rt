@@ -8,6 +8,9 @@ ghost use Rattle.broker_node.specs.Answers.{RespondsTo, answer_to};
 
 use crate::node::Node;
 use broker_state::BrokerState;
+use client_requests::{
+    reply_to_api_versions, reply_to_find_coordinator, reply_to_init_producer_id,
+};
 use copy_requests::{
     reply_to_clean, reply_to_cover, reply_to_deliver, reply_to_export, reply_to_export_delta,
     reply_to_get, reply_to_import, reply_to_import_delta, reply_to_trim,
@@ -57,6 +60,13 @@ fn reply_to<S: BatchStore, A: Allocator + Copy>(
         RequestBody::Metadata(asked) => reply_to_metadata(state, correlation, asked, out),
         RequestBody::OffsetCommit(asked) => reply_to_offset_commit(state, correlation, asked, out),
         RequestBody::OffsetFetch(asked) => reply_to_offset_fetch(state, correlation, asked, out),
+        RequestBody::FindCoordinator(asked) => {
+            reply_to_find_coordinator(state, correlation, asked, out)
+        }
+        RequestBody::ApiVersions(asked) => reply_to_api_versions(correlation, asked, out),
+        RequestBody::InitProducerId(asked) => {
+            reply_to_init_producer_id(state, correlation, asked, out)
+        }
         RequestBody::Deliver(asked) => reply_to_deliver(state, correlation, asked, out),
         RequestBody::Clean(asked) => reply_to_clean(state, correlation, asked, out),
         RequestBody::Export(asked) => reply_to_export(state, correlation, asked, out),

@@ -12,7 +12,7 @@ use partition_log::PartitionLog;
 use segment::BatchStore;
 use std::marker::Model;
 
-/// A broker: its configuration, and the partitions of its topics.
+/// A broker: its configuration, the partitions of its topics, and the next producer id.
 #[derive(Drop)]
 pub struct Node<S: BatchStore> {
     pub(crate) state: BrokerState<S>,

@@ -12,3 +12,4 @@ pub mod Shapes
 pub mod ValidAppends
 pub mod SoundStates
 pub mod GroupPlace
+mod NextIds

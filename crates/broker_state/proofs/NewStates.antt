@@ -1,6 +1,6 @@
 -- A broker's topics by name, and a new broker's.
-use Rattle.std.proofs.Common.{◌≡◌, ℕ, zero, suc, Bool, true, false, cond, List, [], ◌∷◌, length, Option, Some, None, refl, sym, ap, ◌∙◌}
-use Rattle.std.specs.Prelude.{map, replicate, bytes_eq, not, nat_lt}
+use Rattle.std.proofs.Common.{◌≡◌, ℕ, zero, suc, pos, Bool, true, false, cond, List, [], ◌∷◌, length, Option, Some, None, refl, sym, ap, ◌∙◌}
+use Rattle.std.specs.Prelude.{map, replicate, bytes_eq, not, nat_lt, int_lt}
 use Rattle.std.specs.List.{find, list_any, AllByRecursion}
 use Rattle.std.specs.Option.{option_map, option_or}
 use Rattle.std.specs.Int.{is_in_range}
@@ -9,7 +9,7 @@ use Rattle.frame_fields.specs.Names.{is_topic_name}
 use Rattle.broker_state.specs.declared.config.Role.{Role}
 use Rattle.broker_state.specs.declared.limits.TheConstants.{MAX_TOPICS, MAX_PARTITIONS, MAX_HOST_BYTES}
 use Rattle.broker_state.specs.declared.error.ConfigError.{ConfigError}
-use Rattle.broker_state.specs.declared.error.ConfigError.TheVariants.{BadHost, TooManyTopics, BadTopic, BadPartitions, TopicTwice, OutOfMemory}
+use Rattle.broker_state.specs.declared.error.ConfigError.TheVariants.{BadHost, TooManyTopics, BadFirstProducer, BadTopic, BadPartitions, TopicTwice, OutOfMemory}
 use Rattle.answering.specs.Lists.{fault_if, first_some}
 use Rattle.broker_state.specs.State.{TopicConfig, ConfigValue, new_topic, group_topic, all_topics}
 use Rattle.broker_state.specs.Configs.{topic_fault, topics_fault, config_fault, ConfigFault}
@@ -77,18 +77,21 @@ topics_not taken (t ∷ ts) e =
     (three_faults (not (is_topic_name t.name)) (not (is_in_range 1 MAX_PARTITIONS t.partitions)) (list_any (bytes_eq t.name) taken))
     (topics_not (t.name ∷ taken) ts) e
 
-last_fault : (a b : Bool) (x : Option ConfigError) → (x ≡ Some OutOfMemory → ⊥) → first_some (fault_if a BadHost ∷ fault_if b TooManyTopics ∷ x ∷ []) ≡ Some OutOfMemory → ⊥
-last_fault true b x h e = absurd cc
-last_fault false true x h e = absurd cc
-last_fault false false (Some x) h e = h e
-last_fault false false None h e = absurd cc
+last_fault : (a b c : Bool) (x : Option ConfigError) → (x ≡ Some OutOfMemory → ⊥)
+    → first_some (fault_if a BadHost ∷ fault_if b TooManyTopics ∷ fault_if c BadFirstProducer ∷ x ∷ []) ≡ Some OutOfMemory → ⊥
+last_fault true b c x h e = absurd cc
+last_fault false true c x h e = absurd cc
+last_fault false false true x h e = absurd cc
+last_fault false false false (Some x) h e = h e
+last_fault false false false None h e = absurd cc
 
 not_memory : (g : ConfigValue) → config_fault g ≡ Some OutOfMemory → ⊥
-not_memory g = last_fault (nat_lt MAX_HOST_BYTES (length g.host)) (nat_lt MAX_TOPICS (length g.topics)) (topics_fault (group_topic ∷ []) g.topics) (topics_not (group_topic ∷ []) g.topics)
+not_memory g = last_fault (nat_lt MAX_HOST_BYTES (length g.host)) (nat_lt MAX_TOPICS (length g.topics)) (int_lt g.first_producer (pos 0)) (topics_fault (group_topic ∷ []) g.topics) (topics_not (group_topic ∷ []) g.topics)
 
 pub fault_refuses : (g : ConfigValue) (e : ConfigError) → Some e ≡ config_fault g → ConfigFault g e
 fault_refuses g BadHost h = sym h
 fault_refuses g TooManyTopics h = sym h
+fault_refuses g BadFirstProducer h = sym h
 fault_refuses g BadTopic h = sym h
 fault_refuses g BadPartitions h = sym h
 fault_refuses g TopicTwice h = sym h

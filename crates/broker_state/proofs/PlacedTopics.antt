@@ -109,12 +109,12 @@ index_shown ts name =
     λ i. cond (nat_lt (same i) (many i)) (Some (same i)) None
 
 -- where there is none, the broker has no such topic, and no partition of it
-pub no_topic : (ts : List TopicParts) (s : State) (g : ConfigValue) (name : List ℕ) → record { config = g; topics = map topic_contents ts } ≡ s → None ≡ position (has_name name) ts → None ≡ topic_of s name
+pub no_topic : (ts : List TopicParts) (s : State) (g : ConfigValue) {next : ℤ} (name : List ℕ) → record { config = g; topics = map topic_contents ts; next_producer = next } ≡ s → None ≡ position (has_name name) ts → None ≡ topic_of s name
 no_topic ts s g name view none =
     sym (find_map topic_contents (λ t. bytes_eq t.name name) ts ∙ ap (option_map topic_contents) (finds_none (has_name name) ts none))
     ∙ ap (λ (s : State). topic_of s name) view
 
-pub no_partition : (ts : List TopicParts) (s : State) (g : ConfigValue) (name : List ℕ) (p : ℤ) → record { config = g; topics = map topic_contents ts } ≡ s → None ≡ position (has_name name) ts → partition_at s name p ≡ None
+pub no_partition : (ts : List TopicParts) (s : State) (g : ConfigValue) {next : ℤ} (name : List ℕ) (p : ℤ) → record { config = g; topics = map topic_contents ts; next_producer = next } ≡ s → None ≡ position (has_name name) ts → partition_at s name p ≡ None
 no_partition ts s g name p view none = ap (option_and_then (partition_of p)) (sym (no_topic ts s g name view none))
 
 -- an index that is there has an element
@@ -128,12 +128,12 @@ module _ (ts : List TopicParts) (name : List ℕ) (i : ℕ) (t : TopicParts) (at
   there = got ts i t (first_at (has_name name) ts i at).1 is
 
   -- what the broker has of this topic, and of a partition of it
-  pub topic_here : (g : ConfigValue) (s : State) → record { config = g; topics = map topic_contents ts } ≡ s → Some (topic_contents t) ≡ topic_of s name
+  pub topic_here : (g : ConfigValue) {next : ℤ} (s : State) → record { config = g; topics = map topic_contents ts; next_producer = next } ≡ s → Some (topic_contents t) ≡ topic_of s name
   topic_here g s view =
       sym (find_map topic_contents (λ t. bytes_eq t.name name) ts ∙ ap (option_map topic_contents) (finds_it (has_name name) ts i t at is))
       ∙ ap (λ (s : State). topic_of s name) view
 
-  pub partition_here : (g : ConfigValue) (s : State) (p : ℤ) → record { config = g; topics = map topic_contents ts } ≡ s → partition_at s name p ≡ partition_of p (topic_contents t)
+  pub partition_here : (g : ConfigValue) {next : ℤ} (s : State) (p : ℤ) → record { config = g; topics = map topic_contents ts; next_producer = next } ≡ s → partition_at s name p ≡ partition_of p (topic_contents t)
   partition_here g s p view = ap (option_and_then (partition_of p)) (sym (topic_here g s view))
 
   pub holds_here : (P : TopicParts → Type 0) → AllByRecursion P ts → P t
@@ -150,21 +150,21 @@ module _ (ts : List TopicParts) (name : List ℕ) (i : ℕ) (t : TopicParts) (at
   }
 
   -- a change in this topic is one of the broker's
-  pub change_here : (how : HowChanged) (g : ConfigValue) (s : State) (u : TopicParts) (p : ℤ) → record { config = g; topics = map topic_contents ts } ≡ s
+  pub change_here : (how : HowChanged) (g : ConfigValue) {next : ℤ} (s : State) (u : TopicParts) (p : ℤ) → record { config = g; topics = map topic_contents ts; next_producer = next } ≡ s
       → ChangesIn how (topic_contents t) p (topic_contents u)
-      → ChangesAt how s name p (record { config = g; topics = map topic_contents (set ts i u) })
-  change_here how g s u p view made =
+      → ChangesAt how s name p (record { config = g; topics = map topic_contents (set ts i u); next_producer = next })
+  change_here how g {next = next} s u p view made =
       let c = made.0 in
       let before : unwrap_or (partition_of p (topic_contents t)) empty ≡ content_at s name p =
       ap (λ x. unwrap_or x empty) (sym (partition_here g s p view)) in (
         c,
         subst (λ x. how x c) before made.1,
-        ap (λ us. record { config = g; topics = us }) (contents_change u p c made.2) ∙ ap (λ s. with_content s name p c) view,
+        ap (λ us. record { config = g; topics = us; next_producer = next }) (contents_change u p c made.2) ∙ ap (λ s. with_content s name p c) view,
       )
 
 -- ---- a place
 
-module _ (ts : List TopicParts) (g : ConfigValue) (s : State) (name : List ℕ) (p : ℤ) (place : Place) (view : record { config = g; topics = map topic_contents ts } ≡ s) (of : IsPlaceOf s name p place) where
+module _ (ts : List TopicParts) (g : ConfigValue) {next : ℤ} (s : State) (name : List ℕ) (p : ℤ) (place : Place) (view : record { config = g; topics = map topic_contents ts; next_producer = next } ≡ s) (of : IsPlaceOf s name p place) where
   -- the index of the topic, and of the partition in it
   pub topic_of_place : Some place.topic ≡ position (has_name name) ts
   topic_of_place = of.topic ∙ sym (ap (λ (s : State). position (λ t. bytes_eq t.name name) s.topics) view) ∙ index_shown ts name
@@ -189,13 +189,13 @@ module _ (ts : List TopicParts) (g : ConfigValue) (s : State) (name : List ℕ) 
   topics_stay t u is all shape role = stay_topics ts name place.topic t topic_of_place is g u all shape role
 
   pub changed_here : (how : HowChanged) (t u : TopicParts) → t ≡ get_or ts place.topic t → ChangesIn how (topic_contents t) (pos place.partition) (topic_contents u)
-      → ChangesAt how s name p (record { config = g; topics = map topic_contents (set ts place.topic u) })
+      → ChangesAt how s name p (record { config = g; topics = map topic_contents (set ts place.topic u); next_producer = next })
   changed_here how t u is made =
       change_here ts name place.topic t topic_of_place is how g s u p view
       (subst (λ q. ChangesIn how (topic_contents t) q (topic_contents u)) (sym of.partition) made)
 
 -- the place that is found
-pub place_found : (ts : List TopicParts) (g : ConfigValue) (s : State) (name : List ℕ) (p : ℤ) (i n : ℕ) (t : TopicParts) → record { config = g; topics = map topic_contents ts } ≡ s → Some i ≡ position (has_name name) ts → t ≡ get_or ts i t
+pub place_found : (ts : List TopicParts) (g : ConfigValue) {next : ℤ} (s : State) (name : List ℕ) (p : ℤ) (i n : ℕ) (t : TopicParts) → record { config = g; topics = map topic_contents ts; next_producer = next } ≡ s → Some i ≡ position (has_name name) ts → t ≡ get_or ts i t
     → p ≡ pos n → n < length t.partitions → IsPlaceOf s name p (record { topic = i; partition = n })
 place_found ts g s name p i n t view at is number low = record {
   known = ap is_some (partition_here ts name i t at is g s p view ∙ ap (λ q. partition_of q (topic_contents t)) number) ∙ above t.partitions n low;

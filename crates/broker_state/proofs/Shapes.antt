@@ -1,6 +1,6 @@
 -- How many topics and partitions a valid broker has, and how long their names are.
-use Rattle.std.proofs.Common.{◌≡◌, ℕ, ◌+◌, ◌≤◌, arith, List, [], ◌∷◌, ◌++◌, length, None, sym, ap, subst}
-use Rattle.std.specs.Prelude.{map, not, nat_lt, false}
+use Rattle.std.proofs.Common.{◌≡◌, ℕ, pos, ◌+◌, ◌≤◌, arith, List, [], ◌∷◌, ◌++◌, length, None, sym, ap, subst}
+use Rattle.std.specs.Prelude.{map, not, nat_lt, int_lt, false}
 use Rattle.std.specs.List.{All, AllByRecursion}
 use Rattle.std.specs.Int.{is_in_range}
 use Rattle.std.proofs.lemmas.List.{length-append, length-map}
@@ -8,7 +8,7 @@ use Rattle.std.proofs.lemmas.List.Elements.{All-from_recursion}
 use Rattle.frame_fields.specs.declared.names.TheConstants.{MAX_TOPIC_NAME}
 use Rattle.frame_fields.specs.Names.{is_topic_name}
 use Rattle.broker_state.specs.declared.limits.TheConstants.{MAX_TOPICS, MAX_PARTITIONS, MAX_HOST_BYTES}
-use Rattle.broker_state.specs.declared.error.ConfigError.TheVariants.{BadHost, TooManyTopics, BadTopic, BadPartitions}
+use Rattle.broker_state.specs.declared.error.ConfigError.TheVariants.{BadHost, TooManyTopics, BadFirstProducer, BadTopic, BadPartitions}
 use Rattle.answering.specs.Lists.{fault_if}
 use Rattle.broker_state.specs.State.{TopicConfig, ConfigValue, group_topic, all_topics}
 use Rattle.broker_state.specs.Configs.{topic_fault, topics_fault, IsValidConfig}
@@ -53,7 +53,8 @@ pub small_config : (g : ConfigValue) → IsValidConfig g → IsSmallConfig g
 small_config g valid =
     let host = none_first (fault_if (nat_lt MAX_HOST_BYTES (length g.host)) BadHost) _ valid in
     let few = none_first (fault_if (nat_lt MAX_TOPICS (length g.topics)) TooManyTopics) _ host.1 in
-    let topics = none_first (topics_fault (group_topic ∷ []) g.topics) None few.1 in
+    let first = none_first (fault_if (int_lt g.first_producer (pos 0)) BadFirstProducer) _ few.1 in
+    let topics = none_first (topics_fault (group_topic ∷ []) g.topics) None first.1 in
     let low = no_fault _ BadHost host.0 in
     let most = no_fault _ TooManyTopics few.0 in
     record { host = grind (arith, low); few = grind (arith, most); topics = small_topics (group_topic ∷ []) g.topics topics.0 }

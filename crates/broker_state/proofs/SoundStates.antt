@@ -1,7 +1,8 @@
 -- Each content of a sound state is valid, and the state stays sound with another valid content of a partition. A broker's
 -- state is sound, since its topics are.
 use Rattle.std.proofs.Common.{◌≡◌, ℕ, zero, suc, ℤ, pos, negsuc, Bool, true, false, cond, List, [], ◌∷◌, Option, Some, None, refl, sym, subst, ◌∙◌}
-use Rattle.std.specs.Prelude.{map, replicate, slice_get, bytes_eq}
+use Rattle.std.specs.Prelude.{map, replicate, slice_get, bytes_eq, FitsSigned}
+use Rattle.std.specs.Int.{w64}
 use Rattle.std.specs.List.{find, AllByRecursion}
 use Rattle.std.specs.Option.{unwrap_or, option_and_then}
 use Rattle.std.proofs.lemmas.List.{length-set, length-map}
@@ -72,6 +73,7 @@ sound_with s name p c valid sound = record {
   config = sound.config;
   topics = same_shapes name c p s.topics ∙ sound.topics;
   contents = changed_topics name c p s.topics valid sound.contents;
+  next_producer = sound.next_producer;
 }
 
 -- ---- a broker's own topics
@@ -99,9 +101,11 @@ contents_shown : (ts : List TopicParts) → AllByRecursion HoldParts ts → AllB
 contents_shown [] all = tt
 contents_shown (t ∷ ts) all = (all.0, contents_shown ts all.1)
 
-pub sound_of : (g : ConfigValue) (ts : List TopicParts) (s : State) → record { config = g; topics = map topic_contents ts } ≡ s → IsSoundConfig g → AreTopicsOf g ts → AllByRecursion HoldParts ts → IsSound s
-sound_of g ts s view config are all = subst IsSound view (record {
+pub sound_of : (g : ConfigValue) (ts : List TopicParts) (next : ℤ) (s : State) → record { config = g; topics = map topic_contents ts; next_producer = next } ≡ s → IsSoundConfig g → AreTopicsOf g ts → AllByRecursion HoldParts ts
+    → FitsSigned w64 next → IsSound s
+sound_of g ts next s view config are all fits = subst IsSound view (record {
   config = config;
   topics = shapes_shown ts ∙ are.shapes;
   contents = contents_shown ts all;
+  next_producer = fits;
 })

@@ -1,8 +1,8 @@
--- The checks of an entry that names a partition: that the broker has it, and that the broker leads it, or follows. Kafka's
--- documentation, "Protocol Guide", section "Error Codes".
-use Rattle.std.specs.Prelude.{ℕ, ℤ, not, List, Option, Some, None}
+-- The checks of what names a partition or a group: that the broker has the partition, that the broker leads, or follows,
+-- and that the group has a name. Kafka's documentation, "Protocol Guide", section "Error Codes".
+use Rattle.std.specs.Prelude.{ℕ, ℤ, ◌==◌, not, List, length, Option, Some, None}
 use Rattle.answering.specs.declared.codes.ErrorCode.{ErrorCode}
-use Rattle.answering.specs.declared.codes.ErrorCode.TheVariants.{UnknownTopicOrPartition, NotLeader, InvalidRequest}
+use Rattle.answering.specs.declared.codes.ErrorCode.TheVariants.{UnknownTopicOrPartition, NotLeader, InvalidGroupId, InvalidRequest}
 use Rattle.answering.specs.Lists.{fault_if}
 use Rattle.broker_state.specs.declared.config.Role.{Role}
 use Rattle.broker_state.specs.declared.config.Role.TheVariants.{Leader, Follower}
@@ -25,3 +25,7 @@ follower_code Follower = None
 
 abbrev pub not_follower : State → Option ErrorCode
 not_follower s = follower_code s.config.role
+
+-- the group has no name
+abbrev pub no_group : List ℕ → Option ErrorCode
+no_group group = fault_if (length group == 0) InvalidGroupId

@@ -15,4 +15,5 @@ config_value g = record {
   host = string_bytes g.host;
   port = g.port;
   topics = map topic_config g.topics.items;
+  first_producer = g.first_producer;
 }

@@ -1,13 +1,13 @@
 -- Which configurations a broker refuses, and why. The limits and the order of the checks are this project's own; for the
 -- names of topics see Kafka's documentation, "Operations", section "Adding and removing topics".
-use Rattle.std.specs.Prelude.{◌≡◌, ℕ, not, nat_lt, List, [], ◌∷◌, length, bytes_eq, Option, Some, None}
+use Rattle.std.specs.Prelude.{◌≡◌, ℕ, pos, not, nat_lt, int_lt, List, [], ◌∷◌, length, bytes_eq, Option, Some, None}
 use Rattle.std.specs.List.{list_any}
 use Rattle.std.specs.Option.{option_or}
 use Rattle.std.specs.Int.{is_in_range}
 use Rattle.frame_fields.specs.Names.{is_topic_name}
 use Rattle.broker_state.specs.declared.limits.TheConstants.{MAX_TOPICS, MAX_PARTITIONS, MAX_HOST_BYTES}
 use Rattle.broker_state.specs.declared.error.ConfigError.{ConfigError}
-use Rattle.broker_state.specs.declared.error.ConfigError.TheVariants.{BadHost, TooManyTopics, BadTopic, BadPartitions, TopicTwice, OutOfMemory}
+use Rattle.broker_state.specs.declared.error.ConfigError.TheVariants.{BadHost, TooManyTopics, BadFirstProducer, BadTopic, BadPartitions, TopicTwice, OutOfMemory}
 use Rattle.answering.specs.Lists.{fault_if, first_some}
 use Rattle.broker_state.specs.State.{TopicConfig, ConfigValue, group_topic}
 
@@ -29,6 +29,7 @@ abbrev pub config_fault : ConfigValue → Option ConfigError
 config_fault g = first_some (
     fault_if (nat_lt MAX_HOST_BYTES (length g.host)) BadHost
     ∷ fault_if (nat_lt MAX_TOPICS (length g.topics)) TooManyTopics
+    ∷ fault_if (int_lt g.first_producer (pos 0)) BadFirstProducer
     ∷ topics_fault (group_topic ∷ []) g.topics
     ∷ [])
 

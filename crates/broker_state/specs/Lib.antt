@@ -1,6 +1,7 @@
 -- Read in this order; each module uses only those above it.
 pub mod Codes
 pub mod State
+pub mod Producers
 pub mod Checks
 pub mod Configs
 pub mod Batches

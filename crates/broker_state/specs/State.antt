@@ -1,6 +1,7 @@
--- What a broker holds: its configuration, and the content of each partition. Kafka's design documentation, "Replication"
--- (a partition has one leader, and followers that copy it), and the broker setting "offsets.topic.num.partitions"
--- (committed offsets are kept in a topic of the broker's own). That this topic has one partition is this project's own.
+-- What a broker holds: its configuration, the content of each partition, and the next producer id. Kafka's design
+-- documentation, "Replication" (a partition has one leader, and followers that copy it), and the broker setting
+-- "offsets.topic.num.partitions" (committed offsets are kept in a topic of the broker's own). That this topic has one
+-- partition is this project's own.
 use Rattle.std.specs.Prelude.{ℕ, ℤ, pos, negsuc, Bool, is_some, List, [], ◌∷◌, ◌++◌, map, replicate, set, slice_get, codes, bytes_eq, Option, None, if◌then◌else◌}
 use Rattle.std.specs.List.{find}
 use Rattle.std.specs.Option.{unwrap_or, option_and_then}
@@ -20,6 +21,7 @@ pub record ConfigValue : Type 0 where
   pub host : List ℕ
   pub port : ℕ
   pub topics : List TopicConfig
+  pub first_producer : ℤ
 
 -- the broker's own topic, where groups keep their offsets
 abbrev pub group_topic : List ℕ
@@ -39,16 +41,18 @@ pub record Topic : Type 0 where
   pub name : List ℕ
   pub partitions : List Content
 
+-- next_producer: the producer id that is given out next
 pub record State : Type 0 where
   pub config : ConfigValue
   pub topics : List Topic
+  pub next_producer : ℤ
 
 -- every partition is empty
 abbrev pub new_topic : TopicConfig → Topic
 new_topic t = record { name = t.name; partitions = replicate t.partitions empty }
 
 abbrev pub new_state : ConfigValue → State
-new_state g = record { config = g; topics = map new_topic (all_topics g) }
+new_state g = record { config = g; topics = map new_topic (all_topics g); next_producer = g.first_producer }
 
 -- ---- partitions
 

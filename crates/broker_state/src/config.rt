@@ -34,4 +34,7 @@ pub struct Config<A: Allocator> {
     pub port: u16,
     /// The topics that it keeps, at most 64, beside the one for groups.
     pub topics: Vec<TopicConfig<A>, A>,
+    /// The producer id that it gives out first, at least 0. Each further one is the next number; the
+    /// greatest `i64` is not given out.
+    pub first_producer: i64,
 }

@@ -2,8 +2,8 @@
 
 use thiserror::Error;
 
-/// Why a configuration is refused: the first of these that applies. The host and the number of topics
-/// are judged first; then each topic in turn, by the three checks of a topic.
+/// Why a configuration is refused: the first of these that applies. The host, the number of topics and the
+/// first producer id are judged first; then each topic in turn, by the three checks of a topic.
 #[derive(Clone, Copy, Debug, PartialEq, Eq, Error)]
 pub enum ConfigError {
     /// The host has more than `MAX_HOST_BYTES` bytes.
@@ -12,6 +12,9 @@ pub enum ConfigError {
     /// There are more than `MAX_TOPICS` topics.
     #[error("TooManyTopics")]
     TooManyTopics,
+    /// The first producer id is negative.
+    #[error("BadFirstProducer")]
+    BadFirstProducer,
     /// A name isn't 1 to 249 letters, digits, `.`, `_` and `-` of ASCII, or is `.` or `..`.
     #[error("BadTopic")]
     BadTopic,

@@ -23,6 +23,9 @@ pub(crate) fn config_fault<A: Allocator>(config: &Config<A>) -> Option<ConfigErr
     if config.topics.len() > MAX_TOPICS {
         return Some(ConfigError::TooManyTopics);
     }
+    if config.first_producer < 0 {
+        return Some(ConfigError::BadFirstProducer);
+    }
     topics_fault(&config.topics)
 }
 

@@ -1,6 +1,6 @@
-//! What a broker holds: its configuration, and a copy of each partition of its topics. Here are the
-//! checks of a configuration and of a batch that is sent to a partition, what a broker is asked about
-//! itself, and each change of a partition. Read `specs/` in the order of `specs/Lib.antt`.
+//! What a broker holds: its configuration, a copy of each partition of its topics, and the next producer id.
+//! Here are the checks of a configuration and of a batch that is sent to a partition, what a broker is asked
+//! about itself, and each change of a partition. Read `specs/` in the order of `specs/Lib.antt`.
 #![tactic(auto)]
 
 mod append;

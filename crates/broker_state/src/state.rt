@@ -1,4 +1,4 @@
-//! What a broker holds: its configuration, and the partitions of its topics.
+//! What a broker holds: its configuration, the partitions of its topics, and the next producer id.
 
 ghost use Rattle.std.specs.Prelude.{◌≡◌, ◌≤◌, ◌+◌, ℕ, ℤ, pos, List, [], ◌∷◌, Some, None, IfOk, IfErr, IfSome, IfNone, map, length};
 ghost use Rattle.std.specs.List.{All};
@@ -13,6 +13,7 @@ ghost use Rattle.broker_state.specs.declared.config.Role.TheVariants.{Leader};
 ghost use Rattle.broker_state.specs.Configs.{IsValidConfig, ConfigFault};
 ghost use Rattle.broker_state.specs.ConfigValues.{config_value};
 ghost use Rattle.broker_state.specs.Parts.{topic_contents};
+ghost use Rattle.broker_state.specs.Producers.{GivesProducerId};
 ghost use Rattle.broker_state.specs.Sound.{IsSound};
 
 use crate::append::Append;
@@ -30,15 +31,17 @@ use partition_log::{AppendError, Appended, PartitionLog};
 use segment::BatchStore;
 use std::marker::Model;
 
-/// What a broker holds: its configuration, and the partitions of its topics.
+/// What a broker holds: its configuration, the partitions of its topics, and the next producer id.
 #[derive(Drop)]
 pub struct BrokerState<S: BatchStore> {
     config: Config<S::Alloc>,
     topics: Vec<TopicLogs<S>, S::Alloc>,
+    next_producer: i64,
 }
 
 impl<S: BatchStore> Model for BrokerState<S> {
-    ghost use Rattle.std.specs.Prelude.{map};
+    ghost use Rattle.std.specs.Prelude.{map, FitsSigned};
+    ghost use Rattle.std.specs.Int.{w64};
     ghost use Rattle.std.specs.List.{AllByRecursion};
     ghost use Rattle.answering.specs.Lists.{first_some};
     ghost use Rattle.broker_state.specs.State.{State};
@@ -51,11 +54,13 @@ impl<S: BatchStore> Model for BrokerState<S> {
     ghost view = { λ n. record {
       config = config_value n.config;
       topics = map topic_contents n.topics.items;
+      next_producer = n.next_producer;
     } };
 
     ghost invariant = { λ n. IsSoundConfig (config_value n.config)
         × AreTopicsOf (config_value n.config) n.topics.items
-        × AllByRecursion (λ t. HoldsContents (topic_contents t)) n.topics.items };
+        × AllByRecursion (λ t. HoldsContents (topic_contents t)) n.topics.items
+        × FitsSigned w64 n.next_producer };
 }
 
 impl<S: BatchStore> BrokerState<S> {
@@ -76,8 +81,13 @@ impl<S: BatchStore> BrokerState<S> {
             Some(fault) => return Err(fault),
             None => {}
         }
+        let next_producer = config.first_producer;
         match new_topics(alloc, &config) {
-            Ok(topics) => Ok(BrokerState { config, topics }),
+            Ok(topics) => Ok(BrokerState {
+                config,
+                topics,
+                next_producer,
+            }),
             Err(_) => Err(ConfigError::OutOfMemory),
         }
     }
@@ -190,6 +200,21 @@ impl<S: BatchStore> BrokerState<S> {
             → AppendsAt self.old name p batch.now result self.new }
     {
         self.change_at(place, Append { batch })
+    }
+
+    /// Gives out the next producer id; the number after it is the next one. `None` where the next one is the
+    /// greatest `i64`, which is not given out; then nothing changes.
+    pub fn give_producer_id(&mut self) -> Option<i64>
+        ensures { GivesProducerId self.old result self.new }
+    {
+        let id = self.next_producer;
+        match id.checked_add(1) {
+            Some(next) => {
+                self.next_producer = next;
+                Some(id)
+            }
+            None => None,
+        }
     }
 
     /// The broker's number.

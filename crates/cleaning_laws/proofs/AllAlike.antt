@@ -1,7 +1,7 @@
 -- Two lists of requests that are the same once their Cleans are left out are answered alike.
 use Rattle.std.proofs.Common.{◌≡◌, ℕ, ℤ, Bool, true, false, not, cond, List, [], ◌∷◌, refl, sym, ap, subst, ◌∙◌}
 use Rattle.std.specs.List.{filter, AllByRecursion}
-use Rattle.request_frames.specs.Requests.BodyValue.{produce, fetch, list_offsets, metadata, offset_commit, offset_fetch, deliver, clean, export, export_delta, import, import_delta, get, cover, forget_group, trim}
+use Rattle.request_frames.specs.Requests.BodyValue.{produce, fetch, list_offsets, metadata, offset_commit, offset_fetch, find_coordinator, api_versions, init_producer_id, deliver, clean, export, export_delta, import, import_delta, get, cover, forget_group, trim}
 use Rattle.request_frames.specs.Requests.{BodyValue, RequestValue}
 use Rattle.content.specs.Logs.{IsPlainLog}
 use Rattle.broker_state.specs.declared.config.Role.{Role}
@@ -37,6 +37,9 @@ kept_by logs s n (list_offsets ts) e is = absurd cc
 kept_by logs s n (metadata names) e is = absurd cc
 kept_by logs s n (offset_commit q) e is = absurd cc
 kept_by logs s n (offset_fetch q) e is = absurd cc
+kept_by logs s n (find_coordinator group) e is = absurd cc
+kept_by logs s n (api_versions version) e is = absurd cc
+kept_by logs s n (init_producer_id id) e is = absurd cc
 kept_by logs s n (deliver q) e is = absurd cc
 kept_by logs s n (export q) e is = absurd cc
 kept_by logs s n (export_delta q) e is = absurd cc
@@ -55,6 +58,9 @@ settled_stays (list_offsets ts) e = refl
 settled_stays (metadata names) e = refl
 settled_stays (offset_commit q) e = refl
 settled_stays (offset_fetch q) e = refl
+settled_stays (find_coordinator group) e = refl
+settled_stays (api_versions version) e = refl
+settled_stays (init_producer_id id) e = refl
 settled_stays (deliver q) e = refl
 settled_stays (clean q) e = absurd cc
 settled_stays (export q) e = refl
@@ -132,6 +138,9 @@ within_cleaned role logs (list_offsets ts) e = absurd cc
 within_cleaned role logs (metadata names) e = absurd cc
 within_cleaned role logs (offset_commit q) e = absurd cc
 within_cleaned role logs (offset_fetch q) e = absurd cc
+within_cleaned role logs (find_coordinator group) e = absurd cc
+within_cleaned role logs (api_versions version) e = absurd cc
+within_cleaned role logs (init_producer_id id) e = absurd cc
 within_cleaned role logs (deliver q) e = absurd cc
 within_cleaned role logs (export q) e = absurd cc
 within_cleaned role logs (export_delta q) e = absurd cc

@@ -159,6 +159,7 @@ module _ (logs : Logs) (s z : State) (name : List ℕ) (p : ℤ) (alike : AreAli
                 other = state_with logs longer z name p (add d (at_end d b)) alike.other (grown_other_name logs name p (at_end c b)) (grown_other_index logs name p (at_end c b)) (new_other room (sym same_verdict ∙ new));
                 config = alike.config;
                 seen = both_with s z name p (add c (at_end c b)) (add d (at_end d b)) alike.seen added;
+                next_producer = alike.next_producer;
               };
             },
           )

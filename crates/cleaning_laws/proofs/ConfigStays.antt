@@ -1,7 +1,7 @@
 -- No reply changes a broker's configuration.
 use Rattle.std.proofs.Common.{◌≡◌, ℕ, ℤ, ◌++◌, List, [], ◌∷◌, Option, Some, None, refl, ◌∙◌}
 use Rattle.frame_fields.specs.Types.{TopicOf}
-use Rattle.request_frames.specs.Requests.BodyValue.{produce, fetch, list_offsets, metadata, offset_commit, offset_fetch, deliver, clean, export, export_delta, import, import_delta, get, cover, forget_group, trim}
+use Rattle.request_frames.specs.Requests.BodyValue.{produce, fetch, list_offsets, metadata, offset_commit, offset_fetch, find_coordinator, api_versions, init_producer_id, deliver, clean, export, export_delta, import, import_delta, get, cover, forget_group, trim}
 use Rattle.request_frames.specs.Requests.{BodyValue, RequestValue}
 use Rattle.answering.specs.declared.codes.ErrorCode.{ErrorCode}
 use Rattle.answering.specs.Lists.{first_some, map_accum}
@@ -13,6 +13,8 @@ use Rattle.log_requests.specs.ListOffsets.{list_offsets_work}
 use Rattle.group_requests.specs.OffsetCommit.{offset_commit_work}
 use Rattle.group_requests.specs.OffsetFetch.{offset_fetch_plan}
 use Rattle.group_requests.specs.ForgetGroup.{forget_group_work}
+use Rattle.client_requests.specs.FindCoordinator.{find_coordinator_work}
+use Rattle.client_requests.specs.InitProducerId.{init_producer_id_work}
 use Rattle.copy_requests.specs.Deliver.{deliver_work}
 use Rattle.copy_requests.specs.Clean.{clean_work}
 use Rattle.copy_requests.specs.Export.{export_work}
@@ -49,6 +51,9 @@ config_to s n (list_offsets ts) = works_config list_offsets_work (λ s name e. r
 config_to s n (metadata names) = refl
 config_to s n (offset_commit q) = works_config (λ s name e. offset_commit_work s q name e) (λ s name e. refl) s q.topics
 config_to s n (offset_fetch q) = works_config (offset_fetch_plan s n q).work (λ s name e. refl) s q.topics
+config_to s n (find_coordinator group) = answer_config (find_coordinator_work s group) s refl
+config_to s n (api_versions version) = refl
+config_to s n (init_producer_id id) = answer_config (init_producer_id_work s id) s refl
 config_to s n (deliver q) = answer_config (deliver_work s q) s refl
 config_to s n (clean q) = answer_config (clean_work s q) s refl
 config_to s n (export q) = answer_config (export_work s q) s refl

@@ -148,6 +148,7 @@ both_take logs s z name p b alike role there = record {
   other = state_with logs logs z name p (add (content_at z name p) b) alike.other (λ n q e. refl) (λ n q e. refl) (state_added logs z name p b (sym (role_same logs s z name p alike) ∙ role) (alike.other name p) there);
   config = alike.config;
   seen = both_with s z name p (add (content_at s name p) b) (add (content_at z name p) b) alike.seen (same_added (content_at s name p) (content_at z name p) b (seen_same logs s z name p alike));
+  next_producer = alike.next_producer;
 }
 
 pub deliver_alike : (logs : Logs) (s z : State) (n : ℤ) (q : DeliverValue) → IsBytes q.batch → IsOfLog s.config.role logs q → AreAlike logs s z → BodyAlike logs s z n (deliver q)

@@ -21,11 +21,11 @@ use Rattle.answering.specs.Lists.{fault_if, first_some}
 use Rattle.broker_state.specs.declared.config.Role.{Role}
 use Rattle.broker_state.specs.declared.config.Role.TheVariants.{Leader, Follower}
 use Rattle.broker_state.specs.Batches.{append_fault}
-use Rattle.broker_state.specs.Checks.{role_code, not_leader}
+use Rattle.broker_state.specs.Checks.{no_group, role_code, not_leader}
 use Rattle.broker_state.specs.Codes.{append_code}
 use Rattle.broker_state.specs.State.{State, group_topic, is_known, content_at}
 use Rattle.broker_state.proofs.Passed.{none_first, none_both, no_fault}
-use Rattle.group_requests.specs.GroupPartition.{no_group, group_content, with_group_content}
+use Rattle.group_requests.specs.GroupPartition.{group_content, with_group_content}
 use Rattle.group_requests.specs.ForgetGroup.{is_within_limit, forget_group_checks, forgotten, forget_group_work, forget_group_sent}
 use Rattle.group_requests.proofs.OffsetCommitEntries.{leads}
 use Rattle.broker_node.specs.Replies.{reply_to}

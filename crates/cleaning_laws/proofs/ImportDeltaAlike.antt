@@ -6,7 +6,7 @@ use Rattle.std.specs.Int.{int_max}
 use Rattle.std.specs.Option.{unwrap_or}
 use Rattle.batch_codec.specs.Values.{BatchValue}
 use Rattle.cover_ranges.specs.Runs.{union_of, cut_below}
-use Rattle.content.specs.Content.{Content, IsContent, empty}
+use Rattle.content.specs.Content.{Content, empty}
 use Rattle.content.specs.Joins.{join, Agree}
 use Rattle.content_laws.proofs.ContentSteps.{content_join}
 use Rattle.content_laws.proofs.CopyJoin.{copies_agree, copy_of_join}
@@ -193,6 +193,7 @@ module _ (logs : Logs) (q : ImportDeltaValue) (bytes : IsBytes q.delta) where
           other = state_with logs logs z q.topic q.partition (patch (at_partition z) given) alike.other (λ n q e. refl) (λ n q e. refl) (λ there. patched z (other_role pass.follows) d (other_place pass.there pass.follows pass.knows));
           config = alike.config;
           seen = both_with s z q.topic q.partition (patch (at_partition s) given) (patch (at_partition z) given) alike.seen (patched_seen (at_partition s) (at_partition z) given seen);
+          next_producer = alike.next_producer;
         }
 
 pub import_delta_alike : (logs : Logs) (s z : State) (n : ℤ) (q : ImportDeltaValue) → IsBytes q.delta → IsDeltaOfLog s.config.role logs q → AreAlike logs s z → BodyAlike logs s z n (import_delta q)

@@ -18,6 +18,7 @@ pub mod WithMemory
 pub mod SameShown
 pub mod OnlyRead
 pub mod MetadataAlike
+pub mod ClientsAlike
 pub mod DeliverAlike
 pub mod ImportDeltaAlike
 pub mod TrimAlike

@@ -13,7 +13,7 @@ use Rattle.content.specs.Logs.{IsPlainLog}
 use Rattle.content.specs.Copies.{IsCopy}
 use Rattle.content_laws.proofs.CopyGrow.{plain_front, copy_of_longer}
 use Rattle.deltas.specs.Deltas.{Delta}
-use Rattle.request_frames.specs.Requests.BodyValue.{produce, fetch, list_offsets, metadata, offset_commit, offset_fetch, deliver, clean, export, export_delta, import, import_delta, get, cover, forget_group, trim}
+use Rattle.request_frames.specs.Requests.BodyValue.{produce, fetch, list_offsets, metadata, offset_commit, offset_fetch, find_coordinator, api_versions, init_producer_id, deliver, clean, export, export_delta, import, import_delta, get, cover, forget_group, trim}
 use Rattle.request_frames.specs.Requests.{BodyValue}
 use Rattle.request_frames.specs.Deliver.{DeliverValue}
 use Rattle.request_frames.specs.ImportDelta.{ImportDeltaValue}
@@ -67,6 +67,9 @@ within_longer role logs longer (list_offsets ts) grows is = is
 within_longer role logs longer (metadata names) grows is = is
 within_longer role logs longer (offset_commit q) grows is = is
 within_longer role logs longer (offset_fetch q) grows is = is
+within_longer role logs longer (find_coordinator group) grows is = is
+within_longer role logs longer (api_versions version) grows is = is
+within_longer role logs longer (init_producer_id id) grows is = is
 within_longer role logs longer (clean q) grows is = is
 within_longer role logs longer (export q) grows is = is
 within_longer role logs longer (export_delta q) grows is = is

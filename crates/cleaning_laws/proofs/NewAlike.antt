@@ -41,7 +41,7 @@ new_state_of : (g : ConfigValue) (logs : Logs) → ((name : List ℕ) (p : ℤ) 
 new_state_of g logs each name p known = subst (λ (c : Content). IsPartitionOf g.role c (logs name p)) (sym (new_is_empty g name p)) (each name p)
 
 alike_itself : (g : ConfigValue) (logs : Logs) → IsStateOf logs (new_state g) → AreAlike logs (new_state g) (new_state g)
-alike_itself g logs is = record { one = is; other = is; config = refl; seen = refl }
+alike_itself g logs is = record { one = is; other = is; config = refl; seen = refl; next_producer = refl }
 
 pub new_alike : (g : ConfigValue) → AreAlike no_logs (new_state g) (new_state g)
 new_alike g = alike_itself g no_logs (new_state_of g no_logs (λ name p. both_empty g.role))

@@ -16,11 +16,11 @@ use Rattle.answering.specs.Work.{answer}
 use Rattle.broker_state.specs.declared.config.Role.{Role}
 use Rattle.broker_state.specs.declared.config.Role.TheVariants.{Leader, Follower}
 use Rattle.broker_state.specs.Batches.{append_fault}
-use Rattle.broker_state.specs.Checks.{unknown, role_code, not_leader}
+use Rattle.broker_state.specs.Checks.{no_group, unknown, role_code, not_leader}
 use Rattle.broker_state.specs.Codes.{append_code}
 use Rattle.broker_state.specs.State.{State, group_topic, is_known}
 use Rattle.broker_state.proofs.Passed.{none_first, none_both}
-use Rattle.group_requests.specs.GroupPartition.{no_group, group_content}
+use Rattle.group_requests.specs.GroupPartition.{group_content}
 use Rattle.group_requests.specs.OffsetCommit.{offset_commit_generation, offset_commit_batch, offset_commit_work, offset_commit_plan}
 use Rattle.group_requests.specs.declared.offset_commit.TheConstants.{MAX_METADATA_BYTES}
 use Rattle.group_requests.proofs.OffsetCommitEntries.{leads}

@@ -26,10 +26,10 @@ use Rattle.answering.specs.Codes.{no_error}
 use Rattle.answering.specs.Lists.{fault_if, first_some}
 use Rattle.answering.specs.Work.{Work, answer_after, answer}
 use Rattle.broker_state.specs.State.{State, group_topic, is_known, content_at}
-use Rattle.broker_state.specs.Checks.{role_code}
+use Rattle.broker_state.specs.Checks.{no_group, role_code}
 use Rattle.broker_state.proofs.Passed.{none_first, no_fault}
 use Rattle.responses.specs.declared.list_offsets.partition.ListedPartition.{ListedPartition}
-use Rattle.group_requests.specs.GroupPartition.{no_group, group_content}
+use Rattle.group_requests.specs.GroupPartition.{group_content}
 use Rattle.group_requests.specs.OffsetFetch.{offset_fetch_lookup, offset_fetch_fault, offset_fetch_result, offset_fetch_work, offset_fetch_plan, partition_count}
 use Rattle.group_requests.specs.declared.offset_fetch.TheConstants.{MAX_FETCHED_OFFSETS}
 use Rattle.log_requests.specs.ListOffsets.{list_offsets_latest, list_offsets_earliest, list_offsets_at, list_offsets_result, list_offsets_work, list_offsets_plan}
@@ -74,11 +74,11 @@ work_stays w s stays = by (first_some (w.early ++ w.late))
     by None = stays
     by (Some code) = refl
 
-unchanged : (logs : Logs) (s z m n : State) → StayAlike logs s z → m ≡ s → n ≡ z → StayAlike logs m n
+pub unchanged : (logs : Logs) (s z m n : State) → StayAlike logs s z → m ≡ s → n ≡ z → StayAlike logs m n
 unchanged logs s z m n h one other = subst (λ (x : State). StayAlike logs x n) (sym one) (subst (λ (x : State). StayAlike logs s x) (sym other) h)
 
 -- two works by which nothing changes
-read_alike : {R : Type 0} (logs : Logs) (s z : State) (v w : Work R State) → AreAlike logs s z → first_some (v.early ++ v.late) ≡ first_some (w.early ++ w.late)
+pub read_alike : {R : Type 0} (logs : Logs) (s z : State) (v w : Work R State) → AreAlike logs s z → first_some (v.early ++ v.late) ≡ first_some (w.early ++ w.late)
     → ((code : ErrorCode) → v.failed code ≡ w.failed code) → (first_some (v.early ++ v.late) ≡ None → v.done.0 ≡ w.done.0) → v.done.1 ≡ s → w.done.1 ≡ z
     → Same (StayAlike logs) (answer v s) (answer w z)
 read_alike logs s z v w alike same failed done one other = same_work logs s z v w alike same failed (λ none. (done none, unchanged logs s z v.done.1 w.done.1 (stay logs s z alike) one other))

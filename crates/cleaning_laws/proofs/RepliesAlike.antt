@@ -1,6 +1,6 @@
 -- Two brokers that are alike answer a request within the logs alike, and stay alike.
 use Rattle.std.proofs.Common.{◌≡◌, ℤ, Bool, true, false, not, refl}
-use Rattle.request_frames.specs.Requests.BodyValue.{produce, fetch, list_offsets, metadata, offset_commit, offset_fetch, deliver, clean, export, export_delta, import, import_delta, get, cover, forget_group, trim}
+use Rattle.request_frames.specs.Requests.BodyValue.{produce, fetch, list_offsets, metadata, offset_commit, offset_fetch, find_coordinator, api_versions, init_producer_id, deliver, clean, export, export_delta, import, import_delta, get, cover, forget_group, trim}
 use Rattle.request_frames.specs.Requests.{BodyValue, RequestValue}
 use Rattle.broker_state.specs.State.{State}
 use Rattle.broker_node.specs.Replies.{reply_to}
@@ -14,6 +14,7 @@ use Rattle.cleaning_laws.proofs.OffsetCommitAlike.{offset_commit_alike}
 use Rattle.cleaning_laws.proofs.ForgetGroupAlike.{forget_group_alike}
 use Rattle.cleaning_laws.proofs.OnlyRead.{BodyAlike, get_alike, cover_alike, export_alike, export_delta_alike, fetch_alike, offset_fetch_alike, list_offsets_alike}
 use Rattle.cleaning_laws.proofs.MetadataAlike.{metadata_alike}
+use Rattle.cleaning_laws.proofs.ClientsAlike.{find_coordinator_alike, api_versions_alike, init_producer_id_alike}
 use Rattle.cleaning_laws.proofs.DeliverAlike.{deliver_alike}
 use Rattle.cleaning_laws.proofs.ImportDeltaAlike.{import_delta_alike}
 use Rattle.cleaning_laws.proofs.TrimAlike.{trim_alike}
@@ -29,6 +30,9 @@ body_alike logs s z n (list_offsets ts) alike within may other_may no_clean = li
 body_alike logs s z n (metadata names) alike within may other_may no_clean = metadata_alike logs s z n names alike
 body_alike logs s z n (offset_commit q) alike within may other_may no_clean = always logs s z n (offset_commit q) (offset_commit_alike q logs s z n within.0 alike)
 body_alike logs s z n (offset_fetch q) alike within may other_may no_clean = offset_fetch_alike logs s z n q alike
+body_alike logs s z n (find_coordinator group) alike within may other_may no_clean = find_coordinator_alike logs s z n group alike
+body_alike logs s z n (api_versions version) alike within may other_may no_clean = api_versions_alike logs s z n version alike
+body_alike logs s z n (init_producer_id id) alike within may other_may no_clean = init_producer_id_alike logs s z n id alike
 body_alike logs s z n (deliver q) alike within may other_may no_clean = deliver_alike logs s z n q within.0 within.1 alike
 body_alike logs s z n (clean q) alike within may other_may no_clean = absurd cc
 body_alike logs s z n (export q) alike within may other_may no_clean = export_alike logs s z n q alike

@@ -1,6 +1,6 @@
 -- A request that is read from a frame of bytes is within the logs, where it brings no image, and only batches and deltas that
 -- are of them: its byte strings are of bytes, and its numbers and names are those that its fields can hold.
-use Rattle.std.proofs.Common.{◌≡◌, ℕ, pos, List, [], ◌∷◌, ◌++◌, length, drop, Option, Some, None, refl, sym, subst, ◌∙◌, arith}
+use Rattle.std.proofs.Common.{◌≡◌, inl, inr, ℕ, pos, List, [], ◌∷◌, ◌++◌, length, drop, Option, Some, None, refl, sym, subst, ◌∙◌, arith}
 use Rattle.std.specs.Prelude.{map}
 use Rattle.std.specs.List.{flat_map, AllByRecursion}
 use Rattle.std.proofs.lemmas.List.{take_at, append-nil}
@@ -10,7 +10,7 @@ use Rattle.frame_fields.specs.Types.{nullable_string, nullable_bytes, topic, top
 use Rattle.frame_fields.specs.Frames.{IsBytes}
 use Rattle.frame_fields.proofs.Numbers.{IsBytes-drop, IsBytes-take, IsBytes-second}
 use Rattle.request_frames.specs.declared.api.Api.{Api}
-use Rattle.request_frames.specs.declared.api.Api.TheVariants.{Produce, Fetch, ListOffsets, Metadata, OffsetCommit, OffsetFetch, Deliver, Clean, Export, ExportDelta, Import, ImportDelta, Get, Cover, ForgetGroup, Trim}
+use Rattle.request_frames.specs.declared.api.Api.TheVariants.{Produce, Fetch, ListOffsets, Metadata, OffsetCommit, OffsetFetch, FindCoordinator, ApiVersions, InitProducerId, Deliver, Clean, Export, ExportDelta, Import, ImportDelta, Get, Cover, ForgetGroup, Trim}
 use Rattle.request_frames.specs.Requests.{fields_of, body_value, RequestValue, body_fields, IsRequest}
 use Rattle.request_frames.specs.Produce.{produce_partition, produce_partition_value, produce_fields, produce_request}
 use Rattle.request_frames.specs.OffsetCommit.{offset_commit_partition, offset_commit_partition_value, offset_commit_fields, offset_commit_request}
@@ -106,6 +106,9 @@ said_within role logs ListOffsets v fits all from = (tt, from)
 said_within role logs Metadata v fits all from = (tt, from)
 said_within role logs OffsetCommit v fits all from = (commit_within v fits, from)
 said_within role logs OffsetFetch v fits all from = (tt, from)
+said_within role logs FindCoordinator v fits all from = (tt, from)
+said_within role logs ApiVersions v fits all from = (tt, from)
+said_within role logs InitProducerId v fits all from = (tt, from)
 said_within role logs Deliver v fits all from = (all.1.1.0, from)
 said_within role logs Clean v fits all from = (tt, from)
 said_within role logs Export v fits all from = (tt, from)
@@ -122,7 +125,8 @@ unfolding Fits
 later_fits f d v fits = fits.1
 
 pub request_within : (role : Role) (logs : Logs) (frame : List ℕ) (q : RequestValue) → IsBytes frame → IsRequest frame q → IsFromLogs role logs q.body → IsWithin role logs q.body
-request_within role logs frame q bytes (api, is, v, encodes, says) from =
+request_within role logs frame q bytes (inr (asks, says)) from = subst (λ (x : RequestValue). IsWithin role logs x.body) (sym says) (tt, tt)
+request_within role logs frame q bytes (inl (api, is, v, encodes, says)) from =
     let whole : drop 8 frame ≡ encoded (body_fields api) v = encodes.parts ∙ append-nil (encoded (body_fields api) v) in
     let all : HasBytes (body_fields api) v = has_bytes (body_fields api) v (subst IsBytes whole (IsBytes-drop 8 frame bytes)) in
     subst (λ (x : RequestValue). IsWithin role logs x.body) (sym says)

@@ -82,27 +82,29 @@ partition_cleaned role u d c log is = record {
   copy = copy_cleaned role u d c log is;
 }
 
--- what a Clean leaves: the logs, all names, starts and covers, and the configuration
+-- what a Clean leaves: the logs, all names, starts and covers, the configuration, and the next producer id
 pub record IsKept (logs : Logs) (s after : State) : Type 0 where
   pub states : IsStateOf logs after
   pub seen : seen_topics after ≡ seen_topics s
   pub config : after.config ≡ s.config
+  pub next_producer : after.next_producer ≡ s.next_producer
 
 -- the same without the logs
 record IsSeenAlike (s after : State) : Type 0 where
   seen : seen_topics after ≡ seen_topics s
   config : after.config ≡ s.config
+  next_producer : after.next_producer ≡ s.next_producer
 
 states_at : (logs : Logs) (s : State) (name : List ℕ) (p u d : ℤ) → IsStateOf logs s → IsStateOf logs (with_content s name p (clean u d (content_at s name p)))
 states_at logs s name p u d is = state_with logs logs s name p (clean u d (content_at s name p)) is (λ n q e. refl) (λ n q e. refl) (λ known. partition_cleaned s.config.role u d (content_at s name p) (logs name p) (is name p known))
 
 seen_at_clean : (s : State) (name : List ℕ) (p u d : ℤ) → IsSeenAlike s (with_content s name p (clean u d (content_at s name p)))
-seen_at_clean s name p u d = record { seen = seen_stays s name p (clean u d (content_at s name p)) refl; config = refl }
+seen_at_clean s name p u d = record { seen = seen_stays s name p (clean u d (content_at s name p)) refl; config = refl; next_producer = refl }
 
 pub cleaned_at : (logs : Logs) (s : State) (name : List ℕ) (p u d : ℤ) → IsStateOf logs s → IsKept logs s (with_content s name p (clean u d (content_at s name p)))
 cleaned_at logs s name p u d is =
     let same = seen_at_clean s name p u d in
-    record { states = states_at logs s name p u d is; seen = same.seen; config = same.config }
+    record { states = states_at logs s name p u d is; seen = same.seen; config = same.config; next_producer = same.next_producer }
 
 -- the state after a Clean, by the test whether the partition is known
 abbrev if_known : State → ℤ → CleanValue → Bool → State
@@ -120,12 +122,12 @@ clean_seen s correlation q = by (is_known s q.topic q.partition)
   where
     by : (b : Bool) → IsSeenAlike s (if_known s correlation q b)
     by true = seen_at_clean s q.topic q.partition q.upto q.tomb_before
-    by false = record { seen = refl; config = refl }
+    by false = record { seen = refl; config = refl; next_producer = refl }
 
 pub clean_keeps : (logs : Logs) (s : State) (correlation : ℤ) (q : CleanValue) → IsStateOf logs s → IsKept logs s (reply_to s correlation (clean_body q)).1
 clean_keeps logs s correlation q is =
     let same = clean_seen s correlation q in
-    record { states = clean_states logs s correlation q is; seen = same.seen; config = same.config }
+    record { states = clean_states logs s correlation q is; seen = same.seen; config = same.config; next_producer = same.next_producer }
 
 -- the same of a request that is a Clean
 pub request_states : (logs : Logs) (s : State) (q : RequestValue) (c : CleanValue) → q.body ≡ clean_body c → IsStateOf logs s → IsStateOf logs (reply s q).1
@@ -140,6 +142,9 @@ request_seen s q c is = (request_seen_alike s q c is).seen
 pub request_config : (s : State) (q : RequestValue) (c : CleanValue) → q.body ≡ clean_body c → (reply s q).1.config ≡ s.config
 request_config s q c is = (request_seen_alike s q c is).config
 
+pub request_producer : (s : State) (q : RequestValue) (c : CleanValue) → q.body ≡ clean_body c → (reply s q).1.next_producer ≡ s.next_producer
+request_producer s q c is = (request_seen_alike s q c is).next_producer
+
 -- so of two that are alike either may be cleaned
 pub alike_cleaned : (logs : Logs) (s z m : State) → AreAlike logs s z → IsKept logs s m → AreAlike logs m z
 alike_cleaned logs s z m alike kept = record {
@@ -147,6 +152,7 @@ alike_cleaned logs s z m alike kept = record {
   other = alike.other;
   config = kept.config ∙ alike.config;
   seen = kept.seen ∙ alike.seen;
+  next_producer = kept.next_producer ∙ alike.next_producer;
 }
 
 pub other_cleaned : (logs : Logs) (s z m : State) → AreAlike logs s z → IsKept logs z m → AreAlike logs s m
@@ -155,4 +161,5 @@ other_cleaned logs s z m alike kept = record {
   other = kept.states;
   config = alike.config ∙ sym kept.config;
   seen = alike.seen ∙ sym kept.seen;
+  next_producer = alike.next_producer ∙ sym kept.next_producer;
 }

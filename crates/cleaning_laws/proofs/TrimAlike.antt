@@ -1,9 +1,9 @@
 -- Trim: two brokers that are alike answer it alike, where both may start at its offset, or where it is outside of both.
-use Rattle.std.proofs.Common.{◌≡◌, ℕ, ℤ, Bool, true, false, not, List, [], ◌∷◌, ◌++◌, Option, Some, None, refl, sym, ap, subst, ◌∙◌}
+use Rattle.std.proofs.Common.{◌≡◌, ℕ, ℤ, Bool, true, false, not, List, [], ◌∷◌, ◌++◌, Option, Some, None, refl, sym, ap, ◌∙◌}
 use Rattle.std.specs.Prelude.{◌||◌, int_lt}
 use Rattle.batch_codec.specs.Values.{BatchValue}
 use Rattle.cover_ranges.specs.Runs.{cut_below}
-use Rattle.content.specs.Content.{Content, IsAcceptedStart, cut, end}
+use Rattle.content.specs.Content.{Content, IsAcceptedStart, cut}
 use Rattle.content_laws.proofs.ContentSteps.{content_cut}
 use Rattle.content_laws.proofs.CopyCut.{copy_of_cut}
 use Rattle.content_laws.proofs.CopyStarts.{accepted_boundary}
@@ -13,7 +13,6 @@ use Rattle.request_frames.specs.Requests.BodyValue.{trim}
 use Rattle.request_frames.specs.Trim.{TrimValue}
 use Rattle.answering.specs.declared.codes.ErrorCode.{ErrorCode}
 use Rattle.answering.specs.declared.codes.ErrorCode.TheVariants.{UnknownTopicOrPartition, OffsetOutOfRange, InvalidRequest}
-use Rattle.answering.specs.Codes.{no_error}
 use Rattle.answering.specs.Lists.{fault_if, first_some}
 use Rattle.broker_state.specs.declared.config.Role.{Role}
 use Rattle.broker_state.specs.declared.config.Role.TheVariants.{Leader, Follower}
@@ -83,6 +82,7 @@ both_cut logs s z name p start alike one other =
       other = state_with logs logs z name p (cut start d) alike.other (λ n q e. refl) (λ n q e. refl) (λ known. trimmed_partition z.config.role d start (logs name p) (alike.other name p known) other);
       config = alike.config;
       seen = both_with s z name p (cut start c) (cut start d) alike.seen (seen_made (cut start c) (cut start d) refl (ap (cut_below start) (same_cover c d (seen_same logs s z name p alike))));
+      next_producer = alike.next_producer;
     }
 
 pub trim_alike : (logs : Logs) (s z : State) (n : ℤ) (q : TrimValue) → MayTrim s (trim q) → MayTrim z (trim q) → AreAlike logs s z → BodyAlike logs s z n (trim q)

@@ -1,7 +1,7 @@
 -- Where no entry's result lacks memory, what may be replied is the reply itself.
 use Rattle.std.proofs.Common.{◌≡◌, ℕ, ℤ, List, ◌++◌, Option, inl, inr, ap, ◌∙◌}
 use Rattle.std.specs.Prelude.{◌≢◌}
-use Rattle.request_frames.specs.Requests.BodyValue.{produce, fetch, list_offsets, metadata, offset_commit, offset_fetch, deliver, clean, export, export_delta, import, import_delta, get, cover, forget_group, trim}
+use Rattle.request_frames.specs.Requests.BodyValue.{produce, fetch, list_offsets, metadata, offset_commit, offset_fetch, find_coordinator, api_versions, init_producer_id, deliver, clean, export, export_delta, import, import_delta, get, cover, forget_group, trim}
 use Rattle.request_frames.specs.Requests.{BodyValue, RequestValue}
 use Rattle.answering.specs.declared.codes.ErrorCode.TheVariants.{StorageError}
 use Rattle.answering.specs.Work.{Work, IsAnswer, MayAnswer}
@@ -16,6 +16,8 @@ use Rattle.log_requests.specs.ListOffsets.{list_offsets_plan}
 use Rattle.group_requests.specs.OffsetCommit.{offset_commit_plan}
 use Rattle.group_requests.specs.OffsetFetch.{offset_fetch_plan}
 use Rattle.group_requests.specs.ForgetGroup.{forget_group_work, forget_group_sent}
+use Rattle.client_requests.specs.FindCoordinator.{find_coordinator_work, find_coordinator_sent}
+use Rattle.client_requests.specs.InitProducerId.{init_producer_id_work, init_producer_id_sent}
 use Rattle.copy_requests.specs.Deliver.{deliver_work, deliver_sent}
 use Rattle.copy_requests.specs.Clean.{clean_work, clean_sent}
 use Rattle.copy_requests.specs.Export.{export_work, export_sent}
@@ -58,6 +60,9 @@ full_to s after n (list_offsets ts) out replies = plan_in_full (list_offsets_pla
 full_to s after n (metadata names) out replies = λ i. (replies.0 i, replies.1 i)
 full_to s after n (offset_commit q) out replies = plan_in_full (offset_commit_plan s n q) out after replies
 full_to s after n (offset_fetch q) out replies = plan_in_full (offset_fetch_plan s n q) out after replies
+full_to s after n (find_coordinator group) out replies = once_in_full (find_coordinator_sent n) (find_coordinator_work s group) s out after replies
+full_to s after n (api_versions version) out replies = λ i. (replies.0 i, replies.1 i)
+full_to s after n (init_producer_id id) out replies = once_in_full (init_producer_id_sent n) (init_producer_id_work s id) s out after replies
 full_to s after n (deliver q) out replies = once_in_full (deliver_sent n) (deliver_work s q) s out after replies
 full_to s after n (clean q) out replies = once_in_full (clean_sent n) (clean_work s q) s out after replies
 full_to s after n (export q) out replies = once_in_full (export_sent n) (export_work s q) s out after replies

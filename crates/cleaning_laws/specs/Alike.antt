@@ -1,5 +1,5 @@
 -- When two brokers can't be told apart but by what they keep: they hold copies of the same logs, in the same partitions,
--- which have the same start and have seen the same offsets.
+-- which have the same start and have seen the same offsets, and they give out the same producer id next.
 use Rattle.std.specs.Prelude.{◌≡◌, ℕ, ℤ, List, map}
 use Rattle.cover_ranges.specs.Runs.{Runs}
 use Rattle.content.specs.Content.{Content}
@@ -30,6 +30,7 @@ pub record AreAlike (logs : Logs) (s z : State) : Type 0 where
   pub other : IsStateOf logs z
   pub config : s.config ≡ z.config
   pub seen : seen_topics s ≡ seen_topics z
+  pub next_producer : s.next_producer ≡ z.next_producer
 
 -- they are states of the same logs, which may have grown
 pub record StayAlike (logs : Logs) (s z : State) : Type 0 where

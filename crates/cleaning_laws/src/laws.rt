@@ -29,8 +29,8 @@ pub fn a_new_broker_holds_copies_of_the_logs()
         → AreAlike logs (new_state g) (new_state g) }
 {}
 
-/// A Clean, of any topic, partition and bounds, leaves the logs, and of each partition the start and
-/// the offsets that were seen.
+/// A Clean, of any topic, partition and bounds, leaves the logs, of each partition the start and the offsets
+/// that were seen, the configuration, and the next producer id.
 pub fn cleaning_keeps_the_logs()
     ensures logs { (logs : Logs) (s : State) (q : RequestValue) (c : CleanValue) → q.body ≡ clean c
         → IsStateOf logs s → IsStateOf logs (reply s q).1 }
@@ -38,12 +38,14 @@ pub fn cleaning_keeps_the_logs()
         → seen_topics (reply s q).1 ≡ seen_topics s }
     ensures config { (s : State) (q : RequestValue) (c : CleanValue) → q.body ≡ clean c
         → (reply s q).1.config ≡ s.config }
+    ensures next_producer { (s : State) (q : RequestValue) (c : CleanValue) → q.body ≡ clean c
+        → (reply s q).1.next_producer ≡ s.next_producer }
 {}
 
 /// Two brokers that differ only in what they keep of the same logs answer each request within the logs,
-/// but for a Clean, alike, where a Trim is to an offset at which both may start: the states after are again two such, of logs that may have grown, and the
-/// replies are the same, but for those that are read of which records are kept. No request changes the
-/// configuration.
+/// but for a Clean, alike, where a Trim is to an offset at which both may start: the states after are again
+/// two such, of logs that may have grown, and the replies are the same, but for those that are read of which
+/// records are kept. No request changes the configuration.
 pub fn brokers_of_the_same_logs_answer_alike()
     ensures alike { (logs : Logs) (s z : State) (q : RequestValue) → AreAlike logs s z
         → IsWithin s.config.role logs q.body → MayTrim s q.body → MayTrim z q.body

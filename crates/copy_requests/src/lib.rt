@@ -1,6 +1,6 @@
 //! Requests about copies, this project's own: Deliver, Clean, Export and Import in two versions each, Get,
-//! Cover and Trim, answered from what a broker holds. Each is a request of one entry: what its work is, and what is replied to it, is
-//! defined in the file of `specs/` that bears the request's name.
+//! Cover and Trim, answered from what a broker holds. Each is a request of one entry: what its work is, and
+//! what is replied to it, is defined in the file of `specs/` that bears the request's name.
 //!
 //! A reply is appended to an output that may hold others. Where there is no memory for it, the output is
 //! as before, and nothing was done.

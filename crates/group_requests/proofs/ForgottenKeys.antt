@@ -17,11 +17,11 @@ use Rattle.answering.specs.Lists.{first_some, fault_if}
 use Rattle.answering.specs.Doing.{DoesWork}
 use Rattle.answering.proofs.Checks.{one_passes, no_fault, has_fault, two_pass, two_fail}
 use Rattle.broker_state.specs.Batches.{append_fault}
-use Rattle.broker_state.specs.Checks.{not_leader}
+use Rattle.broker_state.specs.Checks.{no_group, not_leader}
 use Rattle.broker_state.specs.Codes.{append_code}
 use Rattle.broker_state.specs.State.{State, group_topic}
 use Rattle.broker_state.proofs.OwnContent.{unchanged_at}
-use Rattle.group_requests.specs.GroupPartition.{no_group, group_content, with_group_content}
+use Rattle.group_requests.specs.GroupPartition.{group_content, with_group_content}
 use Rattle.group_requests.specs.Appending.{AppendsToGroups}
 use Rattle.group_requests.specs.ForgetGroup.{is_within_limit, forget_group_checks, forgotten, forget_group_work}
 use Rattle.group_requests.specs.ForgetGroup.Entries.{AppendsCounted, ForgetsKeys, forgotten_answer}

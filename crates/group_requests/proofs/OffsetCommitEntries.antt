@@ -13,10 +13,10 @@ use Rattle.answering.proofs.Checks.{two_pass, last_check, early_check}
 use Rattle.broker_state.specs.declared.config.Role.{Role}
 use Rattle.broker_state.specs.declared.config.Role.TheVariants.{Leader, Follower}
 use Rattle.broker_state.specs.Batches.{append_fault}
-use Rattle.broker_state.specs.Checks.{role_code}
+use Rattle.broker_state.specs.Checks.{no_group, role_code}
 use Rattle.broker_state.specs.Codes.{append_code}
 use Rattle.broker_state.specs.State.{State}
-use Rattle.group_requests.specs.GroupPartition.{no_group, group_content}
+use Rattle.group_requests.specs.GroupPartition.{group_content}
 use Rattle.group_requests.specs.Appending.{AppendsToGroups}
 use Rattle.group_requests.specs.OffsetCommit.{offset_commit_generation, offset_commit_batch, offset_commit_result, offset_commit_work}
 use Rattle.group_requests.specs.OffsetCommit.Entries.{request_checks, entry_checks}

@@ -19,9 +19,9 @@ use Rattle.answering.specs.Codes.{no_error, code_number}
 use Rattle.answering.specs.Work.{Work}
 use Rattle.broker_state.specs.Codes.{append_code}
 use Rattle.broker_state.specs.State.{State}
-use Rattle.broker_state.specs.Checks.{not_leader}
+use Rattle.broker_state.specs.Checks.{no_group, not_leader}
 use Rattle.broker_state.specs.Batches.{append_fault, appended}
-use Rattle.group_requests.specs.GroupPartition.{no_group, group_content, with_group_content}
+use Rattle.group_requests.specs.GroupPartition.{group_content, with_group_content}
 
 abbrev pub is_within_limit : BatchValue → Bool
 is_within_limit b = nat_le (length (batch_encoding b)) MAX_BATCH_BYTES

@@ -19,9 +19,9 @@ use Rattle.answering.specs.Work.{Work}
 use Rattle.answering.specs.Plans.{Plan}
 use Rattle.broker_state.specs.Codes.{append_code}
 use Rattle.broker_state.specs.State.{State}
-use Rattle.broker_state.specs.Checks.{unknown, not_leader}
+use Rattle.broker_state.specs.Checks.{no_group, unknown, not_leader}
 use Rattle.broker_state.specs.Batches.{append_fault, appended}
-use Rattle.group_requests.specs.GroupPartition.{no_group, group_content, with_group_content}
+use Rattle.group_requests.specs.GroupPartition.{group_content, with_group_content}
 use Rattle.group_requests.specs.declared.offset_commit.TheConstants.{MAX_METADATA_BYTES}
 
 -- ---- an entry

@@ -19,8 +19,8 @@ use Rattle.answering.specs.Codes.{no_error, code_number}
 use Rattle.answering.specs.Work.{Work}
 use Rattle.answering.specs.Plans.{Plan}
 use Rattle.broker_state.specs.State.{State}
-use Rattle.broker_state.specs.Checks.{unknown}
-use Rattle.group_requests.specs.GroupPartition.{no_group, group_content}
+use Rattle.broker_state.specs.Checks.{no_group, unknown}
+use Rattle.group_requests.specs.GroupPartition.{group_content}
 use Rattle.group_requests.specs.declared.offset_fetch.TheConstants.{MAX_FETCHED_OFFSETS}
 
 -- ---- an entry

@@ -10,8 +10,8 @@ ghost use Rattle.answering.specs.Work.{MayAnswer};
 ghost use Rattle.answering.specs.Doing.{DoesWork};
 ghost use Rattle.answering.specs.Once.{WritesOnce};
 ghost use Rattle.broker_state.specs.declared.config.Role.TheVariants.{Leader};
-ghost use Rattle.broker_state.specs.Checks.{not_leader};
-ghost use Rattle.group_requests.specs.GroupPartition.{no_group, group_content};
+ghost use Rattle.broker_state.specs.Checks.{no_group, not_leader};
+ghost use Rattle.group_requests.specs.GroupPartition.{group_content};
 ghost use Rattle.group_requests.specs.ForgetGroup.{forget_group_work, forget_group_sent};
 ghost use Rattle.group_requests.specs.ForgetGroup.Entries.{IsBatchOf, AppendsCounted, ForgetsKeys, forgotten_answer};
 

@@ -4,7 +4,7 @@ use Rattle.std.specs.Ordering.{int_eq}
 use Rattle.std.proofs.lemmas.Int.{ints}
 use Rattle.std.proofs.lemmas.Option.{same_Some}
 use Rattle.request_frames.specs.declared.api.Api.{Api}
-use Rattle.request_frames.specs.declared.api.Api.TheVariants.{Produce, Fetch, ListOffsets, Metadata, OffsetCommit, OffsetFetch, Deliver, Clean, Export, ExportDelta, Import, ImportDelta, Get, Cover, ForgetGroup, Trim}
+use Rattle.request_frames.specs.declared.api.Api.TheVariants.{Produce, Fetch, ListOffsets, Metadata, OffsetCommit, OffsetFetch, FindCoordinator, ApiVersions, InitProducerId, Deliver, Clean, Export, ExportDelta, Import, ImportDelta, Get, Cover, ForgetGroup, Trim}
 use Rattle.frame_fields.specs.declared.error.FrameError.{FrameError}
 use Rattle.frame_fields.specs.declared.error.FrameError.TheVariants.{BadVersion}
 use Rattle.request_frames.specs.Apis.{api_key, api_version, other_version, IsNoApi}
@@ -21,6 +21,9 @@ api_of_key key =
     with_key key Metadata (
     with_key key OffsetCommit (
     with_key key OffsetFetch (
+    with_key key FindCoordinator (
+    with_key key ApiVersions (
+    with_key key InitProducerId (
     with_key key Deliver (
     with_key key Clean (
     with_key key Export (
@@ -28,7 +31,7 @@ api_of_key key =
     with_key key Get (
     with_key key Cover (
     with_key key ForgetGroup (
-    with_key key Trim None)))))))))))))
+    with_key key Trim None))))))))))))))))
 
 -- the request of the same key, of two versions the lesser
 abbrev pub oldest : Api → Api
@@ -49,6 +52,9 @@ key_finds ListOffsets = refl
 key_finds Metadata = refl
 key_finds OffsetCommit = refl
 key_finds OffsetFetch = refl
+key_finds FindCoordinator = refl
+key_finds ApiVersions = refl
+key_finds InitProducerId = refl
 key_finds Deliver = refl
 key_finds Clean = refl
 key_finds Export = refl
@@ -67,6 +73,9 @@ one_of_two ListOffsets = inl refl
 one_of_two Metadata = inl refl
 one_of_two OffsetCommit = inl refl
 one_of_two OffsetFetch = inl refl
+one_of_two FindCoordinator = inl refl
+one_of_two ApiVersions = inl refl
+one_of_two InitProducerId = inl refl
 one_of_two Deliver = inl refl
 one_of_two Clean = inl refl
 one_of_two Export = inl refl
@@ -106,6 +115,9 @@ no_key key other =
     not_this key Metadata _ (other Metadata) (
     not_this key OffsetCommit _ (other OffsetCommit) (
     not_this key OffsetFetch _ (other OffsetFetch) (
+    not_this key FindCoordinator _ (other FindCoordinator) (
+    not_this key ApiVersions _ (other ApiVersions) (
+    not_this key InitProducerId _ (other InitProducerId) (
     not_this key Deliver _ (other Deliver) (
     not_this key Clean _ (other Clean) (
     not_this key Export _ (other Export) (
@@ -113,7 +125,7 @@ no_key key other =
     not_this key Get _ (other Get) (
     not_this key Cover _ (other Cover) (
     not_this key ForgetGroup _ (other ForgetGroup) (
-    not_this key Trim _ (other Trim) refl)))))))))))))
+    not_this key Trim _ (other Trim) refl))))))))))))))))
 
 no_version_of : (version : ℤ) (known api : Api) → version ≢ api_version known → version ≢ api_version (other_version known) → (api ≡ known) ⊎ (api ≡ other_version known)
     → version ≢ api_version api

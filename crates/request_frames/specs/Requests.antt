@@ -1,21 +1,24 @@
 -- The requests that are read: their fields, what they say, and which frames are refused. Kafka's documentation,
 -- "Protocol Guide", sections "Request Header" and "The Messages".
-use Rattle.std.specs.Prelude.{◌≡◌, ℕ, ◌<◌, ◌≤◌, ℤ, List, [], length, drop, Option}
+use Rattle.std.specs.Prelude.{◌≡◌, ◌⊎◌, true, false, ℕ, ◌<◌, ◌≤◌, ℤ, List, [], length, drop, Option}
 use Rattle.request_frames.specs.declared.api.Api.{Api}
-use Rattle.request_frames.specs.declared.api.Api.TheVariants.{Produce, Fetch, ListOffsets, Metadata, OffsetCommit, OffsetFetch, Deliver, Clean, Export, ExportDelta, Import, ImportDelta, Get, Cover, ForgetGroup, Trim}
+use Rattle.request_frames.specs.declared.api.Api.TheVariants.{Produce, Fetch, ListOffsets, Metadata, OffsetCommit, OffsetFetch, FindCoordinator, ApiVersions, InitProducerId, Deliver, Clean, Export, ExportDelta, Import, ImportDelta, Get, Cover, ForgetGroup, Trim}
 use Rattle.frame_fields.specs.declared.error.FieldFault.{FieldFault}
 use Rattle.frame_fields.specs.declared.error.FieldFault.TheVariants as field
 use Rattle.frame_fields.specs.declared.error.FrameError.{FrameError}
 use Rattle.frame_fields.specs.declared.error.FrameError.TheVariants as frame
 use Rattle.frame_fields.specs.Fields.{size16, size32, Fields, Value, number_at, Encodes, Breaks}
 use Rattle.frame_fields.specs.Types.{nullable_string, TopicOf, ◌⨾◌}
-use Rattle.request_frames.specs.Apis.{IsApi, IsNoApi}
+use Rattle.request_frames.specs.Apis.{is_unread, IsApi, IsNoApi}
 use Rattle.request_frames.specs.Produce.{ProduceValue, produce_fields, produce_request}
 use Rattle.request_frames.specs.Fetch.{FetchValue, fetch_fields, fetch_request}
 use Rattle.request_frames.specs.ListOffsets.{ListOffsetsPartitionValue, list_offsets_fields, list_offsets_request}
 use Rattle.request_frames.specs.Metadata.{metadata_fields, metadata_request}
 use Rattle.request_frames.specs.OffsetCommit.{OffsetCommitValue, offset_commit_fields, offset_commit_request}
 use Rattle.request_frames.specs.OffsetFetch.{OffsetFetchValue, offset_fetch_fields, offset_fetch_request}
+use Rattle.request_frames.specs.FindCoordinator.{find_coordinator_fields, find_coordinator_request}
+use Rattle.request_frames.specs.ApiVersions.{api_versions_fields, api_versions_request}
+use Rattle.request_frames.specs.InitProducerId.{init_producer_id_fields, init_producer_id_request}
 use Rattle.request_frames.specs.Deliver.{DeliverValue, deliver_fields, deliver_request}
 use Rattle.request_frames.specs.Clean.{CleanValue, clean_fields, clean_request}
 use Rattle.request_frames.specs.Export.{ExportValue, export_fields, export_request}
@@ -37,6 +40,9 @@ fields_of ListOffsets = list_offsets_fields
 fields_of Metadata = metadata_fields
 fields_of OffsetCommit = offset_commit_fields
 fields_of OffsetFetch = offset_fetch_fields
+fields_of FindCoordinator = find_coordinator_fields
+fields_of ApiVersions = api_versions_fields
+fields_of InitProducerId = init_producer_id_fields
 fields_of Deliver = deliver_fields
 fields_of Clean = clean_fields
 fields_of Export = export_fields
@@ -50,6 +56,7 @@ fields_of Trim = trim_fields
 
 -- ---- what requests say
 
+-- api_versions has the version in which it is asked, find_coordinator the group, init_producer_id the transactional id
 pub data BodyValue : Type 0 where
   produce : ProduceValue → BodyValue
   fetch : FetchValue → BodyValue
@@ -57,6 +64,9 @@ pub data BodyValue : Type 0 where
   metadata : Option (List (List ℕ)) → BodyValue
   offset_commit : OffsetCommitValue → BodyValue
   offset_fetch : OffsetFetchValue → BodyValue
+  find_coordinator : List ℕ → BodyValue
+  api_versions : ℤ → BodyValue
+  init_producer_id : Option (List ℕ) → BodyValue
   deliver : DeliverValue → BodyValue
   clean : CleanValue → BodyValue
   export : ExportValue → BodyValue
@@ -79,6 +89,9 @@ body_value ListOffsets v = list_offsets (list_offsets_request v)
 body_value Metadata v = metadata (metadata_request v)
 body_value OffsetCommit v = offset_commit (offset_commit_request v)
 body_value OffsetFetch v = offset_fetch (offset_fetch_request v)
+body_value FindCoordinator v = find_coordinator (find_coordinator_request v)
+body_value ApiVersions v = api_versions (api_versions_request v)
+body_value InitProducerId v = init_producer_id (init_producer_id_request v)
 body_value Deliver v = deliver (deliver_request v)
 body_value Clean v = clean (clean_request v)
 body_value Export v = export (export_request v)
@@ -115,10 +128,22 @@ pub record IsOf (api : Api) (frame : List ℕ) : Type 0 where
   pub has_api : IsApi (key_of frame) (version_of frame) api
 
 -- the frame is the encoding of the request; what isn't used may be anything
-abbrev pub IsRequest : List ℕ → RequestValue → Type 0
-IsRequest bytes q =
+abbrev pub IsReadRequest : List ℕ → RequestValue → Type 0
+IsReadRequest bytes q =
     (api : Api) × IsOf api bytes × (v : Value (body_fields api)) × Encodes (body_fields api) v (body_of bytes) []
     × (q ≡ record { correlation = correlation_of bytes; body = body_value api v.1 })
+
+-- ApiVersions in a version that isn't read: what stands behind the correlation id may be anything. Kafka's documentation,
+-- "Protocol Guide", section "Retrieving Supported API versions".
+pub record IsUnread (frame : List ℕ) : Type 0 where
+  pub has_header : 8 ≤ length frame
+  pub is_unread : is_unread (key_of frame) (version_of frame) ≡ true
+
+abbrev pub unread_request : List ℕ → RequestValue
+unread_request frame = record { correlation = correlation_of frame; body = api_versions (version_of frame) }
+
+abbrev pub IsRequest : List ℕ → RequestValue → Type 0
+IsRequest bytes q = IsReadRequest bytes q ⊎ IsUnread bytes × (q ≡ unread_request bytes)
 
 abbrev pub HasFault : FieldFault → List ℕ → Type 0
 HasFault e bytes = (api : Api) × IsOf api bytes × Breaks (body_fields api) e (body_of bytes)
@@ -129,7 +154,9 @@ IsRefused frame.NegativeSize bytes = ⊥
 IsRefused frame.TooLarge bytes = ⊥
 IsRefused frame.ShortHeader bytes = length bytes < 8
 IsRefused frame.UnknownApi bytes = (8 ≤ length bytes) × IsNoApi (key_of bytes) (version_of bytes) frame.UnknownApi
-IsRefused frame.BadVersion bytes = (8 ≤ length bytes) × IsNoApi (key_of bytes) (version_of bytes) frame.BadVersion
+IsRefused frame.BadVersion bytes =
+    (8 ≤ length bytes) × IsNoApi (key_of bytes) (version_of bytes) frame.BadVersion
+    × (is_unread (key_of bytes) (version_of bytes) ≡ false)
 IsRefused frame.ShortBody bytes = HasFault field.ShortBody bytes
 IsRefused frame.Malformed bytes = HasFault field.Malformed bytes
 IsRefused frame.TrailingBytes bytes =

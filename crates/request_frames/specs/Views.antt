@@ -10,6 +10,9 @@ use Rattle.request_frames.specs.ListOffsets.{list_offsets_view}
 use Rattle.request_frames.specs.Metadata.{metadata_view}
 use Rattle.request_frames.specs.OffsetCommit.{offset_commit_view}
 use Rattle.request_frames.specs.OffsetFetch.{offset_fetch_view}
+use Rattle.request_frames.specs.FindCoordinator.{find_coordinator_view}
+use Rattle.request_frames.specs.ApiVersions.{api_versions_view}
+use Rattle.request_frames.specs.InitProducerId.{init_producer_id_view}
 use Rattle.request_frames.specs.Deliver.{deliver_view}
 use Rattle.request_frames.specs.Clean.{clean_view}
 use Rattle.request_frames.specs.Export.{export_view}
@@ -20,7 +23,7 @@ use Rattle.request_frames.specs.Get.{get_view}
 use Rattle.request_frames.specs.Cover.{cover_view}
 use Rattle.request_frames.specs.ForgetGroup.{forget_group_view}
 use Rattle.request_frames.specs.Trim.{trim_view}
-use Rattle.request_frames.specs.Requests.BodyValue.{produce, fetch, list_offsets, metadata, offset_commit, offset_fetch, deliver, clean, export, export_delta, import, import_delta, get, cover, forget_group, trim}
+use Rattle.request_frames.specs.Requests.BodyValue.{produce, fetch, list_offsets, metadata, offset_commit, offset_fetch, find_coordinator, api_versions, init_producer_id, deliver, clean, export, export_delta, import, import_delta, get, cover, forget_group, trim}
 use Rattle.request_frames.specs.Requests.{BodyValue, RequestValue, key_of, version_of, correlation_of}
 
 abbrev pub request_body : RequestBody → BodyValue
@@ -30,6 +33,9 @@ request_body (variants.ListOffsets r) = list_offsets (list_offsets_view r)
 request_body (variants.Metadata r) = metadata (metadata_view r)
 request_body (variants.OffsetCommit r) = offset_commit (offset_commit_view r)
 request_body (variants.OffsetFetch r) = offset_fetch (offset_fetch_view r)
+request_body (variants.FindCoordinator r) = find_coordinator (find_coordinator_view r)
+request_body (variants.ApiVersions r) = api_versions (api_versions_view r)
+request_body (variants.InitProducerId r) = init_producer_id (init_producer_id_view r)
 request_body (variants.Deliver r) = deliver (deliver_view r)
 request_body (variants.Clean r) = clean (clean_view r)
 request_body (variants.Export r) = export (export_view r)

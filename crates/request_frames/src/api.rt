@@ -1,7 +1,7 @@
 //! Which request a frame is.
 
 ghost use Rattle.std.specs.Prelude.{◌≡◌, ◌≢◌, IfSome, IfNone, IfOk, IfErr};
-ghost use Rattle.request_frames.specs.Apis.{api_key, api_version, other_version, IsApi, IsNoApi};
+ghost use Rattle.request_frames.specs.Apis.{api_key, api_version, other_version, listed_apis, IsApi, IsNoApi};
 
 use frame_fields::FrameError;
 
@@ -20,6 +20,12 @@ pub enum Api {
     OffsetCommit,
     /// OffsetFetch, version 1.
     OffsetFetch,
+    /// FindCoordinator, version 0.
+    FindCoordinator,
+    /// ApiVersions, version 0.
+    ApiVersions,
+    /// InitProducerId, version 0.
+    InitProducerId,
     /// Deliver, version 0.
     Deliver,
     /// Clean, version 0.
@@ -42,7 +48,27 @@ pub enum Api {
     Trim,
 }
 
+/// How many requests a client is told of.
+pub const LISTED_API_COUNT: usize = 9;
+
 impl Api {
+    /// The requests of Kafka's own, by rising key: those that a client is told of.
+    pub fn listed() -> [Api; LISTED_API_COUNT]
+        ensures { result ≡ listed_apis }
+    {
+        [
+            Api::Produce,
+            Api::Fetch,
+            Api::ListOffsets,
+            Api::Metadata,
+            Api::OffsetCommit,
+            Api::OffsetFetch,
+            Api::FindCoordinator,
+            Api::ApiVersions,
+            Api::InitProducerId,
+        ]
+    }
+
     /// The api key.
     pub fn key(self) -> i16
         ensures { result ≡ api_key self }
@@ -54,6 +80,9 @@ impl Api {
             Api::Metadata => 3,
             Api::OffsetCommit => 8,
             Api::OffsetFetch => 9,
+            Api::FindCoordinator => 10,
+            Api::ApiVersions => 18,
+            Api::InitProducerId => 22,
             Api::Deliver => 20_000,
             Api::Clean => 20_001,
             Api::Export => 20_002,
@@ -78,6 +107,9 @@ impl Api {
             Api::Metadata => 1,
             Api::OffsetCommit => 2,
             Api::OffsetFetch => 1,
+            Api::FindCoordinator => 0,
+            Api::ApiVersions => 0,
+            Api::InitProducerId => 0,
             Api::Deliver => 0,
             Api::Clean => 0,
             Api::Export => 0,
@@ -103,6 +135,9 @@ impl Api {
             3 => Some(Api::Metadata),
             8 => Some(Api::OffsetCommit),
             9 => Some(Api::OffsetFetch),
+            10 => Some(Api::FindCoordinator),
+            18 => Some(Api::ApiVersions),
+            22 => Some(Api::InitProducerId),
             20_000 => Some(Api::Deliver),
             20_001 => Some(Api::Clean),
             20_002 => Some(Api::Export),

@@ -3,16 +3,19 @@
 #![tactic(auto)]
 
 mod api;
+mod api_versions;
 mod clean;
 mod cover;
 mod deliver;
 mod export;
 mod export_delta;
 mod fetch;
+mod find_coordinator;
 mod forget_group;
 mod get;
 mod import;
 mod import_delta;
+mod init_producer_id;
 mod laws;
 mod list_offsets;
 mod metadata;
@@ -22,13 +25,15 @@ mod parsing;
 mod produce;
 mod trim;
 
-pub use api::Api;
+pub use api::{Api, LISTED_API_COUNT};
+pub use api_versions::ApiVersionsRequest;
 pub use clean::CleanRequest;
 pub use cover::CoverRequest;
 pub use deliver::DeliverRequest;
 pub use export::ExportRequest;
 pub use export_delta::{AskedRange, ExportDeltaRequest};
 pub use fetch::{FetchPartition, FetchRequest};
+pub use find_coordinator::FindCoordinatorRequest;
 pub use forget_group::ForgetGroupRequest;
 pub use frame_fields::{
     Array, Element, FieldFault, FrameError, MAX_FRAME, MAX_TOPIC_NAME, Name, Topic, Topics,
@@ -37,6 +42,7 @@ pub use frame_fields::{
 pub use get::GetRequest;
 pub use import::ImportRequest;
 pub use import_delta::ImportDeltaRequest;
+pub use init_producer_id::InitProducerIdRequest;
 pub use laws::one_outcome;
 pub use list_offsets::{ListOffsetsPartition, ListOffsetsRequest};
 pub use metadata::MetadataRequest;

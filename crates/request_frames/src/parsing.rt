@@ -2,21 +2,26 @@
 
 ghost use Rattle.std.specs.Prelude.{◌≡◌, ◌<◌, ◌≤◌, drop, length, IfOk, IfErr, IfSome, IfNone};
 ghost use Rattle.frame_fields.specs.Reading.{Gives};
+ghost use Rattle.request_frames.specs.Apis.{is_unread};
 ghost use Rattle.request_frames.specs.Bodies.{read_body, read_request};
+ghost use Rattle.request_frames.specs.Requests.BodyValue.{api_versions};
 ghost use Rattle.request_frames.specs.Requests.{fields_of, body_fields, body_value, body_of, key_of, version_of, correlation_of, IsOf, IsRequest, IsRefused};
 ghost use Rattle.request_frames.specs.Views.{request_body, request_value, IsHeaderOf};
 
 use crate::api::Api;
+use crate::api_versions::{ApiVersionsRequest, api_versions_at};
 use crate::clean::{CleanRequest, clean_at};
 use crate::cover::{CoverRequest, cover_at};
 use crate::deliver::{DeliverRequest, deliver_at};
 use crate::export::{ExportRequest, export_at};
 use crate::export_delta::{ExportDeltaRequest, export_delta_at};
 use crate::fetch::{FetchRequest, fetch_at};
+use crate::find_coordinator::{FindCoordinatorRequest, find_coordinator_at};
 use crate::forget_group::{ForgetGroupRequest, forget_group_at};
 use crate::get::{GetRequest, get_at};
 use crate::import::{ImportRequest, import_at};
 use crate::import_delta::{ImportDeltaRequest, import_delta_at};
+use crate::init_producer_id::{InitProducerIdRequest, init_producer_id_at};
 use crate::list_offsets::{ListOffsetsRequest, list_offsets_at};
 use crate::metadata::{MetadataRequest, metadata_at};
 use crate::offset_commit::{OffsetCommitRequest, offset_commit_at};
@@ -50,6 +55,12 @@ pub enum RequestBody<'a> {
     OffsetCommit(OffsetCommitRequest<'a>),
     /// The offsets that a group has committed are wanted.
     OffsetFetch(OffsetFetchRequest<'a>),
+    /// The coordinator of a group is wanted.
+    FindCoordinator(FindCoordinatorRequest<'a>),
+    /// The requests that are answered are wanted, with their versions.
+    ApiVersions(ApiVersionsRequest),
+    /// A producer wants an id.
+    InitProducerId(InitProducerIdRequest<'a>),
     /// A record batch is to be put into a copy.
     Deliver(DeliverRequest<'a>),
     /// A copy is to be compacted.
@@ -92,6 +103,25 @@ fn header_at(frame: &[u8]) -> Option<Header>
     })
 }
 
+/// Whether a frame is ApiVersions in a version that isn't read.
+fn is_unread(header: Header) -> bool
+    ensures { result ≡ is_unread header.key header.version }
+{
+    header.key == Api::ApiVersions.key() && header.version != Api::ApiVersions.version()
+}
+
+/// The ApiVersions request of which nothing but the header is read.
+fn unread_request<'a>(header: Header) -> Request<'a>
+    ensures { request_value result
+        ≡ record { correlation = header.correlation; body = api_versions header.version } }
+{
+    let version = header.version;
+    Request {
+        correlation: header.correlation,
+        body: RequestBody::ApiVersions(ApiVersionsRequest { version }),
+    }
+}
+
 /// What a request asks, and the bytes after its fields.
 fn body_at(api: Api, bytes: &[u8]) -> Result<(RequestBody<'_>, &[u8]), FieldFault>
     ensures { Gives (λ x. (request_body x.0, x.1.now)) result
@@ -104,6 +134,9 @@ fn body_at(api: Api, bytes: &[u8]) -> Result<(RequestBody<'_>, &[u8]), FieldFaul
         Api::Metadata => metadata_at(bytes),
         Api::OffsetCommit => offset_commit_at(bytes),
         Api::OffsetFetch => offset_fetch_at(bytes),
+        Api::FindCoordinator => find_coordinator_at(bytes),
+        Api::ApiVersions => api_versions_at(bytes),
+        Api::InitProducerId => init_producer_id_at(bytes),
         Api::Deliver => deliver_at(bytes),
         Api::Clean => clean_at(bytes),
         Api::Export => export_at(bytes),
@@ -154,8 +187,9 @@ fn request_after<'a>(api: Api, correlation: i32, frame: &'a [u8]) -> Result<Requ
 ///
 /// # Errors
 ///
-/// In this order: `ShortHeader` under 8 bytes, `UnknownApi` for another api key, `BadVersion` for
-/// another version of it; then from the left, whichever comes first, `ShortBody` where the frame ends
+/// In this order: `ShortHeader` under 8 bytes; `UnknownApi` for another api key; `BadVersion` for another
+/// version of it, but never for ApiVersions, which in a version other than 0 is a request whatever follows
+/// its first 8 bytes; then from the left, whichever comes first, `ShortBody` where the frame ends
 /// inside a field and `Malformed` where a length or a count is below what its type allows;
 /// `TrailingBytes` where bytes are left after the last field. No other.
 pub fn parse(frame: &[u8]) -> Result<Request<'_>, FrameError>
@@ -165,6 +199,9 @@ pub fn parse(frame: &[u8]) -> Result<Request<'_>, FrameError>
     let Some(header) = header_at(frame) else {
         return Err(FrameError::ShortHeader);
     };
+    if is_unread(header) {
+        return Ok(unread_request(header));
+    }
     let api = Api::find(header.key, header.version)?;
     request_after(api, header.correlation, frame)
 }

@@ -8,3 +8,5 @@ pub mod OffsetFetchParts
 pub mod CoverParts
 mod BytesBehindHeads
 mod MetadataHead
+mod ApiVersionsParts
+mod FindCoordinatorParts

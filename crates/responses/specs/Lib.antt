@@ -5,6 +5,9 @@ pub mod ListOffsets
 pub mod Metadata
 pub mod OffsetCommit
 pub mod OffsetFetch
+pub mod FindCoordinator
+pub mod ApiVersions
+pub mod InitProducerId
 pub mod Deliver
 pub mod Clean
 pub mod Export

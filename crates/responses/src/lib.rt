@@ -19,14 +19,17 @@
 //! body above the limits below has a length that can't be read again.
 #![tactic(auto)]
 
+pub mod api_versions;
 pub mod clean;
 pub mod cover;
 pub mod deliver;
 pub mod export;
 pub mod fetch;
+pub mod find_coordinator;
 pub mod forget_group;
 pub mod get;
 pub mod import;
+pub mod init_producer_id;
 pub mod laws;
 pub mod list_offsets;
 pub mod metadata;

@@ -30,6 +30,9 @@ other_host is = absurd cc
 other_many : config.TooManyTopics ≢ config.OutOfMemory
 other_many is = absurd cc
 
+other_producer : config.BadFirstProducer ≢ config.OutOfMemory
+other_producer is = absurd cc
+
 other_topic : config.BadTopic ≢ config.OutOfMemory
 other_topic is = absurd cc
 
@@ -48,6 +51,7 @@ pub refused_config : (k : ConfigValue) (why : ConfigError) (n : ℕ) → ConfigF
 refused_config k config.OutOfMemory n fault memory other = (λ _. apart n (memory refl), λ faulty. absurd (faulty fault))
 refused_config k config.BadHost n fault memory other = faulty_config k config.BadHost n fault (other other_host)
 refused_config k config.TooManyTopics n fault memory other = faulty_config k config.TooManyTopics n fault (other other_many)
+refused_config k config.BadFirstProducer n fault memory other = faulty_config k config.BadFirstProducer n fault (other other_producer)
 refused_config k config.BadTopic n fault memory other = faulty_config k config.BadTopic n fault (other other_topic)
 refused_config k config.BadPartitions n fault memory other = faulty_config k config.BadPartitions n fault (other other_partitions)
 refused_config k config.TopicTwice n fault memory other = faulty_config k config.TopicTwice n fault (other other_twice)

@@ -1,7 +1,8 @@
 -- Lemmas on the program's arguments.
 use Rattle.std.proofs.Common.{◌≡◌, ◌≢◌, ◌≤◌, arith, true, List, [], ◌∷◌, map, ap, refl, sym, subst, inl, inr, false, bytes_eq, ◌∙◌, codes, Option, Some, None}
-use Rattle.std.specs.Prelude.{ℕ, ⊤, ◌⊎◌, option_map, unwrap_or, MatchOption, Result, Ok, Err}
-use Rattle.std.specs.Str.Parse.{ParsesUnsigned}
+use Rattle.std.specs.Prelude.{ℕ, ℤ, pos, ◌⊎◌, option_map, unwrap_or, MatchOption, Result, Ok, Err}
+use Rattle.std.specs.Int.{w64}
+use Rattle.std.specs.Str.Parse.{ParsesUnsigned, ParsesSigned}
 use Rattle.std.specs.Borrow.{Bor}
 use Rattle.std.proofs.lemmas.Option.{none-some, same_Some}
 use Rattle.clap.specs.Words.{App, IsAmong, Kinds, Row, Text, first_value, first_of, all_of, raw_values, matched_of, rows_of, fault_of, subcommand_of, subcommand_rows_of, subcommand_name_of, is_simple, is_simple_and_free, kind_of, HasKind, HasMatchesOf, ReadsOne}
@@ -21,7 +22,7 @@ use Rattle.clap.specs.declared.parser.matches.Found.{Found}
 use Rattle.clap.specs.declared.parser.matches.ArgMatches.{ArgMatches}
 use Rattle.clap.proofs.OnLiterals.{clap_on_literals}
 use Rattle.clap.proofs.WalkLemmas.{first_value-rows, raw_values-rows}
-use Rattle.tcp_edge.specs.CommandLine.{kbroker, AsksForHelp, AsksForTable, AsksForMerge, Finds, HasMistake, Names, NamesReplay, NamesSession, Roles, Stops, IsConfigOf, IsRoles, HasTopics, IsNumberOf, IsPort, topic_words}
+use Rattle.tcp_edge.specs.CommandLine.{kbroker, AsksForHelp, AsksForTable, AsksForMerge, Finds, HasMistake, Names, NamesReplay, NamesSession, Roles, Stops, IsConfigOf, IsRoles, HasTopics, IsNumberOf, IsSignedOf, IsPort, topic_words}
 
 -- ---- the table
 
@@ -122,6 +123,14 @@ pub number_read : (E : Type 0) (G : List ℕ → Result ℕ E → Type 0) (bits 
 number_read E G bits None r parses none value = ap (λ (n : Option ℕ). unwrap_or n 0) (none refl)
 number_read E G bits (Some word) None parses none value = let read = value word refl in inr (parses word (Err read.0) read.1, refl)
 number_read E G bits (Some word) (Some n) parses none value = inl (parses word (Ok n) (value word refl))
+
+-- and so is a number that may have a sign
+pub signed_read : (E : Type 0) (G : List ℕ → Result ℤ E → Type 0) (o : Option Text) (r : Option ℤ)
+    → ((word : Text) (x : Result ℤ E) → G word x → ParsesSigned w64 10 word x)
+    → (o ≡ None → r ≡ None) → ((word : Text) → o ≡ Some word → ReadsOne G word r) → IsSignedOf o (unwrap_or r (pos 0))
+signed_read E G None r parses none value = ap (λ (z : Option ℤ). unwrap_or z (pos 0)) (none refl)
+signed_read E G (Some word) None parses none value = let read = value word refl in inr (parses word (Err read.0) read.1, refl)
+signed_read E G (Some word) (Some z) parses none value = inl (parses word (Ok z) (value word refl))
 
 -- ---- faults
 

@@ -1,8 +1,9 @@
 -- What the program can be asked for on its command line, in the words of clap.
-use Rattle.std.specs.Prelude.{◌≡◌, ◌≢◌, ◌⊎◌, ℕ, ◌<◌, ◌^◌, pos, true, false, if◌then◌else◌, List, [], ◌∷◌, ◌++◌, Option, Some, None, codes, map, bytes_eq, unwrap_or, ⊤}
+use Rattle.std.specs.Prelude.{◌≡◌, ◌≢◌, ◌⊎◌, ℕ, ℤ, ◌<◌, ◌^◌, pos, FitsSigned, true, false, if◌then◌else◌, List, [], ◌∷◌, ◌++◌, Option, Some, None, codes, map, bytes_eq, unwrap_or, ⊤}
 use Rattle.std.specs.Borrow.{Bor}
 use Rattle.std.specs.Option.{option_map_or}
-use Rattle.std.specs.Str.Parse.{IsNumeral, digits_value, without_leading_plus}
+use Rattle.std.specs.Int.{w64}
+use Rattle.std.specs.Str.Parse.{IsNumeral, digits_value, signed_digits_value, without_leading_plus, without_leading_sign}
 use Rattle.broker_state.specs.State.{ConfigValue, TopicConfig}
 use Rattle.broker_state.specs.declared.config.Role.{Role}
 use Rattle.broker_state.specs.declared.config.Role.TheVariants.{Leader, Follower}
@@ -27,6 +28,12 @@ Roles = Bor (List (Bor Text))
 abbrev pub role_rule : Roles → Rule
 role_rule roles = record (option_rule (codes "role") (parsers.Names roles)) { defaults = codes "leader" ∷ [] }
 
+-- `--first-producer N`, from 0 to the greatest number of `i64`; 0 where it isn't given
+abbrev pub first_producer_rule : Rule
+first_producer_rule = record (option_rule (codes "first-producer") (parsers.Signed (pos 0) (pos 9223372036854775807))) {
+  defaults = codes "0" ∷ [];
+}
+
 abbrev pub port_rule : Rule
 port_rule = record (option_rule (codes "port") (parsers.Signed (pos 0) (pos 65535))) { required = true }
 
@@ -44,11 +51,12 @@ topics_rule = record (new_rule (codes "topics")) {
 -- ---- commands
 
 abbrev pub session_app : Roles → App
-session_app roles = with_rule (with_rule (new_app (codes "session")) (role_rule roles)) topics_rule
+session_app roles = with_rule (with_rule (with_rule (new_app (codes "session"))
+    (role_rule roles)) first_producer_rule) topics_rule
 
 abbrev pub serve_app : Roles → App
-serve_app roles = with_rule (with_rule (with_rule (with_rule (new_app (codes "serve"))
-    port_rule) (role_rule roles)) connections_rule) topics_rule
+serve_app roles = with_rule (with_rule (with_rule (with_rule (with_rule (new_app (codes "serve"))
+    port_rule) (role_rule roles)) first_producer_rule) connections_rule) topics_rule
 
 -- added to a command, it is a subcommand with these rules
 abbrev pub IsSubcommand : App → Command → Type 0
@@ -148,6 +156,19 @@ IsPort rows port = IsNumberOf 16 (one_of (codes "port") rows) port
 abbrev pub IsConnections : List Row → ℕ → Type 0
 IsConnections rows count = IsNumberOf 32 (one_of (codes "connections") rows) count
 
+-- decimal digits, behind a sign or not, of a number of `i64`
+abbrev pub SaysSigned : Text → Type 0
+SaysSigned word = IsNumeral 10 (without_leading_sign word) × FitsSigned w64 (signed_digits_value 10 word)
+
+-- the number of `i64` that the value of an argument says, if there is one and it says one, and else 0
+abbrev pub IsSignedOf : Option Text → ℤ → Type 0
+IsSignedOf None z = z ≡ pos 0
+IsSignedOf (Some word) z = (SaysSigned word × (z ≡ signed_digits_value 10 word)) ⊎ (¬ SaysSigned word × (z ≡ pos 0))
+
+-- the producer id that the broker gives out first
+abbrev pub IsFirstProducer : List Row → ℤ → Type 0
+IsFirstProducer rows id = IsSignedOf (one_of (codes "first-producer") rows) id
+
 -- the program's broker, at a port
 pub record IsConfigOf (rows : List Row) (port : ℕ) (g : ConfigValue) : Type 0 where
   pub role : g.role ≡ role_of rows
@@ -155,6 +176,7 @@ pub record IsConfigOf (rows : List Row) (port : ℕ) (g : ConfigValue) : Type 0 
   pub host : g.host ≡ codes "127.0.0.1"
   pub port_is : g.port ≡ port
   pub topics : AreTopics (topic_words rows) g.topics
+  pub first_producer : IsFirstProducer rows g.first_producer
 
 -- the same broker at another port
 abbrev pub at_port : ConfigValue → ℕ → ConfigValue

@@ -5,7 +5,7 @@ ghost use Rattle.std.specs.Bool.{MatchBool};
 ghost use Rattle.broker_state.specs.ConfigValues.{config_value};
 ghost use Rattle.clap.specs.Words.{Kinds, Row, Text, found_of, rows_of, subcommand_name_of, subcommand_rows_of};
 ghost use Rattle.tcp_edge.specs.Asked.{IfNamed, IsAsked, IsConfigFault, IsFaulty, IsListener, IsOutOfMemory, IsOptionsOf, IsStop};
-ghost use Rattle.tcp_edge.specs.CommandLine.{Finds, IsConfigOf, IsConnections, IsPort, Names, Stops, role_of, topic_words};
+ghost use Rattle.tcp_edge.specs.CommandLine.{Finds, IsConfigOf, IsConnections, IsFirstProducer, IsPort, Names, Stops, role_of, topic_words};
 
 use crate::commands::command;
 use crate::topics::topics_of;
@@ -102,6 +102,13 @@ fn role_of(matches: &ArgMatches<'_>) -> Role
     }
 }
 
+/// The producer id that the broker gives out first; 0 where there is none in the matches.
+fn first_producer_of(matches: &ArgMatches<'_>) -> i64
+    ensures { IsFirstProducer (rows_of (found_of matches.now)) result }
+{
+    matches.get_one::<i64>("first-producer").unwrap_or(0)
+}
+
 /// The configuration of a broker at a port.
 fn config_of(
     alloc: Global,
@@ -119,6 +126,7 @@ fn config_of(
         host: String::from_str(alloc, HOST)?,
         port,
         topics: topics_of(alloc, arguments)?,
+        first_producer: first_producer_of(matches),
     })
 }
 

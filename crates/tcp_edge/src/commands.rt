@@ -2,7 +2,7 @@
 
 ghost use Rattle.std.specs.Prelude.{◌≡◌, [], IfOk, codes, false};
 ghost use Rattle.clap.specs.Words.{App, app_of, new_app, rule_of, with_subcommand};
-ghost use Rattle.tcp_edge.specs.CommandLine.{IsRoles, IsSubcommand, Roles, kbroker, session_app, serve_app, role_rule, top, topics_rule, port_rule, connections_rule};
+ghost use Rattle.tcp_edge.specs.CommandLine.{IsRoles, IsSubcommand, Roles, kbroker, session_app, serve_app, role_rule, first_producer_rule, top, topics_rule, port_rule, connections_rule};
 
 use clap::{Arg, Command, value_parser};
 use std::alloc::{AllocError, Global};
@@ -52,6 +52,8 @@ follower holds copies";
 
 const HELP_PORT: &str = "The port to listen on; 0 for any that is free";
 
+const HELP_FIRST_PRODUCER: &str = "The producer id that the broker gives out first";
+
 const HELP_CONNECTIONS: &str = "How many connections to serve before it ends";
 
 static ROLES: [&str; 2] = ["leader", "follower"];
@@ -88,6 +90,19 @@ fn role_arg<'a>(alloc: Global, roles: &'a [&'a str]) -> Arg<'a>
         .default_value("leader")
 }
 
+/// The first producer id.
+fn first_producer_arg<'a>(alloc: Global) -> Arg<'a>
+    ensures rule { rule_of result ≡ first_producer_rule }
+    ensures local { result.global ≡ false }
+{
+    Arg::new(alloc, "first-producer")
+        .long("first-producer")
+        .value_name("N")
+        .help(HELP_FIRST_PRODUCER)
+        .value_parser(value_parser!(i64).range(0..))
+        .default_value("0")
+}
+
 /// The port.
 fn port_arg<'a>(alloc: Global) -> Arg<'a>
     ensures rule { rule_of result ≡ port_rule }
@@ -122,6 +137,7 @@ fn session<'a>(alloc: Global, roles: &'a [&'a str]) -> Result<Command<'a>, Alloc
         .about(ABOUT_SESSION)
         .after_help(EXAMPLE_SESSION)
         .arg(role_arg(alloc, roles))?
+        .arg(first_producer_arg(alloc))?
         .arg(topics_arg(alloc))
 }
 
@@ -134,6 +150,7 @@ fn serve<'a>(alloc: Global, roles: &'a [&'a str]) -> Result<Command<'a>, AllocEr
         .after_help(EXAMPLE_SERVE)
         .arg(port_arg(alloc))?
         .arg(role_arg(alloc, roles))?
+        .arg(first_producer_arg(alloc))?
         .arg(connections_arg(alloc))?
         .arg(topics_arg(alloc))
 }

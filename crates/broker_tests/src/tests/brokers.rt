@@ -56,6 +56,7 @@ fn configured<A: Allocator + Copy>(
         host,
         port: 9092,
         topics,
+        first_producer: 0,
     })
 }
 

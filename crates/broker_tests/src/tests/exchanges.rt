@@ -1,5 +1,5 @@
-//! Requests about groups and copies behind their sizes, and the responses to them, byte for byte: with memory, and where
-//! the work lacks it. All have correlation id 7; the bytes are worked out from docs/FORMATS.md.
+//! Requests about groups and copies, and what clients ask first, behind their sizes, and the responses to them, byte
+//! for byte: with memory, and where the work lacks it. All have correlation id 7; the bytes are worked out from docs/FORMATS.md.
 
 /// A request, its response, and its response where the work lacks memory; none of a request whose work takes none.
 pub(crate) struct Exchange {
@@ -113,4 +113,25 @@ pub(crate) const PATCH: Exchange = Exchange {
     request: b"\0\0\0\xc4N#\0\x01\0\0\0\x07\xff\xff\0\x01t\0\0\0\0\0\0\0\xafKDLT\0\x01\0\0\0\0\0\0\0\0\0\0\0\x01\0\0\0\0\0\0\0\0\0\0\0\0\0\0\0\x02\0\0\0\x01\0\0\0\0\0\0\0\0\0\0\0\0\0\0\0\x01\0\0\0\x03\0\0\0\0\0\0\0\0\0\0\0\0\x01\0\0\0\0\0\0\0\0\0\0\0\0\0\0\0\0\x01\0\0\0\x01\0\0\0\0\0\0\0\x01\x01\0\0\0\0\0\0\0\x02\0\0\0:\0\0\0\0\x02\xaa\xea\x20\xe2\0\0\0\0\0\0\0\0\0\0\0\0\0\0\0\0\0\0\0\0\0\0\xff\xff\xff\xff\xff\xff\xff\xff\xff\xff\xff\xff\xff\xff\0\0\0\x01\x10\0\0\0\x02c\x023\0O\xa6\xfbV",
     response: b"\0\0\0\x06\0\0\0\x07\0\0",
     failed: Some(b"\0\0\0\x06\0\0\0\x07\08"),
+};
+
+/// ApiVersions, and the nine requests.
+pub(crate) const VERSIONS: Exchange = Exchange {
+    request: b"\0\0\0\x0a\0\x12\0\0\0\0\0\x07\xff\xff",
+    response: b"\0\0\0@\0\0\0\x07\0\0\0\0\0\x09\0\0\0\x03\0\x03\0\x01\0\x04\0\x04\0\x02\0\x01\0\x01\0\x03\0\x01\0\x01\0\x08\0\x02\0\x02\0\x09\0\x01\0\x01\0\x0a\0\0\0\0\0\x12\0\0\0\0\0\x16\0\0\0\0",
+    failed: None,
+};
+
+/// FindCoordinator for `g`, and the broker, node 1 at `hhh`, port 9092.
+pub(crate) const COORDINATOR: Exchange = Exchange {
+    request: b"\0\0\0\x0d\0\x0a\0\0\0\0\0\x07\xff\xff\0\x01g",
+    response: b"\0\0\0\x13\0\0\0\x07\0\0\0\0\0\x01\0\x03hhh\0\0#\x84",
+    failed: None,
+};
+
+/// InitProducerId, and id 0 with epoch 0.
+pub(crate) const PRODUCER_ID: Exchange = Exchange {
+    request: b"\0\0\0\x10\0\x16\0\0\0\0\0\x07\xff\xff\xff\xff\0\0\0\0",
+    response: b"\0\0\0\x14\0\0\0\x07\0\0\0\0\0\0\0\0\0\0\0\0\0\0\0\0",
+    failed: None,
 };

@@ -1,10 +1,10 @@
-//! Requests about groups and copies in memory of which one allocation fails: one of them isn't answered, or is answered
-//! with a storage error, and changes nothing; made again it is answered as it should be.
+//! Requests about groups and copies, and what clients ask first, in memory of which one allocation fails: one of them
+//! isn't answered, or is answered with a storage error, and changes nothing; made again it is answered as it should be.
 
 use crate::tests::brokers::new_node;
 use crate::tests::exchanges::{
-    CLEAN, COMMIT, DELIVER, DELTA, Exchange, FORGET, IMAGE, MERGE, PATCH, POSITION, SEEN, STORE,
-    TAKE, TRIM, VALUE,
+    CLEAN, COMMIT, COORDINATOR, DELIVER, DELTA, Exchange, FORGET, IMAGE, MERGE, PATCH, POSITION,
+    PRODUCER_ID, SEEN, STORE, TAKE, TRIM, VALUE, VERSIONS,
 };
 use broker_core::{GROUP_TOPIC, Node, Role};
 use refusing_alloc::Refusing;
@@ -22,7 +22,20 @@ struct Run {
 static OF_A_LEADER: Run = Run {
     role: Role::Leader,
     exchanges: &[
-        STORE, COMMIT, POSITION, VALUE, SEEN, IMAGE, DELTA, CLEAN, TRIM, FORGET, TAKE,
+        STORE,
+        COMMIT,
+        POSITION,
+        VALUE,
+        SEEN,
+        IMAGE,
+        DELTA,
+        CLEAN,
+        TRIM,
+        FORGET,
+        TAKE,
+        VERSIONS,
+        COORDINATOR,
+        PRODUCER_ID,
     ],
     ends: (1, 1, 2),
 };
@@ -217,7 +230,7 @@ fn all_lacking<A: Allocator + Copy>(inner: A, run: &Run) -> Option<u32> {
 fn each_request_lacks_memory_once(rt: HostRuntime) {
     let leads = all_lacking(rt.alloc(), &OF_A_LEADER);
     let follows = all_lacking(rt.alloc(), &OF_A_FOLLOWER);
-    // both bits of each, but for Get, Cover and Trim, whose work takes none
-    assert_eq!(rt; leads, Some(0b11_11_01_11_11_11_01_01_11_11_11));
+    // both bits of each, but for Get, Cover, Trim, and the three that clients ask first, whose work takes none
+    assert_eq!(rt; leads, Some(0b01_01_01_11_11_01_11_11_11_01_01_11_11_11));
     assert_eq!(rt; follows, Some(0b01_11_11_11));
 }

@@ -7,8 +7,7 @@ use Rattle.answering.specs.declared.codes.ErrorCode.{ErrorCode}
 use Rattle.answering.specs.declared.codes.ErrorCode.TheVariants.{IllegalGeneration, OffsetMetadataTooLarge, InvalidRequest}
 use Rattle.answering.specs.Lists.{fault_if}
 use Rattle.broker_state.specs.State.{State}
-use Rattle.broker_state.specs.Checks.{unknown, not_leader}
-use Rattle.group_requests.specs.GroupPartition.{no_group}
+use Rattle.broker_state.specs.Checks.{no_group, unknown, not_leader}
 use Rattle.group_requests.specs.OffsetCommit.{offset_commit_generation}
 use Rattle.group_requests.specs.declared.offset_commit.TheConstants.{MAX_METADATA_BYTES}
 

@@ -9,8 +9,8 @@ ghost use Rattle.answering.specs.declared.codes.ErrorCode.TheVariants.{InvalidRe
 ghost use Rattle.answering.specs.Lists.{first_some, fault_if};
 ghost use Rattle.answering.specs.Work.{MayAnswer};
 ghost use Rattle.answering.specs.Doing.{DoesWork};
-ghost use Rattle.broker_state.specs.Checks.{unknown};
-ghost use Rattle.group_requests.specs.GroupPartition.{no_group, group_content};
+ghost use Rattle.broker_state.specs.Checks.{no_group, unknown};
+ghost use Rattle.group_requests.specs.GroupPartition.{group_content};
 ghost use Rattle.group_requests.specs.OffsetFetch.{offset_fetch_result, offset_fetch_work};
 ghost use Rattle.group_requests.specs.OffsetFetch.Walks.{Knows};
 ghost use Rattle.group_requests.specs.OffsetFetch.Entries.{HasWalked, LooksUpAt, ShowsAt, ReadsAs, fetched_offset};

@@ -1,4 +1,4 @@
-use Rattle.std.proofs.Common.{pos, negsuc, [], ◌∷◌, None, refl, arith}
+use Rattle.std.proofs.Common.{inl, pos, negsuc, [], ◌∷◌, None, refl, arith}
 use Rattle.std.proofs.lemmas.Int.{ints}
 use Rattle.request_frames.specs.declared.api.Api.TheVariants.{ListOffsets}
 use Rattle.frame_fields.specs.Fields.{encoded, Fits, Value}
@@ -13,7 +13,7 @@ asked = (None, (negsuc 0, ((topic_t, ((pos 0, (negsuc 0, tt)) ∷ [], tt)) ∷ [
 
 is_request : IsRequest list_offsets_frame (list_offsets_request (pos 7) (negsuc 0))
 unfolding encoded Fits
-is_request = (ListOffsets, record { has_header = omega arith; has_api = (refl, refl) }, asked, record { fits = grind (arith, ints); parts = refl }, refl)
+is_request = inl (ListOffsets, record { has_header = omega arith; has_api = (refl, refl) }, asked, record { fits = grind (arith, ints); parts = refl }, refl)
 
 pub returns-clause-size : goal.returns-clause-size
 returns-clause-size c = refl

@@ -1,6 +1,10 @@
 use Rattle.std.proofs.Common.{FitsSigned, w32, rules}
 use Rattle.std.proofs.lemmas.Int.{to_z-of_z}
 use Rattle.request_frames.specs.declared.parsing.RequestBody.TheVariants as variants
+use Rattle.client_requests.specs.FindCoordinator.{find_coordinator_work, find_coordinator_sent}
+use Rattle.request_frames.specs.FindCoordinator.{find_coordinator_view}
+use Rattle.client_requests.specs.InitProducerId.{init_producer_id_work, init_producer_id_sent}
+use Rattle.request_frames.specs.InitProducerId.{init_producer_id_view}
 use Rattle.copy_requests.specs.Deliver.{deliver_work, deliver_sent}
 use Rattle.request_frames.specs.Deliver.{deliver_view}
 use Rattle.copy_requests.specs.Clean.{clean_work, clean_sent}
@@ -21,13 +25,28 @@ use Rattle.copy_requests.specs.Trim.{trim_work, trim_sent}
 use Rattle.request_frames.specs.Trim.{trim_view}
 use Rattle.group_requests.specs.ForgetGroup.{forget_group_work, forget_group_sent}
 use Rattle.request_frames.specs.ForgetGroup.{forget_group_view}
-use Rattle.broker_node.proofs.HandledReplies.{metadata_responds, once_responds}
+use Rattle.broker_node.proofs.HandledReplies.{metadata_responds, versions_respond, once_responds}
 use Rattle.broker_node.proofs.handling.reply_to.Goals as goal
 
 pub returns-in-Metadata-clause-responds : goal.returns-in-Metadata-clause-responds
 returns-in-Metadata-clause-responds g c =
     let fits : FitsSigned w32 c.args.request.now.correlation = search rules in
     metadata_responds c.reply_to_metadata.result c.args.state.now c.args.request.now c.in-Metadata.asked _ c.args.out.now.items c.reply_to_metadata.new.out.items (to_z-of_z w32 c.args.request.now.correlation fits) c.in-Metadata.is c.reply_to_metadata.ensures.replies
+
+pub returns-in-FindCoordinator-clause-responds : goal.returns-in-FindCoordinator-clause-responds
+returns-in-FindCoordinator-clause-responds g c =
+    let fits : FitsSigned w32 c.args.request.now.correlation = search rules in
+    once_responds find_coordinator_sent (find_coordinator_work c.args.state.now (find_coordinator_view c.in-FindCoordinator.asked)) c.reply_to_find_coordinator.result c.args.state.now c.args.state.now c.args.request.now (variants.FindCoordinator c.in-FindCoordinator.asked) _ c.args.out.now.items c.reply_to_find_coordinator.new.out.items (to_z-of_z w32 c.args.request.now.correlation fits) c.in-FindCoordinator.is (λ response r. r) c.reply_to_find_coordinator.ensures.responds
+
+pub returns-in-ApiVersions-clause-responds : goal.returns-in-ApiVersions-clause-responds
+returns-in-ApiVersions-clause-responds g c =
+    let fits : FitsSigned w32 c.args.request.now.correlation = search rules in
+    versions_respond c.reply_to_api_versions.result c.args.state.now c.args.request.now c.in-ApiVersions.asked _ c.args.out.now.items c.reply_to_api_versions.new.out.items (to_z-of_z w32 c.args.request.now.correlation fits) c.in-ApiVersions.is c.reply_to_api_versions.ensures.replies
+
+pub returns-in-InitProducerId-clause-responds : goal.returns-in-InitProducerId-clause-responds
+returns-in-InitProducerId-clause-responds g c =
+    let fits : FitsSigned w32 c.args.request.now.correlation = search rules in
+    once_responds init_producer_id_sent (init_producer_id_work c.args.state.now (init_producer_id_view c.in-InitProducerId.asked)) c.reply_to_init_producer_id.result c.args.state.now c.reply_to_init_producer_id.new.state c.args.request.now (variants.InitProducerId c.in-InitProducerId.asked) _ c.args.out.now.items c.reply_to_init_producer_id.new.out.items (to_z-of_z w32 c.args.request.now.correlation fits) c.in-InitProducerId.is (λ response r. r) c.reply_to_init_producer_id.ensures.responds
 
 pub returns-in-Deliver-clause-responds : goal.returns-in-Deliver-clause-responds
 returns-in-Deliver-clause-responds g c =

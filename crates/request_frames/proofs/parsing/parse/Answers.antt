@@ -1,8 +1,13 @@
-use Rattle.std.proofs.Common.{rules, ◌∙◌, FitsSigned}
+use Rattle.std.proofs.Common.{rules, ◌∙◌, sym, FitsSigned}
 use Rattle.std.specs.Int.{w16, w32}
 use Rattle.std.proofs.lemmas.Int.{to_z-of_z}
-use Rattle.request_frames.proofs.WholeFrames.{api_found, api_not_found}
+use Rattle.request_frames.proofs.WholeFrames.{api_found, api_not_found, unread_read}
 use Rattle.request_frames.proofs.parsing.parse.Goals as goal
+
+pub returns-then-is_unread-clause-reads : goal.returns-then-is_unread-clause-reads
+returns-then-is_unread-clause-reads c =
+    let found = c.in-Some.ensures.found in
+    unread_read c.args.frame.now c.in-Some.header _ found.0 found.1 (sym c.is_unread.ensures ∙ c.if-is_unread.true) c.unread_request.ensures
 
 pub returns-in_err-api-clause-refuses : goal.returns-in_err-api-clause-refuses
 returns-in_err-api-clause-refuses c =
@@ -10,7 +15,7 @@ returns-in_err-api-clause-refuses c =
     let found = c.in-Some.ensures.found in
     let key_fits : FitsSigned w16 header.key = search rules in
     let version_fits : FitsSigned w16 header.version = search rules in
-    let refused = api_not_found c.args.frame.now header.key header.version key_fits version_fits found.0 found.1.key found.1.version c.in_err-api.field-0.0 c.in_err-api.ensures.refused in
+    let refused = api_not_found c.args.frame.now header.key header.version key_fits version_fits found.0 found.1.key found.1.version (sym c.is_unread.ensures ∙ c.if-is_unread.false) c.in_err-api.field-0.0 c.in_err-api.ensures.refused in
     search (rules, refused)
 
 pub request_after-requires-clause-is_of_api : goal.request_after-requires-clause-is_of_api
@@ -19,7 +24,7 @@ request_after-requires-clause-is_of_api c =
     let found = c.in-Some.ensures.found in
     let key_fits : FitsSigned w16 header.key = search rules in
     let version_fits : FitsSigned w16 header.version = search rules in
-    api_found c.args.frame.now header.key header.version key_fits version_fits found.0 found.1.key found.1.version c.in_ok-api.api c.in_ok-api.ensures.found
+    api_found c.args.frame.now header.key header.version key_fits version_fits found.0 found.1.key found.1.version (sym c.is_unread.ensures ∙ c.if-is_unread.false) c.in_ok-api.api c.in_ok-api.ensures.found
 
 pub request_after-requires-clause-correlates : goal.request_after-requires-clause-correlates
 request_after-requires-clause-correlates c =

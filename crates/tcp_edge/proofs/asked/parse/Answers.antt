@@ -1,6 +1,6 @@
 use Rattle.std.proofs.Common.{map}
 use Rattle.std.proofs.lemmas.Result.{IfOk-weaker}
-use Rattle.tcp_edge.proofs.Arguments.{only_memory, subcommand_named, if_subcommand_named, no_stop, stop_said, memory_stops}
+use Rattle.tcp_edge.proofs.Arguments.{only_memory, subcommand_named, if_subcommand_named, no_stop, stop_said}
 use Rattle.tcp_edge.proofs.asked.parse.Goals as goal
 
 pub returns-in-Err-clause-asked : goal.returns-in-Err-clause-asked

@@ -2,7 +2,6 @@ use Rattle.std.proofs.Common.{refl, ap, ap₂, ◌≡◌, ◌∙◌, codes}
 use Rattle.std.proofs.lemmas.Result.{IfOk-weaker}
 use Rattle.clap.specs.Words.{App, Shape, app_of, new_app, with_rule, with_subcommand}
 use Rattle.clap.specs.Simple.{app_of_fields}
-use Rattle.tcp_edge.specs.CommandLine.{serve_app}
 use Rattle.tcp_edge.proofs.commands.serve.Goals as goal
 
 abbrev top_of : App → Shape
@@ -12,11 +11,13 @@ pub returns : goal.returns
 returns c =
     let is_new : app_of c.after_help.result ≡ new_app (codes "serve") =
     ap app_of_fields c.after_help.ensures ∙ ap app_of_fields c.about.ensures ∙ c.new.ensures.app in
-    IfOk-weaker c.arg-4.result _ _ (λ command h old new adds. adds.shape (rw (
+    IfOk-weaker c.arg-5.result _ _ (λ command h old new adds. adds.shape (rw (
       h.globals,
       c.topics_arg.ensures.local,
-      c.in_ok-arg-3.ensures.globals,
+      c.in_ok-arg-4.ensures.globals,
       c.connections_arg.ensures.local,
+      c.in_ok-arg-3.ensures.globals,
+      c.first_producer_arg.ensures.local,
       c.in_ok-arg-2.ensures.globals,
       c.role_arg.ensures.local,
       c.in_ok-arg.ensures.globals,
@@ -26,8 +27,10 @@ returns c =
       c.new.ensures.local,
     ) refl) ∙ ap (with_subcommand (app_of old)) (ap top_of (
     h.shape c.topics_arg.ensures.local
-    ∙ ap₂ with_rule (c.in_ok-arg-3.ensures.shape c.connections_arg.ensures.local
+    ∙ ap₂ with_rule (c.in_ok-arg-4.ensures.shape c.connections_arg.ensures.local
+    ∙ ap₂ with_rule (c.in_ok-arg-3.ensures.shape c.first_producer_arg.ensures.local
     ∙ ap₂ with_rule (c.in_ok-arg-2.ensures.shape c.role_arg.ensures.local
     ∙ ap₂ with_rule (c.in_ok-arg.ensures.shape c.port_arg.ensures.local
-    ∙ ap₂ with_rule is_new c.port_arg.ensures.rule) c.role_arg.ensures.rule) c.connections_arg.ensures.rule) c.topics_arg.ensures.rule
-    ))) c.arg-4.ensures
+    ∙ ap₂ with_rule is_new c.port_arg.ensures.rule) c.role_arg.ensures.rule) c.first_producer_arg.ensures.rule)
+    c.connections_arg.ensures.rule) c.topics_arg.ensures.rule
+    ))) c.arg-5.ensures

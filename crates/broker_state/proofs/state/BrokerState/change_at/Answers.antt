@@ -24,6 +24,7 @@ invariant_of-self g c =
           (c.change_partition.ensures.roles config.role (held (HasRole config.role) c.index_mut.result.now c.index_mut.ensures.value c.self.invariant.1.roles)),
       all_set HoldParts topics c.args.place.topic c.change_partition.new.self c.self.invariant.2
           (c.change_partition.ensures.contents (held HoldParts c.index_mut.result.now c.index_mut.ensures.value c.self.invariant.2)),
+      c.self.invariant.3,
     )
 
 pub returns : goal.returns

@@ -1,0 +1,3 @@
+mod ListedVersions
+mod VersionReplies
+mod Coordinators
