@@ -108,7 +108,7 @@ class Requests(exchanges.Exchange):
             sent = [it for it in copy.batches() if it.producer >= 0]
             if sent and numbers.below(5) == 0:
                 return [numbers.one_of(sent[-12:]).encoded()]
-            batch = exchanges.batch_of(numbers, numbers.below(9), exchanges.sender_of(numbers, copy), KEYS)
+            batch = exchanges.batch_of(numbers, numbers.below(9), exchanges.sender_of(numbers, copy, self.first_producer), KEYS)
             return [exchanges.damaged(numbers, rarely(numbers, batch, b""))]
 
         acks = numbers.one_of([1, 1, 1, -1, 0, rarely(numbers, 1, 2)])

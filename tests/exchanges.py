@@ -13,6 +13,8 @@ NAMES = [b"t", b"t", b"t", b"u", broker.GROUP_TOPIC]
 GROUPS = [b"g", b"g", b"gg", b"h t", b"\xff", b""]
 METADATA = [None, b"", b"m", b"read \x00", bytes(4_096), bytes(4_097)]
 TIMES = [0, 0, 10, 20, -5]
+FIRST_PRODUCERS = [0, 0, 0, 1_000, broker.LAST_PRODUCER - 3, broker.LAST_PRODUCER]
+VERSIONS = (broker.API_VERSIONS, 0)
 PLACES = [(name, index) for name, count in [*TOPICS, (broker.GROUP_TOPIC, 1)] for index in range(count)]
 
 
@@ -26,9 +28,9 @@ def place(numbers):
     return name, rarely(numbers, numbers.below(2 if name == b"t" else 1), numbers.one_of([-1, 1, 2]))
 
 
-def sender_of(numbers, copy):
-    """A producer, with an epoch and a sequence number that are right, or sent again, or wrong."""
-    producer = numbers.below(3)
+def sender_of(numbers, copy, first_producer):
+    """One of the first producers, with an epoch and a sequence number that are right, or sent again, or wrong."""
+    producer = min(first_producer + numbers.below(3), broker.LAST_PRODUCER)
     newest = broker.window(copy.batches(), producer)
     if numbers.below(3) == 0:
         return NOBODY
@@ -77,18 +79,20 @@ class Exchange:
 
     roles = (True, False, False)
 
-    def __init__(self, start):
-        self.numbers = Numbers(start)
-        self.sides = [(broker.Broker(leads, TOPICS), [], []) for leads in self.roles]
+    def __init__(self, start, first_producer=0):
+        self.numbers, self.first_producer = Numbers(start), first_producer
+        self.sides = [(broker.Broker(leads, TOPICS, first_producer), [], []) for leads in self.roles]
         self.batches = {it: [] for it in PLACES}
         self.images = {it: [] for it in PLACES}
         self.deltas = {it: [] for it in PLACES}
 
     def send(self, side, kind, values):
-        node, given, wanted = side
         client = self.numbers.one_of([None, b"", b"me"])
         head = [*kind, self.numbers.below(2**15), client]
-        frame = broker.written(["h", "h", "i", "S", *broker.REQUESTS[kind][0]], [*head, *values])
+        self.ask(side, broker.written(["h", "h", "i", "S", *broker.REQUESTS[kind][0]], [*head, *values]))
+
+    def ask(self, side, frame):
+        node, given, wanted = side
         given.append(broker.framed(frame))
         wanted.append(node.reply(frame))
         if node.leads:
@@ -113,7 +117,16 @@ class Exchange:
 
     def step(self, side):
         kind = self.numbers.one_of(KINDS[side[0].leads])
-        self.send(side, kind, DRAWS[kind](self, side[0]))
+        if kind == VERSIONS and self.numbers.below(3):
+            self.ask(side, self.other_versions())
+        else:
+            self.send(side, kind, DRAWS[kind](self, side[0]))
+
+    def other_versions(self):
+        """An ApiVersions request of another version, with nothing that is read behind its correlation id."""
+        version = self.numbers.one_of([1, 2, 3, 4, -1, 2**15 - 1, -(2**15)])
+        behind = self.numbers.one_of([b"", b"\xff\xff", b"\xff\xfe", b"\0\2me\0\5kcat\0", bytes(99)])
+        return broker.struct.pack(">hhi", broker.API_VERSIONS, version, self.numbers.below(2**15)) + behind
 
     # -- the values of each request
 
@@ -131,7 +144,7 @@ class Exchange:
         numbers = self.numbers
 
         def entry(name, index):
-            sender = sender_of(numbers, self.copy(node, name, index))
+            sender = sender_of(numbers, self.copy(node, name, index), self.first_producer)
             return [damaged(numbers, rarely(numbers, batch_of(numbers, numbers.below(9), sender), b""))]
 
         acks = numbers.one_of([1, 1, 1, -1, 0, rarely(numbers, 1, 2)])
@@ -159,6 +172,16 @@ class Exchange:
 
     def offsets(self, node):
         return [self.numbers.one_of(self.groups), self.topics(lambda name, index: [])]
+
+    def coordinator(self, node):
+        return [self.numbers.one_of(self.groups)]
+
+    def versions(self, node):
+        return []
+
+    def producer_id(self, node):
+        numbers = self.numbers
+        return [rarely(numbers, None, numbers.one_of([b"", b"x"])), numbers.one_of([60_000, 0, -1, 2**31 - 1])]
 
     def forget(self, node):
         return [self.numbers.one_of(self.groups)]
@@ -266,6 +289,9 @@ DRAWS = {
     (3, 1): Exchange.metadata,
     (8, 2): Exchange.commit,
     (9, 1): Exchange.offsets,
+    (10, 0): Exchange.coordinator,
+    VERSIONS: Exchange.versions,
+    (22, 0): Exchange.producer_id,
     (20000, 0): Exchange.deliver,
     (20001, 0): Exchange.clean,
     (20002, 0): Exchange.export,
@@ -291,7 +317,7 @@ def sessions(count=20, requests=200):
     input and its output, as bytes."""
     made, before = [], None
     for start in range(1, count + 1):
-        exchange = Exchange(start)
+        exchange = Exchange(start, FIRST_PRODUCERS[start % len(FIRST_PRODUCERS)])
         if before and start % 3 == 0:
             exchange.begin(before)
         before = exchange
@@ -305,7 +331,8 @@ def sessions(count=20, requests=200):
         for node, given, wanted in exchange.sides:
             topics = [name + b":" + str(many).encode() for name, many in TOPICS]
             role = b"leader" if node.leads else b"follower"
-            made.append(([b"session", b"--role", role, *topics], b"".join(given), b"".join(wanted)))
+            first = [b"--first-producer", str(exchange.first_producer).encode()] * (exchange.first_producer > 0)
+            made.append(([b"session", b"--role", role, *first, *topics], b"".join(given), b"".join(wanted)))
     return made
 
 

@@ -73,10 +73,14 @@ def nullable(words, root):
     return struct.pack(">i", -1) if words == "null" else data(sent_of(words, root))
 
 
+def nullable_name(given):
+    """The transactional id that is given, or -1 for none."""
+    return text(given["id"].encode()) if "id" in given else struct.pack(">h", -1)
+
+
 def produce(words, root):
     given, words = options(words, ("acks", "id"))
-    name = text(given["id"].encode()) if "id" in given else struct.pack(">h", -1)
-    head = name + struct.pack(">hi", int(given.get("acks", 1)), 1000)
+    head = nullable_name(given) + struct.pack(">hi", int(given.get("acks", 1)), 1000)
     return request(0, 3, head + entries_of(words, lambda it: nullable(it, root)))
 
 
@@ -118,6 +122,20 @@ def offsets(words, root):
     return request(9, 1, text(batches.unescaped(given.get("group", "g"))) + entries_of(words, lambda _: b""))
 
 
+def versions(words, root):
+    """Of any version, without a body."""
+    return request(18, int(words or 0), b"")
+
+
+def producer_id(words, root):
+    given, _ = options(words, ("id",))
+    return request(22, 0, nullable_name(given) + struct.pack(">i", 60_000))
+
+
+def coordinator(words, root):
+    return request(10, 0, text(batches.unescaped(words)))
+
+
 REQUESTS = {
     "produce": produce,
     "fetch": fetch,
@@ -125,6 +143,9 @@ REQUESTS = {
     "metadata": metadata,
     "commit": commit,
     "offsets": offsets,
+    "versions": versions,
+    "producer-id": producer_id,
+    "coordinator": coordinator,
 }
 
 
@@ -211,6 +232,27 @@ def found(words, root):
     return response(entries_of(words, entry))
 
 
+# of each request its key, and the least and the greatest version that is read
+READ = [(0, 3, 3), (1, 4, 4), (2, 1, 1), (3, 1, 1), (8, 2, 2), (9, 1, 1), (10, 0, 0), (18, 0, 0), (22, 0, 0)]
+
+
+def versions_read(words, root):
+    """A code, and what is read."""
+    return response(struct.pack(">h", int(words)) + array([struct.pack(">hhh", *it) for it in READ]))
+
+
+def producer(words, root):
+    """A code, the producer's id and its epoch."""
+    return response(struct.pack(">ihqh", 0, *(int(it) for it in words.split())))
+
+
+def coordinated(words, root):
+    """A code, a node, and its host and port with a colon between."""
+    code, node, place = words.split()
+    host, _, port = place.rpartition(":")
+    return response(struct.pack(">hi", int(code), int(node)) + text(host.encode()) + struct.pack(">i", int(port)))
+
+
 RESPONSES = {
     "produced": produced,
     "fetched": fetched,
@@ -218,6 +260,9 @@ RESPONSES = {
     "described": described,
     "committed": committed,
     "found": found,
+    "versions": versions_read,
+    "producer": producer,
+    "coordinator": coordinated,
 }
 
 
