@@ -78,6 +78,23 @@ pub(crate) fn new_node<S: BatchStore>(
     }
 }
 
+/// Why a broker with so many topics `.` and this first producer id is refused; `None` where it isn't, or memory
+/// lacks.
+pub(crate) fn refused_producer<S: BatchStore>(
+    alloc: S::Alloc,
+    count: u32,
+    first_producer: i64,
+) -> Option<ConfigError> {
+    let Ok(mut config) = configured(alloc, Role::Leader, 3, ".", count) else {
+        return None;
+    };
+    config.first_producer = first_producer;
+    match Node::<S>::new(alloc, config) {
+        Ok(_) => None,
+        Err(why) => Some(why),
+    }
+}
+
 /// A leader at the host `hhh` with the topics `t` and `u`.
 pub(crate) fn leader<S: BatchStore>(alloc: S::Alloc) -> Result<Node<S>, Option<ConfigError>> {
     new_node(alloc, Role::Leader, 3, "t", 1)

@@ -1,7 +1,7 @@
 //! New brokers: the hosts at which they can be reached, and their logs. `tests/rows/brokers.rows`,
 //! `frames.rows` and `sessions.rows` have the topics that are refused.
 
-use crate::tests::brokers::{has_logs, new_node, prints};
+use crate::tests::brokers::{has_logs, new_node, prints, refused_producer};
 use broker_core::Role;
 use segment::{BatchStore, VecStore};
 use std::test::Fail;
@@ -25,6 +25,36 @@ fn is_right<S: BatchStore>(alloc: S::Alloc, row: &Row) -> bool {
         Err(Some(why)) => prints(alloc, why, row.4),
         Err(None) => false,
     }
+}
+
+/// How many topics have no name that a topic may have, the first producer id, and the refusal. `configured` adds a
+/// topic.
+static PRODUCERS: [(u32, i64, &'static str); 4] = [
+    (1, -1, "BadFirstProducer"),
+    (1, i64::MIN, "BadFirstProducer"),
+    (1, i64::MAX, "BadTopic"),
+    (64, -1, "TooManyTopics"),
+];
+
+/// Whether a first producer id is judged behind the number of topics, and before them.
+fn is_judged<S: BatchStore>(alloc: S::Alloc, row: &(u32, i64, &'static str)) -> bool {
+    match refused_producer::<S>(alloc, row.0, row.1) {
+        Some(why) => prints(alloc, why, row.2),
+        None => false,
+    }
+}
+
+#[test]
+fn first_producers(rt: HostRuntime) -> Result<(), Fail> {
+    for row in &PRODUCERS {
+        assert!(rt;
+            is_judged::<VecStore<_>>(rt.alloc(), row),
+            "{}, {}",
+            row.0,
+            row.1
+        );
+    }
+    Ok(())
 }
 
 #[test]
