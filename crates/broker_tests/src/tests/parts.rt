@@ -1,13 +1,18 @@
 //! The values that the tests write.
 
+use request_frames::response::api_versions::{VersionRange, api_versions_head, put_version_range};
 use request_frames::response::clean::{CleanAnswer, clean_answer_bytes};
 use request_frames::response::cover::{cover_head, put_run};
 use request_frames::response::deliver::{DeliverAnswer, deliver_answer_bytes};
 use request_frames::response::export::export_head;
 use request_frames::response::fetch::{FetchedPartition, begin_fetch, begin_fetched_partition};
+use request_frames::response::find_coordinator::{find_coordinator_head, find_coordinator_port};
 use request_frames::response::forget_group::{ForgetGroupAnswer, forget_group_answer_bytes};
 use request_frames::response::get::get_head;
 use request_frames::response::import::{ImportAnswer, import_answer_bytes};
+use request_frames::response::init_producer_id::{
+    InitProducerIdAnswer, init_producer_id_answer_bytes,
+};
 use request_frames::response::list_offsets::{
     ListedPartition, begin_list_offsets, put_listed_partition,
 };
@@ -87,8 +92,32 @@ const FORGOTTEN: ForgetGroupAnswer = ForgetGroupAnswer {
     count: 258,
 };
 
+const VERSIONS: VersionRange = VersionRange {
+    key: 1,
+    least: 258,
+    greatest: 772,
+};
+
+const GIVEN: InitProducerIdAnswer = InitProducerIdAnswer {
+    code: 0,
+    producer_id: 72_623_859_790_382_856,
+    epoch: 258,
+};
+
 /// The number of parts that `put_part` knows.
-pub(crate) const PARTS: usize = 25;
+pub(crate) const PARTS: usize = 30;
+
+/// Appends the part of that number from 24 on.
+fn put_last_part<A: Allocator + Copy>(out: &mut Vec<u8, A>, part: usize) -> Result<(), AllocError> {
+    match part {
+        24 => out.extend_from_slice(&forget_group_answer_bytes(FORGOTTEN)),
+        25 => out.extend_from_slice(&find_coordinator_head(0, 258, b"ab")),
+        26 => out.extend_from_slice(&find_coordinator_port(9092)),
+        27 => out.extend_from_slice(&api_versions_head(35, 9)),
+        28 => put_version_range(out, VERSIONS),
+        _ => out.extend_from_slice(&init_producer_id_answer_bytes(GIVEN)),
+    }
+}
 
 /// Appends the part of that number from 13 on.
 fn put_later_part<A: Allocator + Copy>(
@@ -107,7 +136,7 @@ fn put_later_part<A: Allocator + Copy>(
         21 => out.extend_from_slice(&get_head(3, None)),
         22 => out.extend_from_slice(&cover_head(0, 2)),
         23 => put_run(out, 1, 258),
-        _ => out.extend_from_slice(&forget_group_answer_bytes(FORGOTTEN)),
+        _ => put_last_part(out, part),
     }
 }
 

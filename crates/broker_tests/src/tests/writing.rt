@@ -36,6 +36,11 @@ static WANTED: [&[u8]; PARTS] = [
     b"\0\0\0\0\0\x02",
     b"\0\0\0\0\0\0\0\x01\0\0\0\0\0\0\x01\x02",
     b"\0\0\0\0\x01\x02",
+    b"\0\0\0\0\x01\x02\0\x02",
+    b"\0\0\x23\x84",
+    b"\0\x23\0\0\0\x09",
+    b"\0\x01\x01\x02\x03\x04",
+    b"\0\0\0\0\0\0\x01\x02\x03\x04\x05\x06\x07\x08\x01\x02",
 ];
 
 /// Whether the part can't be put where the next allocation fails, all stays as it was, and the part
