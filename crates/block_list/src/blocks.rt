@@ -12,7 +12,7 @@ use std::marker::Model;
 
 /// A block, and an index in it.
 #[derive(Clone, Copy)]
-pub(crate) struct Place {
+pub(crate) struct BlockPosition {
     pub(crate) block: usize,
     pub(crate) index: usize,
 }
@@ -71,12 +71,12 @@ impl<T, A: Allocator + Copy> Blocks<T, A> {
     }
 
     /// Where the element at an index stands.
-    pub(crate) fn locate(&self, i: usize) -> Place
+    pub(crate) fn locate(&self, i: usize) -> BlockPosition
         requires { i < length (joined self.now) }
         ensures { IsIn self.now result.block result.index i }
     {
         let block = block_at(&self.starts, i);
-        Place {
+        BlockPosition {
             block,
             index: i - self.starts[block],
         }
@@ -98,7 +98,7 @@ impl<T: Drop, A: Allocator + Copy> Blocks<T, A> {
     /// # Errors
     ///
     /// Out of memory: the blocks are as they were.
-    pub(crate) fn insert(&mut self, place: Place, x: T) -> Result<(), AllocError>
+    pub(crate) fn insert(&mut self, place: BlockPosition, x: T) -> Result<(), AllocError>
         requires block { place.block < length self.old }
         requires within { place.index ≤ length (slice_index_or self.old place.block []) }
         requires fits { length (joined self.old) + 1 < 2 ^ 64 }
@@ -189,7 +189,7 @@ impl<T: Drop, A: Allocator + Copy> Blocks<T, A> {
     /// # Errors
     ///
     /// Out of memory: the elements are as they were.
-    pub(crate) fn make_room(&mut self, i: usize) -> Result<Place, AllocError>
+    pub(crate) fn make_room(&mut self, i: usize) -> Result<BlockPosition, AllocError>
         requires inside { i < length (joined self.old) }
         requires fits { length (joined self.old) < 2 ^ 64 }
         ensures same { joined self.new ≡ joined self.old }
@@ -205,7 +205,7 @@ impl<T: Drop, A: Allocator + Copy> Blocks<T, A> {
         if place.index < keep {
             return Ok(place);
         }
-        Ok(Place {
+        Ok(BlockPosition {
             block: back,
             index: place.index - keep,
         })

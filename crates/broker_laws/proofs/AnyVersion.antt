@@ -16,7 +16,7 @@ use Rattle.answering.specs.Responding.{sent}
 use Rattle.broker_state.specs.State.{State}
 use Rattle.broker_node.specs.Replies.{MayReply}
 use Rattle.broker_node.specs.Streams.{IsAnswered}
-use Rattle.client_requests.specs.ApiVersions.{listed_ranges, versions_code}
+use Rattle.setup_requests.specs.ApiVersions.{listed_ranges, versions_code}
 
 pub is_request : (frame : List ℕ) → IsUnread frame → IsRequest frame (unread_request frame)
 is_request frame unread = inr (unread, refl)

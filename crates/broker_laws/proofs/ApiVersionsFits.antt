@@ -16,7 +16,7 @@ use Rattle.answering.specs.Codes.{no_error, code_number}
 use Rattle.broker_state.specs.State.{State}
 use Rattle.broker_state.specs.Sound.{IsSound}
 use Rattle.broker_node.specs.Fitting.{FitsIfSent}
-use Rattle.client_requests.specs.ApiVersions.{listed_ranges, versions_code, api_versions_reply}
+use Rattle.setup_requests.specs.ApiVersions.{listed_ranges, versions_code, api_versions_reply}
 use Rattle.broker_laws.proofs.Said.{IsPart}
 use Rattle.broker_laws.proofs.Works.{no_error_fits, code_fits}
 use Rattle.broker_laws.proofs.FittingResponses.{enough, fitting_response, IsKept, frame_limit}

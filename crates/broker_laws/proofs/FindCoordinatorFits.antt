@@ -14,7 +14,7 @@ use Rattle.broker_state.specs.declared.limits.TheConstants.{MAX_HOST_BYTES}
 use Rattle.broker_state.specs.State.{State}
 use Rattle.broker_state.specs.Sound.{IsSound}
 use Rattle.broker_state.proofs.Shapes.{small_config}
-use Rattle.client_requests.specs.FindCoordinator.{find_coordinator_work, find_coordinator_sent}
+use Rattle.setup_requests.specs.FindCoordinator.{find_coordinator_work, find_coordinator_sent}
 use Rattle.broker_laws.proofs.Said.{IsPart}
 use Rattle.broker_laws.proofs.Works.{no_error_fits, code_fits}
 use Rattle.broker_laws.proofs.FittingResponses.{IsKept, frame_limit}

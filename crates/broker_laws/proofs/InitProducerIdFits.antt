@@ -17,7 +17,7 @@ use Rattle.broker_state.specs.Checks.{not_leader}
 use Rattle.broker_state.specs.Producers.{greatest_int64, with_id_given}
 use Rattle.broker_state.specs.Sound.{IsSound}
 use Rattle.broker_state.proofs.Passed.{none_first, no_fault}
-use Rattle.client_requests.specs.InitProducerId.{init_producer_id_work, init_producer_id_sent}
+use Rattle.setup_requests.specs.InitProducerId.{init_producer_id_work, init_producer_id_sent}
 use Rattle.broker_laws.proofs.Said.{IsPart}
 use Rattle.broker_laws.proofs.Works.{no_error_fits, code_fits}
 use Rattle.broker_laws.proofs.FittingResponses.{IsKept, frame_limit}

@@ -19,7 +19,7 @@ ghost use Rattle.responses.specs.ApiVersions.{api_versions_response, api_version
 ghost use Rattle.answering.specs.declared.codes.ErrorCode.TheVariants.{UnsupportedVersion};
 ghost use Rattle.answering.specs.Codes.{code_number};
 ghost use Rattle.answering.specs.Plans.{AnswersAll};
-ghost use Rattle.client_requests.specs.ApiVersions.{listed_ranges};
+ghost use Rattle.setup_requests.specs.ApiVersions.{listed_ranges};
 ghost use Rattle.broker_state.specs.Batches.{append_fault, FaultIs};
 ghost use Rattle.broker_state.specs.State.{ConfigValue, State, new_state, partition_at, is_known, with_content};
 ghost use Rattle.broker_state.specs.Sound.{IsSoundConfig, IsSound};

@@ -18,7 +18,7 @@ use Rattle.answering.specs.Once.{RepliesOnce, WritesOnce}
 use Rattle.broker_state.specs.State.{State}
 use Rattle.answering.specs.Responding.{RespondsBy}
 use Rattle.log_requests.specs.Metadata.{metadata_reply}
-use Rattle.client_requests.specs.ApiVersions.{api_versions_reply}
+use Rattle.setup_requests.specs.ApiVersions.{api_versions_reply}
 use Rattle.broker_node.specs.declared.handling.Answer.{Answer}
 use Rattle.broker_node.specs.declared.handling.Answer.TheVariants.{Reply, Silent}
 use Rattle.broker_node.specs.Replies.{RepliesTo}

@@ -14,9 +14,9 @@ use Rattle.log_requests.specs.Metadata.{metadata_reply}
 use Rattle.group_requests.specs.OffsetCommit.{offset_commit_plan}
 use Rattle.group_requests.specs.OffsetFetch.{offset_fetch_plan}
 use Rattle.group_requests.specs.ForgetGroup.{forget_group_work, forget_group_sent}
-use Rattle.client_requests.specs.FindCoordinator.{find_coordinator_work, find_coordinator_sent}
-use Rattle.client_requests.specs.ApiVersions.{api_versions_reply}
-use Rattle.client_requests.specs.InitProducerId.{init_producer_id_work, init_producer_id_sent}
+use Rattle.setup_requests.specs.FindCoordinator.{find_coordinator_work, find_coordinator_sent}
+use Rattle.setup_requests.specs.ApiVersions.{api_versions_reply}
+use Rattle.setup_requests.specs.InitProducerId.{init_producer_id_work, init_producer_id_sent}
 use Rattle.copy_requests.specs.Deliver.{deliver_work, deliver_sent}
 use Rattle.copy_requests.specs.Clean.{clean_work, clean_sent}
 use Rattle.copy_requests.specs.Export.{export_work, export_sent}

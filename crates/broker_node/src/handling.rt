@@ -8,9 +8,6 @@ ghost use Rattle.broker_node.specs.Answers.{RespondsTo, answer_to};
 
 use crate::node::Node;
 use broker_state::BrokerState;
-use client_requests::{
-    reply_to_api_versions, reply_to_find_coordinator, reply_to_init_producer_id,
-};
 use copy_requests::{
     reply_to_clean, reply_to_cover, reply_to_deliver, reply_to_export, reply_to_export_delta,
     reply_to_get, reply_to_import, reply_to_import_delta, reply_to_trim,
@@ -19,6 +16,7 @@ use group_requests::{reply_to_forget_group, reply_to_offset_commit, reply_to_off
 use log_requests::{reply_to_fetch, reply_to_list_offsets, reply_to_metadata, reply_to_produce};
 use request_frames::{Request, RequestBody};
 use segment::BatchStore;
+use setup_requests::{reply_to_api_versions, reply_to_find_coordinator, reply_to_init_producer_id};
 use std::alloc::{AllocError, Allocator};
 
 /// What stands behind the output once a request was handled.

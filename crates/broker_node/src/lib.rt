@@ -1,7 +1,7 @@
 //! The broker: what it replies to each request, what it writes for a stream of them, and `Node`, which
 //! handles one request. Read `specs/` in the order of `specs/Lib.antt`; what a broker holds is defined in
 //! `broker_state`, and each request in a crate of its kind:
-//! `log_requests`, `group_requests`, `client_requests` and `copy_requests`.
+//! `log_requests`, `group_requests`, `setup_requests` and `copy_requests`.
 //!
 //! A reply is a function of the state and the request: the bytes of one response or none, and the state
 //! after. Where memory runs out within one partition, that partition is answered with a storage error

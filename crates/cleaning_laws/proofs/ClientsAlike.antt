@@ -9,8 +9,8 @@ use Rattle.answering.specs.Lists.{fault_if, first_some}
 use Rattle.broker_state.specs.State.{State}
 use Rattle.broker_state.specs.Checks.{no_group, role_code}
 use Rattle.broker_state.specs.Producers.{greatest_int64, with_id_given}
-use Rattle.client_requests.specs.FindCoordinator.{this_coordinator, find_coordinator_work, find_coordinator_sent}
-use Rattle.client_requests.specs.InitProducerId.{id_answer, init_producer_id_work, init_producer_id_sent}
+use Rattle.setup_requests.specs.FindCoordinator.{this_coordinator, find_coordinator_work, find_coordinator_sent}
+use Rattle.setup_requests.specs.InitProducerId.{id_answer, init_producer_id_work, init_producer_id_sent}
 use Rattle.cleaning_laws.specs.Logs.{Logs}
 use Rattle.cleaning_laws.specs.Alike.{AreAlike}
 use Rattle.cleaning_laws.proofs.GrownLogs.{stay}

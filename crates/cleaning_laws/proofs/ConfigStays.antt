@@ -13,8 +13,8 @@ use Rattle.log_requests.specs.ListOffsets.{list_offsets_work}
 use Rattle.group_requests.specs.OffsetCommit.{offset_commit_work}
 use Rattle.group_requests.specs.OffsetFetch.{offset_fetch_plan}
 use Rattle.group_requests.specs.ForgetGroup.{forget_group_work}
-use Rattle.client_requests.specs.FindCoordinator.{find_coordinator_work}
-use Rattle.client_requests.specs.InitProducerId.{init_producer_id_work}
+use Rattle.setup_requests.specs.FindCoordinator.{find_coordinator_work}
+use Rattle.setup_requests.specs.InitProducerId.{init_producer_id_work}
 use Rattle.copy_requests.specs.Deliver.{deliver_work}
 use Rattle.copy_requests.specs.Clean.{clean_work}
 use Rattle.copy_requests.specs.Export.{export_work}

@@ -1,7 +1,7 @@
 -- The statuses of the program.
 use Rattle.std.specs.Prelude.{ℕ}
-use Rattle.copy_tools.specs.declared.error.ReplayError.{ReplayError}
-use Rattle.copy_tools.specs.declared.error.ReplayError.TheVariants as replay
+use Rattle.script_replay.specs.declared.error.ReplayError.{ReplayError}
+use Rattle.script_replay.specs.declared.error.ReplayError.TheVariants as replay
 use Rattle.broker_core.specs.declared.session.SessionError.{SessionError}
 use Rattle.broker_core.specs.declared.session.SessionError.TheVariants as session
 use Rattle.subcommands.specs.declared.error.TableError.{TableError}

@@ -41,7 +41,7 @@ fn read_all<A: Allocator + Copy, R: Read>(
 }
 
 /// Writes an image, and flushes the writer.
-fn write_image<W: Write>(image: &[u8], writer: &mut W) -> Result<(), ImagesError>
+fn print_image<W: Write>(image: &[u8], writer: &mut W) -> Result<(), ImagesError>
     ensures writes { OnOk result
         (Appends (W.contents writer.old) (W.contents writer.new) image.now) }
     ensures write_error { IfErr result (λ why. why ≡ ImagesError.Write) }
@@ -78,7 +78,7 @@ pub fn merge_stream<A: Allocator + Copy, R: Read, W: Write>(
 {
     let input = read_all(alloc, reader)?;
     match merge_images(alloc, input.bytes()) {
-        Ok(image) => write_image(&image, writer),
+        Ok(image) => print_image(&image, writer),
         Err(MergeFault::OutOfMemory) => Err(ImagesError::OutOfMemory),
         Err(why) => Err(ImagesError::Images(why)),
     }

@@ -4,7 +4,7 @@ ghost use Rattle.std.specs.Prelude.{◌≡◌, ◌≢◌, ◌≤◌};
 ghost use Rattle.subcommands.specs.Status.{replay_status};
 
 use crate::status::{DONE, replay_status};
-use copy_tools::replay;
+use script_replay::replay;
 use segment::VecStore;
 use std::alloc::Allocator;
 use std::io::{Read, Write};

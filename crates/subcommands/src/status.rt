@@ -5,7 +5,7 @@ ghost use Rattle.subcommands.specs.Status.{table_status, session_status, images_
 
 use crate::error::{ImagesError, SessionFault, TableError};
 use broker_core::SessionError;
-use copy_tools::ReplayError;
+use script_replay::ReplayError;
 use std::io::Write;
 
 /// The status of a run that did what it was asked for.

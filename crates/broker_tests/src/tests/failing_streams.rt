@@ -1,7 +1,7 @@
 //! Readers and writers that fail, at once and in mid-stream.
 
 use crate::tests::frames::{LIST, LISTED};
-use outside_batches::THREE;
+use sample_batches::THREE;
 use std::alloc::{Allocator, Global};
 use std::io::{Error, ErrorKind, Read, Result, Write};
 use std::test::Fail;

@@ -1,6 +1,6 @@
 //! A table under each allocation failing in turn: nothing is printed, and a run with memory prints it.
-use outside_batches::THREE;
 use refusing_alloc::Refusing;
+use sample_batches::THREE;
 use std::alloc::Allocator;
 use std::test::Fail;
 use tcp_edge::{TableError, run_table, run_table_subcommand};

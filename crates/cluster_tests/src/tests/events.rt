@@ -2,8 +2,8 @@
 
 use batch_codec::BatchError;
 use cluster::{Cluster, ClusterError, Event, EventError, Outcome};
-use outside_batches::{NO_KEY, sent};
 use partition_log::AppendError;
+use sample_batches::{NO_KEY, sent};
 use segment::{BatchStore, VecStore};
 use std::test::Fail;
 

@@ -4,8 +4,8 @@ use crate::tests::copies::has_image;
 use crate::tests::outside::{ALL_OFFSETS, ONE_OFFSET};
 use batch_codec::view;
 use copy_images::{read_image, write_image};
-use outside_batches::{A_IS_1, one, sent};
 use partition_log::{AppendError, Appended, CleanReport, LeaderLog, PartitionLog};
+use sample_batches::{A_IS_1, one, sent};
 use segment::{BatchStore, VecStore};
 
 /// Whether a log answers a batch so.

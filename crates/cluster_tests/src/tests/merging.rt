@@ -4,8 +4,8 @@ use crate::tests::copies::{are_added, has_image};
 use crate::tests::outside::{A_IS_1, B_IS_2, EMPTY, LEFT, NONE_OF_TWO, RIGHT, SECOND_OF_TWO, TWO};
 use copy_images::read_image;
 use copy_merge::{MergeError, merge, merge_into};
-use outside_batches::{nine_at, one, three_at};
 use partition_log::PartitionLog;
+use sample_batches::{nine_at, one, three_at};
 use segment::{BatchStore, VecStore};
 
 /// What two copies are, their images, and that of their merge.

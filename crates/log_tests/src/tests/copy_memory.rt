@@ -1,8 +1,8 @@
 //! A copy under each allocation failing in turn: it is as it was, and the call succeeds later.
 use batch_codec::view;
-use outside_batches::{NINE, THREE, one};
 use partition_log::{CleanReport, DeliverError, Delivered, PartitionLog};
 use refusing_alloc::Refusing;
+use sample_batches::{NINE, THREE, one};
 use segment::{BatchStore, VecStore};
 use std::test::Fail;
 

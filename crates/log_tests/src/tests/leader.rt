@@ -1,7 +1,7 @@
 //! A leader's log that a copy with a gap can't become, and a batch that it refuses by name.
 use crate::tests::answers::{answer, is_added};
-use outside_batches::{EMPTIED, one};
 use partition_log::{AppendError, LeaderLog, PartitionLog};
+use sample_batches::{EMPTIED, one};
 use segment::{BatchStore, VecStore};
 
 /// A copy that lacks the offset 0, handed back; `None` where a leader's log is made of it.

@@ -1,9 +1,9 @@
 //! A leader's log of many producers: what it answers to each, with an index of producers and without, and
 //! with each allocation failing in turn.
 use crate::tests::answers::{Answer, answer, is_added};
-use outside_batches::sent;
 use partition_log::{AppendError, CleanReport, LeaderLog, PartitionLog};
 use refusing_alloc::Refusing;
+use sample_batches::sent;
 use segment::{BatchStore, VecStore};
 use std::alloc::Allocator;
 

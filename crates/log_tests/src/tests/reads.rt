@@ -1,8 +1,8 @@
 //! What a copy answers from the batches that it keeps. That a deleted key stays deleted is a row of
 //! `tests/rows/deliveries.rows`.
 use crate::tests::answers::is_added;
-use outside_batches::one;
 use partition_log::{OutOfRange, PartitionLog};
+use sample_batches::one;
 use segment::{BatchStore, VecStore};
 
 /// Whether a copy that has seen nothing answers so.

@@ -1,7 +1,7 @@
 //! `set_base` on the batch of one record: the two fields have other bytes, and all else stays.
 
 use batch_codec::{set_base, view};
-use outside_batches::A_IS_1;
+use sample_batches::A_IS_1;
 use std::test::Fail;
 
 /// The base offset 258, the length, and the leader epoch -2.

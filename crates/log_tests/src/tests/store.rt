@@ -7,8 +7,8 @@ ghost use Rattle.batch_codec.specs.Rebase.{with_base};
 ghost use Rattle.segment.specs.BatchLists.{IsBatchList};
 
 use batch_codec::{Batch, BatchView, set_base, view};
-use outside_batches::{EMPTIED, NINE, THREE, nine_at};
 use refusing_alloc::Refusing;
+use sample_batches::{EMPTIED, NINE, THREE, nine_at};
 use segment::{BatchStore, VecStore, can_insert};
 use std::alloc::{AllocError, Allocator};
 

@@ -1,7 +1,7 @@
 //! `view`, and what a view says of its batch. Its refusals are rows of `tests/rows`.
 
 use batch_codec::{BatchError, BatchView, Headers, RecordView, one_encoding, view};
-use outside_batches::{A_IS_1, A_IS_EMPTY, A_IS_NULL, ALL_FIELDS, EMPTIED, THREE};
+use sample_batches::{A_IS_1, A_IS_EMPTY, A_IS_NULL, ALL_FIELDS, EMPTIED, THREE};
 use std::alloc::{AllocError, Allocator};
 use std::test::Fail;
 

@@ -1,9 +1,9 @@
 use Rattle.std.proofs.Common.{FitsSigned, w32, rules}
 use Rattle.std.proofs.lemmas.Int.{to_z-of_z}
 use Rattle.request_frames.specs.declared.parsing.RequestBody.TheVariants as variants
-use Rattle.client_requests.specs.FindCoordinator.{find_coordinator_work, find_coordinator_sent}
+use Rattle.setup_requests.specs.FindCoordinator.{find_coordinator_work, find_coordinator_sent}
 use Rattle.request_frames.specs.FindCoordinator.{find_coordinator_view}
-use Rattle.client_requests.specs.InitProducerId.{init_producer_id_work, init_producer_id_sent}
+use Rattle.setup_requests.specs.InitProducerId.{init_producer_id_work, init_producer_id_sent}
 use Rattle.request_frames.specs.InitProducerId.{init_producer_id_view}
 use Rattle.copy_requests.specs.Deliver.{deliver_work, deliver_sent}
 use Rattle.request_frames.specs.Deliver.{deliver_view}

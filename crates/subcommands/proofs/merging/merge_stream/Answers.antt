@@ -7,13 +7,13 @@ pub returns-in-Ok-clause-prints_the_merge : goal.returns-in-Ok-clause-prints_the
 returns-in-Ok-clause-prints_the_merge g c =
     let read = subst (λ (xs : List ℕ). MergesImages xs c.in-Ok.image.items) c.bytes.ensures c.in-Ok.ensures.merges in
     let merges = subst (λ (xs : List ℕ). MergesImages c.in_ok-input.input xs) (sym c.deref.ensures.value) read in
-    on_ok_weaker c.write_image.result (λ appends. record {
+    on_ok_weaker c.print_image.result (λ appends. record {
       input = c.in_ok-input.input;
       image = c.deref.result.now;
       reads = c.in_ok-input.ensures.reads;
       merges = merges;
       appends = appends;
-    }) c.write_image.ensures.writes
+    }) c.print_image.ensures.writes
 
 pub returns-clause-names_first_fault : goal.returns-clause-names_first_fault
 returns-clause-names_first_fault g c =
