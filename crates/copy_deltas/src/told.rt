@@ -42,6 +42,10 @@ impl<'a> Telling for EntryBytes<'a> {
 
     ghost left = { λ told. length told.bytes.now };
 
+    fn has_entry(&self) -> bool {
+        !self.bytes.is_empty()
+    }
+
     fn first(&self) -> Option<EntryView<'_>> {
         match split_entry(self.bytes) {
             Some((entry, _)) => Some(entry),

@@ -1,6 +1,6 @@
 //! The batches that a copy keeps, one after another.
 
-ghost use Rattle.std.specs.Prelude.{◌≡◌, drop, IfSome};
+ghost use Rattle.std.specs.Prelude.{◌≡◌, drop, is_some, IfSome};
 ghost use Rattle.content.specs.Content.{IsContent};
 ghost use Rattle.content.specs.Records.{IsKeepable};
 ghost use Rattle.side_by_side.specs.Steps.{first_batch, HasSpan};
@@ -49,6 +49,14 @@ impl<'a, S: BatchStore> KeptBatches<'a, S> {
         KeptBatches { copy, passed: 0 }
     }
 
+    /// Whether a batch is left.
+    #[tactic(auto, using(crate::proofs::NextSteps::some_at))]
+    pub(crate) fn has_batch(&self) -> bool
+        ensures { result ≡ is_some (first_batch self.now) }
+    {
+        self.passed < self.copy.len()
+    }
+
     /// The batch that comes next, if there is one.
     pub(crate) fn first_batch(&self) -> Option<BatchView<'_>>
         ensures first { result ≡ first_batch self.now }
@@ -77,6 +85,10 @@ impl<'a, S: BatchStore> Telling for KeptBatches<'a, S> {
     ghost tells = { λ k entries. entries ≡ map Sent k };
 
     ghost left = { λ k. length k };
+
+    fn has_entry(&self) -> bool {
+        self.has_batch()
+    }
 
     fn first(&self) -> Option<EntryView<'_>> {
         match self.first_batch() {

@@ -94,6 +94,7 @@ pub(crate) fn has_all_listed(batch: &BatchView<'_>, offsets: &[OffsetBytes]) -> 
     requires rising { (low : ℤ) × OffsetsRise low (offsets_of offsets.now) }
     ensures { IsTrue result → with_listed (offsets_of offsets.now) batch.now ≡ batch.now }
 {
+    // For its contract: the batch's fields are valid.
     know_batch(batch);
     walk_all_listed(batch, offsets)
 }
@@ -138,6 +139,7 @@ pub(crate) fn listed_batch<A: Allocator + Copy>(
     requires rising { (low : ℤ) × OffsetsRise low (offsets_of offsets.now) }
     ensures { IfOk result (λ listed. listed ≡ with_listed (offsets_of offsets.now) batch.now) }
 {
+    // For its contract: the batch's fields are valid.
     know_batch(batch);
     let whole = Batch::from_view(alloc, batch)?;
     let head = whole.head;

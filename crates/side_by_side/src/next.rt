@@ -27,12 +27,13 @@ pub(crate) enum Next<'a> {
 }
 
 /// Whether a batch or an entry is left.
+#[tactic(auto, using(crate::proofs::NextSteps::some_left))]
 pub(crate) fn has_next<S: BatchStore, T: Telling>(kept: &KeptBatches<'_, S>, told: &T) -> bool
     requires { (entries : List Entry) × T.tells told.now entries }
     ensures { (entries : List Entry) → T.tells told.now entries
         → result ≡ not (is_done (next_of kept.now entries)) }
 {
-    kept.first_batch().is_some() || told.first().is_some()
+    kept.has_batch() || told.has_entry()
 }
 
 /// What comes next of a batch and an entry.

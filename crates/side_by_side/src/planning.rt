@@ -75,6 +75,7 @@ fn bring_encoded<S: BatchStore, A: Allocator + Copy>(
     ensures more { OnOk result
         (S.batches plan.new.more ≡ S.batches plan.old.more ++ batch.now ∷ []) }
 {
+    // For its contract: a batch has one encoding.
     one_encoding();
     let mut bytes = Vec::new(alloc);
     match encode(batch, &mut bytes) {

@@ -53,9 +53,7 @@ impl<'a, A: Allocator + Copy> Seen for SeenCover<'a, A> {
 
     ghost has_seen = { λ s low runs. s.cover.now.runs ≡ runs };
 
-    fn pass_below(&mut self, offset: i64) {
-        let _ = offset;
-    }
+    fn pass_below(&mut self, _offset: i64) {}
 
     fn has_all_or_none(&self, batch: &BatchView<'_>) -> bool {
         has_all_or_none(self.cover, batch)

@@ -4,7 +4,7 @@ use delta_bytes::entries::EntryView;
 
 /// What a copy is told of batches that another keeps: entries, one after another, by rising base offset.
 pub trait Telling: Sized + Drop {
-    ghost use Rattle.std.specs.Prelude.{◌≡◌, ◌≤◌, ◌<◌, ◌+◌, ℕ, List, [], ◌∷◌, drop, length, not, IfSome};
+    ghost use Rattle.std.specs.Prelude.{◌≡◌, ◌<◌, ℕ, List, drop, length, is_some, IfSome};
     ghost use Rattle.std.specs.Option.{option_map};
     ghost use Rattle.deltas.specs.Entries.{Entry};
     ghost use Rattle.delta_bytes.specs.EntryViews.{IsValidEntry, entry_of};
@@ -15,6 +15,12 @@ pub trait Telling: Sized + Drop {
 
     /// A number that gets less with each entry that is passed.
     ghost left: { Self → ℕ };
+
+    /// Whether an entry is left. Takes no memory.
+    fn has_entry(&self) -> bool
+        requires { (entries : List Entry) × tells self.now entries }
+        ensures { (entries : List Entry) → tells self.now entries
+            → result ≡ is_some (first_entry entries) };
 
     /// The entry that comes next, if there is one. Takes no memory.
     fn first(&self) -> Option<EntryView<'_>>

@@ -10,6 +10,9 @@ use Rattle.side_by_side.proofs.judging.judge.Goals as goal
 pub loop-kept-init : goal.loop-kept-init
 loop-kept-init g c e told = none_judged c.args.copy.now e _ c.new-kept.result (g.T.Telling.tells c.args.told) (g.V.Seen.has_seen c.args.seen) c.new-kept.ensures.all c.new-kept.ensures.is_content told
 
+pub returns-then-not-fits-clause-accepts : goal.returns-then-not-fits-clause-accepts
+returns-then-not-fits-clause-accepts g c = tt
+
 pub returns-then-not-fits-clause-refuses : goal.returns-then-not-fits-clause-refuses
 returns-then-not-fits-clause-refuses g c e told =
     let base_fits : FitsSigned w64 c.base-base.result = search rules in
