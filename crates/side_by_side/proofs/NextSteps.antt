@@ -63,12 +63,6 @@ takes_one (Kept x) some = omega arith
 takes_one (Told y) some = omega arith
 takes_one (Both x y) some = omega arith
 
-pub one_or_none : (step : Step) → taken_told step ≤ 1
-one_or_none Done = omega arith
-one_or_none (Kept x) = omega arith
-one_or_none (Told y) = omega arith
-one_or_none (Both x y) = omega arith
-
 -- less is left behind it
 pub less_left : (xs : Batches) (es : Entries) (p q now later : ℕ) → p ≡ taken_kept (next_of xs es) → q ≡ taken_told (next_of xs es) → is_done (next_of xs es) ≡ false → later + q ≤ now
     → (length (drop p xs) + later) < (length xs + now)
