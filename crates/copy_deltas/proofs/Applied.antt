@@ -1,21 +1,15 @@
--- A delta taken into a copy, by its parts: judged where it stands, planned, and woven.
-use Rattle.std.proofs.Common.{◌≡◌, ℕ, ℤ, Bool, true, false, List, refl, sym, subst, ◌∙◌, IsTrue}
-use Rattle.std.specs.Prelude.{◌↔◌, Result, Ok, Err, OnOk}
-use Rattle.batch_codec.specs.Values.{BatchValue}
-use Rattle.cover_ranges.specs.Runs.{Runs, union_of, cut_below}
-use Rattle.content.specs.Content.{Content, IsContent}
+-- A delta taken into a copy, by its parts.
+use Rattle.std.proofs.Common.{◌≡◌, ℕ, ℤ, List, refl, subst}
+use Rattle.content.specs.Content.{Content}
 use Rattle.copy_images.specs.Judging.{ranges_of}
-use Rattle.copy_merge.proofs.Merged.{content_from}
 use Rattle.deltas.specs.Deltas.{Delta}
 use Rattle.deltas.specs.Accepting.{IsFor, HasUnknown, Accepts, IsFirstFault}
-use Rattle.deltas.specs.Patches.{later_start, patch}
-use Rattle.deltas.proofs.PatchContents.{content_patch}
 use Rattle.delta_bytes.specs.declared.delta.DeltaBytes.{DeltaBytes}
 use Rattle.delta_bytes.specs.Deltas.{delta_with, IsDeltaAt}
 use Rattle.copy_deltas.specs.declared.error.PatchError.{PatchError}
 use Rattle.copy_deltas.specs.declared.error.PatchError.TheVariants.{Short, BadMark, BadVersion, BadCrc, BadCover, BadBatch, Outside, Extra, NotFor, Disagree, OutOfMemory}
 use Rattle.copy_deltas.specs.Applying.{TakesDelta, BytesFault, RefusesDelta}
-use Rattle.copy_deltas.specs.Fitting.{AreParts}
+use Rattle.copy_deltas.specs.DeltaParts.{AreParts}
 
 -- ---- what is judged
 
@@ -58,21 +52,3 @@ fault_refused c bytes Extra fault = fault
 fault_refused c bytes NotFor fault = absurd fault
 fault_refused c bytes (Disagree base) fault = absurd fault
 fault_refused c bytes OutOfMemory fault = absurd fault
-
--- ---- what is woven
-
-patch_parts : (c : Content) (e : Delta) → content_from (later_start c e) (cut_below (later_start c e) (union_of c.cover e.cover)) (patch c e).kept ≡ patch c e
-unfolding patch
-patch_parts c e = refl
-
-pub woven_is : (c : Content) (e : Delta) (start : ℤ) (runs seen : Runs) (kept : List BatchValue) → start ≡ later_start c e → seen ≡ e.cover → runs ≡ cut_below start (union_of c.cover seen) → kept ≡ (patch c e).kept → content_from start runs kept ≡ patch c e
-woven_is c e start runs seen kept starts seen_is covered is =
-    (λ i. content_from (starts i) ((covered ∙ (λ k. cut_below (starts k) (union_of c.cover (seen_is k)))) i) (is i)) ∙ patch_parts c e
-
-pub woven_content : (c : Content) (parts : DeltaBytes) (e : Delta) (start : ℤ) (runs seen : Runs) (kept : List BatchValue) → IsContent c → AreParts parts e
-    → start ≡ later_start c e → seen ≡ e.cover → runs ≡ cut_below start (union_of c.cover seen) → kept ≡ (patch c e).kept → IsContent (content_from start runs kept)
-woven_content c parts e start runs seen kept is are starts seen_is covered made = subst IsContent (sym (woven_is c e start runs seen kept starts seen_is covered made)) (content_patch c e is are.valid)
-
-pub patched_on_ok : {T E : Type 0} (r : Result T E) (c x y : Content) (parts : DeltaBytes) → OnOk r (x ≡ y) → ((e : Delta) → AreParts parts e → y ≡ patch c e) → OnOk r ((e : Delta) → AreParts parts e → x ≡ patch c e)
-patched_on_ok (Ok v) c x y parts same is = λ e are. same ∙ is e are
-patched_on_ok (Err v) c x y parts same is = tt

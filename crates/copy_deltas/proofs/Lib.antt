@@ -1,8 +1,5 @@
-pub mod StepWalk
-pub mod Planned
-pub mod PlannedBytes
+pub mod ToldBytes
 pub mod Applied
-pub mod ListedRecords
 pub mod Asked
 pub mod Entries
 pub mod Parts
@@ -11,8 +8,4 @@ pub mod Valid
 pub mod Decided
 pub mod Outcomes
 pub mod Exchanged
-pub mod NextSteps
-pub mod Fitting
-pub mod Judged
-pub mod JudgedBytes
 pub mod Known

@@ -1,7 +1,5 @@
 -- Read in this order.
 pub mod Applying
 pub mod Deciding
-pub mod Steps
-pub mod Fitting
-pub mod ListWalks
+pub mod DeltaParts
 pub mod Exchanging

@@ -1,28 +1,25 @@
 //! A delta taken into a copy.
 
 ghost use Rattle.std.specs.Prelude.{◌≡◌, ◌≢◌, ℕ, List, OnOk, OnErr, IfOk, IfErr};
-ghost use Rattle.cover_ranges.specs.Runs.{union_of, cut_below};
 ghost use Rattle.deltas.specs.Deltas.{Delta};
 ghost use Rattle.deltas.specs.Patches.{patch};
+ghost use Rattle.deltas.specs.Accepting.{Accepts, IsFirstFault};
 ghost use Rattle.delta_bytes.specs.declared.error.DeltaError.TheVariants.{InFront, InBody};
 ghost use Rattle.delta_bytes.specs.Fronts.{Refuses};
 ghost use Rattle.copy_deltas.specs.declared.error.PatchError.TheVariants.{OutOfMemory};
 ghost use Rattle.copy_deltas.specs.Applying.{TakesDelta, BytesFault, RefusesDelta};
-ghost use Rattle.copy_deltas.specs.Fitting.{AreParts};
+ghost use Rattle.copy_deltas.specs.DeltaParts.{AreParts};
 
 use crate::error::PatchError;
-use crate::judging::judge;
 use crate::knowing::knows_all;
-use crate::planning::{later_start, make_plan};
+use crate::told::{RangesLeft, entries_of};
 use copy_images::ranges::build_cover;
-use copy_merge::next::know_content;
-use copy_merge::planning::Plan;
-use cover_ranges::Cover;
 use delta_bytes::{
     BodyError, DeltaBytes, DeltaError, EntriesError, FrontError, RangesError, judge_delta,
 };
 use partition_log::PartitionLog;
 use segment::BatchStore;
+use side_by_side::{judge, patch};
 use std::alloc::AllocError;
 
 /// A fault in the front of a delta.
@@ -61,20 +58,6 @@ fn fault_of(fault: DeltaError) -> PatchError
     }
 }
 
-/// The offsets that the copy or the sender has seen, from a start on.
-fn cover_from<S: BatchStore>(
-    copy: &PartitionLog<S>,
-    seen: &Cover<S::Alloc>,
-    start: i64,
-) -> Result<Cover<S::Alloc>, AllocError>
-    ensures { IfOk result (λ cover.
-        cover.runs ≡ cut_below start (union_of copy.now.cover seen.now.runs)) }
-{
-    let mut cover = copy.cover().union(seen)?;
-    cover.cut_below(start);
-    Ok(cover)
-}
-
 /// Takes the delta of these parts into a copy. All memory is taken before anything changes.
 fn patch_copy<S: BatchStore>(
     copy: &mut PartitionLog<S>,
@@ -84,12 +67,22 @@ fn patch_copy<S: BatchStore>(
     ensures patches { OnOk result ((e : Delta) → AreParts delta.now e → copy.new ≡ patch copy.old e) }
     ensures unchanged_on_error { OnErr result (copy.new ≡ copy.old) }
 {
-    know_content(copy);
     let seen = build_cover(copy.allocator(), delta.ranges)?;
-    let Plan { turns, more } = make_plan(copy, delta, &seen)?;
-    let start = later_start(copy, delta.start);
-    let cover = cover_from(copy, &seen, start)?;
-    copy.weave(cover, start, &turns, more)
+    patch(copy, delta.start, entries_of(delta), &seen)
+}
+
+/// Whether a copy may take the delta of these parts; if not, the least base offset at which it may not.
+/// Takes no memory.
+fn judge_parts<S: BatchStore>(copy: &PartitionLog<S>, delta: &DeltaBytes<'_>) -> Result<(), i64>
+    requires { (e : Delta) × AreParts delta.now e }
+    ensures accepts { OnOk result ((e : Delta) → AreParts delta.now e → Accepts copy.now e) }
+    ensures refuses { IfErr result (λ base. (e : Delta) → AreParts delta.now e
+        → IsFirstFault copy.now e base) }
+{
+    let seen = RangesLeft {
+        ranges: delta.ranges,
+    };
+    judge(copy, delta.start, entries_of(delta), seen)
 }
 
 /// Judges bytes as a delta that the copy may take, and gives its parts. It takes no memory.
@@ -109,7 +102,7 @@ fn judge_bytes<'a, S: BatchStore>(
     if !knows_all(copy, delta.asked) {
         return Err(PatchError::NotFor);
     }
-    match judge(copy, &delta) {
+    match judge_parts(copy, &delta) {
         Ok(()) => Ok(delta),
         Err(base) => Err(PatchError::Disagree { base }),
     }

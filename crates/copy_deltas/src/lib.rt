@@ -13,14 +13,11 @@
 mod apply;
 mod asking;
 mod error;
-mod judging;
 mod knowing;
 pub mod laws;
 pub mod layout;
-mod listed;
-mod next;
-mod planning;
 mod size;
+mod told;
 mod write;
 
 pub use apply::{apply_delta, check_delta};

@@ -5,7 +5,7 @@ ghost use Rattle.batch_codec.specs.Values.{BatchValue};
 ghost use Rattle.copy_images.specs.Judging.{ranges_of, IsEncoded, AreJudged, IsBuilt};
 
 use crate::batches::split_batch;
-use crate::front::Parts;
+use crate::front::ImageParts;
 use crate::ranges::build_cover;
 use partition_log::PartitionLog;
 use segment::BatchStore;
@@ -29,7 +29,7 @@ fn build_store<S: BatchStore>(alloc: S::Alloc, bytes: &[u8]) -> Result<S, AllocE
 /// The copy of an image.
 pub(crate) fn build<S: BatchStore>(
     alloc: S::Alloc,
-    parts: &Parts<'_>,
+    parts: &ImageParts<'_>,
 ) -> Result<PartitionLog<S>, AllocError>
     requires { AreJudged parts.now.start (ranges_of parts.now.ranges.now) parts.now.count
         parts.now.batches.now }

@@ -16,7 +16,7 @@ use cover_ranges::OFFSETS_END;
 
 /// The parts of an image, borrowed from its bytes.
 #[derive(Drop)]
-pub(crate) struct Parts<'a> {
+pub(crate) struct ImageParts<'a> {
     /// The log start.
     pub start: i64,
     /// The ranges, in order.
@@ -90,7 +90,7 @@ pub fn is_log_start(start: i64) -> bool
 }
 
 /// Cuts an image into its parts.
-pub(crate) fn parts_of(bytes: &[u8]) -> Result<Parts<'_>, ImageError>
+pub(crate) fn parts_of(bytes: &[u8]) -> Result<ImageParts<'_>, ImageError>
     requires { HasCrc bytes.now }
     ensures starts { OnOk result (HasStart bytes.now) }
     ensures start { IfOk result (λ parts. parts.start ≡ start_in bytes.now) }
@@ -115,7 +115,7 @@ pub(crate) fn parts_of(bytes: &[u8]) -> Result<Parts<'_>, ImageError>
     }
     let ranges_end = COUNT_SIZE + ranges_size;
     let (ranges, _) = body[COUNT_SIZE..ranges_end].as_chunks::<RANGE_SIZE>();
-    Ok(Parts {
+    Ok(ImageParts {
         start,
         ranges,
         count: be_i32_at(body, ranges_end),

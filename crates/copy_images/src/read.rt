@@ -8,13 +8,13 @@ ghost use Rattle.copy_images.specs.Judging.{ranges_of, AreJudged};
 use crate::batches::judge_batches;
 use crate::build::build;
 use crate::error::ImageError;
-use crate::front::{Parts, check_frame, parts_of};
+use crate::front::{ImageParts, check_frame, parts_of};
 use crate::ranges::is_cover;
 use partition_log::PartitionLog;
 use segment::BatchStore;
 
 /// Judges bytes as an image, and takes no memory.
-fn judge(bytes: &[u8]) -> Result<Parts<'_>, ImageError>
+fn judge(bytes: &[u8]) -> Result<ImageParts<'_>, ImageError>
     ensures starts { OnOk result (HasStart bytes.now) }
     ensures start { IfOk result (λ parts. parts.start ≡ start_in bytes.now) }
     ensures front { IfOk result (λ parts.

@@ -20,7 +20,7 @@ use Rattle.content.specs.Joins.{greater_start, FitsAt, Agree}
 use Rattle.content_laws.proofs.ByOffset.{look_up-offset, all_at, all_from_at}
 use Rattle.content_laws.proofs.BatchParts.{keepable-with_records_that, rec_common, common_comm}
 use Rattle.content_laws.proofs.Slots.{bases_rise, kept_keepable, kept_ends}
-use Rattle.copy_merge.specs.Agreement.{AreAlike}
+use Rattle.side_by_side.specs.Agreement.{AreAlike}
 use Rattle.copy_merge.specs.Agreeing.{has_any, fits, are_alike, is_alike_or_none, agree}
 
 -- ---- tests

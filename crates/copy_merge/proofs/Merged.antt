@@ -1,32 +1,49 @@
--- A merge of two copies, by its parts.
-use Rattle.std.proofs.Common.{◌≡◌, ℤ, List, refl, sym, ap, subst, ◌∙◌}
-use Rattle.std.specs.Prelude.{Result, Ok, Err, OnOk}
+-- A merge of two copies is a patch by the delta of one for which nothing was asked.
+use Rattle.std.proofs.Common.{◌≡◌, ℤ, pos, List, [], map, sym, ap, ◌∙◌, arith}
+use Rattle.std.specs.Prelude.{Result, Ok, Err, OnOk, IfErr}
+use Rattle.std.proofs.lemmas.Int.{ints}
 use Rattle.batch_codec.specs.Values.{BatchValue}
-use Rattle.cover_ranges.specs.Runs.{Runs, union_of, cut_below}
+use Rattle.cover_ranges.specs.Runs.{Runs}
+use Rattle.cover_ranges.proofs.RunsFrom.{from_canonical}
 use Rattle.content.specs.Content.{Content, IsContent}
-use Rattle.content.specs.Joins.{greater_start, join}
-use Rattle.content_laws.proofs.ContentSteps.{content_join}
+use Rattle.content.specs.Joins.{join, Agree}
+use Rattle.deltas.specs.Entries.{Entry}
+use Rattle.deltas.specs.Entries.Entry.{Sent}
+use Rattle.deltas.specs.Deltas.{Delta, delta_of}
+use Rattle.deltas.specs.Patches.{patch}
+use Rattle.deltas.specs.Accepting.{Accepts, IsFirstFault}
+use Rattle.deltas.proofs.Validity.{delta_is}
+use Rattle.deltas.proofs.Nothing.{whole_patch, whole_accepted, whole_accepted_at}
+use Rattle.side_by_side.specs.Telling.{IsTold}
+use Rattle.copy_merge.specs.Merges.{IsFirstDisagreement}
 
--- a copy by its start, what it has seen and the batches that it keeps
-abbrev pub content_from : ℤ → Runs → List BatchValue → Content
-content_from start runs kept = record { start = start; cover = runs; kept = kept }
+-- what a copy tells: each of its batches as a whole
+abbrev pub whole : Content → Delta
+whole b = delta_of b []
 
-pub join_parts : (a b : Content) → content_from (greater_start a b) (cut_below (greater_start a b) (union_of a.cover b.cover)) (join a b).kept ≡ join a b
-unfolding join
-join_parts a b = refl
+pub is_told : (b : Content) (start : ℤ) (kept : List BatchValue) (covered : Runs) → IsContent b → start ≡ b.start → kept ≡ b.kept → covered ≡ b.cover
+    → IsTold start (λ (es : List Entry). es ≡ map Sent kept) (λ (runs : Runs). covered ≡ runs) (whole b)
+is_told b start kept covered is starts all seen = record {
+  valid = delta_is b [] is (from_canonical (pos 0) [] (omega (arith, ints)) tt);
+  start_is = starts;
+  entries = ap (map Sent) (sym all);
+  cover = seen;
+}
 
--- what is woven by a plan is the merge, and so a content
-pub woven_is : (a b : Content) (start : ℤ) (runs : Runs) (kept : List BatchValue) → start ≡ greater_start a b → runs ≡ cut_below start (union_of a.cover b.cover) → kept ≡ (join a b).kept → content_from start runs kept ≡ join a b
-woven_is a b start runs kept starts covered is =
-    (λ i. content_from (starts i) (runs_are i) (is i)) ∙ join_parts a b
-  where
-    runs_are : runs ≡ cut_below (greater_start a b) (union_of a.cover b.cover)
-    runs_are = covered ∙ ap (λ (s : ℤ). cut_below s (union_of a.cover b.cover)) starts
+pub agreed : {T E : Type 0} (r : Result T E) (a b : Content) (Is : Delta → Type 0) → Is (whole b) → OnOk r ((e : Delta) → Is e → Accepts a e) → OnOk r (Agree a b)
+agreed (Ok v) a b Is told accepts = (whole_accepted b a).0 (accepts (whole b) told)
+agreed (Err v) a b Is told accepts = tt
 
-pub woven_content : (a b : Content) (start : ℤ) (runs : Runs) (kept : List BatchValue) → IsContent a → IsContent b → start ≡ greater_start a b → runs ≡ cut_below start (union_of a.cover b.cover) → kept ≡ (join a b).kept → IsContent (content_from start runs kept)
-woven_content a b start runs kept is_a is_b starts covered is =
-    subst IsContent (sym (woven_is a b start runs kept starts covered is)) (content_join a b is_a is_b)
+first_disagreement : (a b : Content) (base : ℤ) → IsFirstFault a (whole b) base → IsFirstDisagreement a b base
+first_disagreement a b base fault = (
+  λ agree. fault.0 ((whole_accepted_at b a base).1 agree),
+  λ lower less. (whole_accepted_at b a lower).0 (fault.1 lower less),
+)
 
-pub on_ok : {T E : Type 0} (x y z : Content) (r : Result T E) → OnOk r (x ≡ y) → y ≡ z → OnOk r (x ≡ z)
-on_ok x y z (Ok v) e f = e ∙ f
-on_ok x y z (Err v) e f = e
+pub disagreed : {T : Type 0} (r : Result T ℤ) (a b : Content) (Is : Delta → Type 0) → Is (whole b) → IfErr r (λ base. (e : Delta) → Is e → IsFirstFault a e base) → IfErr r (IsFirstDisagreement a b)
+disagreed (Ok v) a b Is told refuses = tt
+disagreed (Err base) a b Is told refuses = first_disagreement a b base (refuses (whole b) told)
+
+pub merged : {T E : Type 0} (r : Result T E) (a b c : Content) (Is : Delta → Type 0) → Is (whole b) → OnOk r ((e : Delta) → Is e → c ≡ patch a e) → OnOk r (c ≡ join a b)
+merged (Ok v) a b c Is told patches = patches (whole b) told ∙ whole_patch b a
+merged (Err v) a b c Is told patches = tt

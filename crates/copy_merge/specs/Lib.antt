@@ -1,6 +1,2 @@
-pub mod Steps
-pub mod Walks
-pub mod Agreement
 pub mod Agreeing
 pub mod Merges
-pub mod Plans

@@ -4,20 +4,14 @@
 //! that do not agree, and name the least base offset at which they disagree. Copies of one log always
 //! agree; two that agree need not be of one log.
 //!
-//! Each walks over the kept batches of both, by rising base offset, twice. The first walk judges,
-//! and takes no memory. The second plans what becomes of each batch: those that stay are not copied. What
-//! deltas share with merges stands in the public modules.
+//! A merge is a patch by what the other copy has to tell, all of its batches: `side_by_side` has the walk
+//! over both, and its law stands in `deltas`. Whether two copies agree is found out without memory, and
+//! batches that stay are not copied.
 #![tactic(auto)]
 
-pub mod alike;
-mod common;
 mod error;
-pub mod judging;
 mod laws;
 mod merging;
-pub mod next;
-pub mod planning;
-mod walk;
 
 pub use error::MergeError;
 pub use laws::agreement_is_decided;

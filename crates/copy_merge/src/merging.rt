@@ -1,30 +1,22 @@
 //! Two copies merged.
 
 ghost use Rattle.std.specs.Prelude.{◌≡◌, OnOk, OnErr, IfOk, IfErr};
-ghost use Rattle.cover_ranges.specs.Runs.{union_of, cut_below};
 ghost use Rattle.content.specs.Joins.{join, Agree};
-ghost use Rattle.copy_merge.specs.Merges.{RefusesMerge};
+ghost use Rattle.copy_merge.specs.Merges.{IsFirstDisagreement, RefusesMerge};
 
 use crate::error::MergeError;
-use crate::judging::judge;
-use crate::next::{greater_start, know_content};
-use crate::planning::{Plan, make_plan};
-use cover_ranges::Cover;
 use partition_log::PartitionLog;
 use segment::BatchStore;
+use side_by_side::{KeptBatches, SeenCover, judge, patch};
 use std::alloc::AllocError;
 
-/// The offsets that either of two copies has seen, from a start on.
-fn cover_from<S: BatchStore>(
-    a: &PartitionLog<S>,
-    b: &PartitionLog<S>,
-    start: i64,
-) -> Result<Cover<S::Alloc>, AllocError>
-    ensures { IfOk result (λ cover. cover.runs ≡ cut_below start (union_of a.now.cover b.now.cover)) }
+/// Whether two copies agree; if not, the least base offset at which they don't. Takes no memory.
+fn agree<S: BatchStore>(a: &PartitionLog<S>, b: &PartitionLog<S>) -> Result<(), i64>
+    ensures agrees { OnOk result (Agree a.now b.now) }
+    ensures disagrees { IfErr result (λ base. IsFirstDisagreement a.now b.now base) }
 {
-    let mut cover = a.cover().union(b.cover())?;
-    cover.cut_below(start);
-    Ok(cover)
+    let seen = SeenCover { cover: b.cover() };
+    judge(a, b.start(), KeptBatches::new(b), seen)
 }
 
 /// Merges a copy into another. All memory is taken before anything changes.
@@ -32,12 +24,7 @@ fn unite<S: BatchStore>(a: &mut PartitionLog<S>, b: &PartitionLog<S>) -> Result<
     ensures merges { OnOk result (a.new ≡ join a.old b.now) }
     ensures unchanged_on_error { OnErr result (a.new ≡ a.old) }
 {
-    know_content(a);
-    know_content(b);
-    let Plan { turns, more } = make_plan(a, b)?;
-    let start = greater_start(a, b);
-    let cover = cover_from(a, b, start)?;
-    a.weave(cover, start, &turns, more)
+    patch(a, b.start(), KeptBatches::new(b), b.cover())
 }
 
 /// The merge of two copies, in memory of its own.
@@ -73,7 +60,7 @@ pub fn merge<S: BatchStore>(
     ensures agrees { OnOk result (Agree a.now b.now) }
     ensures refuses { IfErr result (RefusesMerge a.now b.now) }
 {
-    match judge(a, b) {
+    match agree(a, b) {
         Ok(()) => match united(a, b) {
             Ok(merged) => Ok(merged),
             Err(_) => Err(MergeError::OutOfMemory),
@@ -100,7 +87,7 @@ pub fn merge_into<S: BatchStore>(
     ensures refuses { IfErr result (RefusesMerge a.old b.now) }
     ensures unchanged_on_error { OnErr result (a.new ≡ a.old) }
 {
-    match judge(a, b) {
+    match agree(a, b) {
         Ok(()) => match unite(a, b) {
             Ok(()) => Ok(()),
             Err(_) => Err(MergeError::OutOfMemory),

@@ -13,7 +13,7 @@ use copy_images::ranges::RangeBytes;
 
 /// The parts of a delta behind its front, borrowed from its bytes.
 #[derive(Drop)]
-pub(crate) struct Body<'a> {
+pub(crate) struct DeltaBody<'a> {
     /// The ranges that the sender has seen, in order.
     pub ranges: &'a [RangeBytes],
     /// The ranges that were asked, in order.
@@ -23,7 +23,7 @@ pub(crate) struct Body<'a> {
 }
 
 /// Judges what stands between the front of a delta and its crc, of a sender whose log start is `start`.
-pub(crate) fn judge_body(bytes: &[u8], start: i64) -> Result<Body<'_>, BodyError>
+pub(crate) fn judge_body(bytes: &[u8], start: i64) -> Result<DeltaBody<'_>, BodyError>
     requires { pos 0 ≤ℤ start }
     ensures accepts { IfOk result (λ body. (entries : List Entry) × HasBody start bytes.now
         (ranges_of body.ranges.now) (ranges_of body.asked.now) body.entries.now entries) }
@@ -38,7 +38,7 @@ pub(crate) fn judge_body(bytes: &[u8], start: i64) -> Result<Body<'_>, BodyError
         Err(fault) => return Err(BodyError::InRanges(fault)),
     };
     match judge_counted(sender.ranges, asked.ranges, asked.rest) {
-        Ok(()) => Ok(Body {
+        Ok(()) => Ok(DeltaBody {
             ranges: sender.ranges,
             asked: asked.ranges,
             entries: asked.rest,

@@ -11,7 +11,8 @@ use batch_codec::BatchView;
 use batch_codec::numbers::{be_i32_at, be_i64_at};
 use copy_images::batches::split_batch;
 
-/// What an entry tells of one batch that the sender keeps, borrowed from the bytes of a delta.
+/// What an entry tells of one batch that the sender keeps, borrowed from the bytes of a delta; or from the
+/// sender, where a copy is told of all its batches as they are.
 #[derive(Drop)]
 pub enum EntryView<'a> {
     /// The offsets of its records.

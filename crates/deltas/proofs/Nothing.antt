@@ -11,7 +11,7 @@ use Rattle.deltas.specs.Entries.{sent}
 use Rattle.deltas.specs.Deltas.{entry_for, delta_of}
 use Rattle.deltas.specs.Patches.{patch}
 use Rattle.deltas.specs.Patches.Said.{Lists}
-use Rattle.deltas.specs.Accepting.{sent_part, Accepts}
+use Rattle.deltas.specs.Accepting.{sent_part, AcceptsAt, Accepts}
 use Rattle.deltas.proofs.Entries.{Batches}
 use Rattle.deltas.proofs.DeltaMerges.{said_of, delta_said, merged_same}
 
@@ -36,11 +36,14 @@ no_list (Kept b) offsets e = cc
 no_list Gone offsets e = cc
 no_list Below offsets e = cc
 
-pub whole_accepted : (x y : Content) → Accepts y (delta_of x []) ↔ Agree y x
-whole_accepted x y = (
-  λ accepts base. subst (λ (z : Content). AgreeAt y z base) (whole_part x) (accepts base).0,
-  λ agree base. (
-    subst (λ (z : Content). AgreeAt y z base) (sym (whole_part x)) (agree base),
+pub whole_accepted_at : (x y : Content) (base : ℤ) → AcceptsAt y (delta_of x []) base ↔ AgreeAt y x base
+whole_accepted_at x y base = (
+  λ accepts. subst (λ (z : Content). AgreeAt y z base) (whole_part x) accepts.0,
+  λ agree. (
+    subst (λ (z : Content). AgreeAt y z base) (sym (whole_part x)) agree,
     λ offsets e. absurd (no_list (slot_at x base) offsets (sym (delta_said x [] base) ∙ e)),
   ),
 )
+
+pub whole_accepted : (x y : Content) → Accepts y (delta_of x []) ↔ Agree y x
+whole_accepted x y = (λ accepts base. (whole_accepted_at x y base).0 (accepts base), λ agree base. (whole_accepted_at x y base).1 (agree base))

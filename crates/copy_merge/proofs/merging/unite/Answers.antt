@@ -1,23 +1,21 @@
-use Rattle.std.proofs.Common.{List, ap, ◌∙◌, rules, FitsSigned, to_z, of_z}
+use Rattle.std.proofs.Common.{◌≡◌, List, map, rules, FitsSigned, to_z, of_z}
 use Rattle.std.specs.Int.{w64}
-use Rattle.segment.specs.declared.turn.Turn.{Turn}
-use Rattle.segment.specs.Weaving.{woven}
-use Rattle.content.specs.Joins.{greater_start}
-use Rattle.copy_merge.proofs.Judged.{passed_on}
-use Rattle.copy_merge.proofs.Merged.{woven_is, woven_content, on_ok}
+use Rattle.cover_ranges.specs.Runs.{Runs}
+use Rattle.deltas.specs.Entries.{Entry}
+use Rattle.deltas.specs.Entries.Entry.{Sent}
+use Rattle.side_by_side.specs.Telling.{IsTold}
+use Rattle.side_by_side.proofs.Agreeing.{passed_on}
+use Rattle.copy_merge.proofs.Merged.{whole, is_told, merged}
 use Rattle.copy_merge.proofs.merging.unite.Goals as goal
 
-pub weave-requires : goal.weave-requires
-weave-requires g c =
-    let fits : FitsSigned w64 c.greater_start-start.result = search rules in
-    woven_content c.args.a.now c.args.b.now (to_z w64 (of_z w64 c.greater_start-start.result)) c.in_ok-cover.cover.runs (woven c.deref.result.now c.args.a.now.kept (g.S.BatchStore.batches c.in_ok-turns.field-0.more))
-    c.know_content.ensures.is_content c.know_content-2.ensures.is_content (passed_on c.greater_start-start.result (greater_start c.args.a.now c.args.b.now) fits c.greater_start-start.ensures) c.in_ok-cover.ensures
-    (ap (λ (ts : List Turn). woven ts c.args.a.now.kept (g.S.BatchStore.batches c.in_ok-turns.field-0.more)) c.deref.ensures.value ∙ c.in_ok-turns.ensures)
+pub patch-requires : goal.patch-requires
+patch-requires g c =
+    let start_fits : FitsSigned w64 c.start.result = search rules in
+    let told = is_told c.args.b.now (to_z w64 (of_z w64 c.start.result)) c.new.result c.cover.result.now.runs c.new.ensures.is_content (passed_on c.start.result c.args.b.now.start start_fits c.start.ensures.start) c.new.ensures.all c.cover.ensures in
+    (whole c.args.b.now, told)
 
 pub returns-clause-merges : goal.returns-clause-merges
 returns-clause-merges g c =
-    let fits : FitsSigned w64 c.greater_start-start.result = search rules in
-    on_ok c.weave.new.self _ _ c.weave.result c.weave.ensures.weaves
-    (woven_is c.args.a.now c.args.b.now (to_z w64 (of_z w64 c.greater_start-start.result)) c.in_ok-cover.cover.runs (woven c.deref.result.now c.args.a.now.kept (g.S.BatchStore.batches c.in_ok-turns.field-0.more))
-    (passed_on c.greater_start-start.result (greater_start c.args.a.now c.args.b.now) fits c.greater_start-start.ensures) c.in_ok-cover.ensures
-    (ap (λ (ts : List Turn). woven ts c.args.a.now.kept (g.S.BatchStore.batches c.in_ok-turns.field-0.more)) c.deref.ensures.value ∙ c.in_ok-turns.ensures))
+    let start_fits : FitsSigned w64 c.start.result = search rules in
+    let told = is_told c.args.b.now (to_z w64 (of_z w64 c.start.result)) c.new.result c.cover.result.now.runs c.new.ensures.is_content (passed_on c.start.result c.args.b.now.start start_fits c.start.ensures.start) c.new.ensures.all c.cover.ensures in
+    merged c.patch.result c.args.a.now c.args.b.now c.patch.new.copy (IsTold (to_z w64 (of_z w64 c.start.result)) (λ (es : List Entry). es ≡ map Sent c.new.result) (λ (runs : Runs). c.cover.result.now.runs ≡ runs)) told c.patch.ensures.patches

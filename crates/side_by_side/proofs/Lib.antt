@@ -1,0 +1,14 @@
+pub mod KeptRange
+pub mod StepWalk
+pub mod NextSteps
+pub mod CommonRecords
+pub mod ListedRecords
+pub mod Agreeing
+pub mod Fitting
+pub mod Judged
+pub mod JudgedSteps
+pub mod Turns
+pub mod MadeBefore
+pub mod Planned
+pub mod PlannedSteps
+pub mod Patched
