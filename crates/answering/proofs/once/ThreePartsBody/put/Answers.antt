@@ -1,5 +1,5 @@
 use Rattle.answering.proofs.Begun.{three_parts}
-use Rattle.answering.proofs.once.PartsBody.put.Goals as goal
+use Rattle.answering.proofs.once.ThreePartsBody.put.Goals as goal
 
 pub returns-clause-appends : goal.returns-clause-appends
 returns-clause-appends g c =

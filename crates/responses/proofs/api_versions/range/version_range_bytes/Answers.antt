@@ -1,6 +1,6 @@
 use Rattle.std.proofs.Common.{rules}
 use Rattle.frame_fields.specs.Fields.{encoded}
-use Rattle.responses.proofs.produce.partition.partition_bytes.Goals as goal
+use Rattle.responses.proofs.api_versions.range.version_range_bytes.Goals as goal
 
 pub returns : goal.returns
 unfolding encoded

@@ -1,6 +1,6 @@
 use Rattle.std.proofs.Common.{rules}
 use Rattle.frame_fields.specs.Fields.{encoded}
-use Rattle.responses.proofs.fetch.partition.partition_head_bytes.Goals as goal
+use Rattle.responses.proofs.fetch.partition.fetched_head.Goals as goal
 
 pub returns : goal.returns
 unfolding encoded

@@ -1,6 +1,6 @@
 use Rattle.std.proofs.Common.{rules}
 use Rattle.frame_fields.specs.Fields.{encoded}
-use Rattle.responses.proofs.offset_commit.partition.partition_bytes.Goals as goal
+use Rattle.responses.proofs.fetch.response.fetch_head.Goals as goal
 
 pub returns : goal.returns
 unfolding encoded
