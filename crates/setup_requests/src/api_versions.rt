@@ -26,15 +26,6 @@ fn version_range(api: Api) -> VersionRange
     }
 }
 
-/// Appends what is said of a request.
-fn put_api<A: Allocator + Copy>(api: &Api, out: &mut Vec<u8, A>) -> Result<(), AllocError>
-    ensures appends { OnOk result
-        (out.new.items ≡ out.old.items ++ version_range_bytes (version_range api.now)) }
-    ensures unchanged_on_error { OnErr result (out.new.items ≡ out.old.items) }
-{
-    append_fixed(out, &version_range_bytes(version_range(*api)))
-}
-
 /// Appends what is said of requests.
 fn put_apis<A: Allocator + Copy>(apis: &[Api], out: &mut Vec<u8, A>) -> Result<(), AllocError>
     ensures appends { OnOk result (out.new.items
@@ -42,7 +33,7 @@ fn put_apis<A: Allocator + Copy>(apis: &[Api], out: &mut Vec<u8, A>) -> Result<(
     ensures begins { OnErr result (Begins out.old.items out.new.items) }
 {
     for api in apis {
-        put_api(api, out)?;
+        append_fixed(out, &version_range_bytes(version_range(*api)))?;
     }
     Ok(())
 }
