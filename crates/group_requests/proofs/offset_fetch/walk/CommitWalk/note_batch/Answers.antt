@@ -3,7 +3,7 @@ use Rattle.batch_codec.specs.Values.{RecordValue}
 use Rattle.batch_codec.specs.Views.{record_value}
 use Rattle.group_requests.specs.OffsetFetch.Walks.{slot_at}
 use Rattle.group_requests.proofs.OffsetWalks.{SeesAll, batch_more, batch_all}
-use Rattle.group_requests.proofs.offset_fetch.walk.Walk.note_batch.Goals as goal
+use Rattle.group_requests.proofs.offset_fetch.walk.CommitWalk.note_batch.Goals as goal
 
 pub loop-rec-init : goal.loop-rec-init
 loop-rec-init g c = (tt, tt, refl, λ rest. ap (λ (rs : List RecordValue). SeesAll c.args.index (c.args.self.now.front.items ++ rest) rs (slot_at c.args.self.now rest)) (c.into_iter-rec-iterator.ensures.into_iter_gives ∙ c.recs-rec-items.ensures))

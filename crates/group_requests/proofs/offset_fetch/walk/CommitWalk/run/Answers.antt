@@ -1,7 +1,7 @@
 use Rattle.std.proofs.Common.{◌≡◌, ◌<◌, ◌≤◌, ◌+◌, ◌-◌, ℕ, true, length, nat_eq, arith}
 use Rattle.group_requests.specs.OffsetFetch.Walks.{slot_at}
 use Rattle.group_requests.proofs.OffsetWalks.{walk_more, says_last}
-use Rattle.group_requests.proofs.offset_fetch.walk.Walk.run.Goals as goal
+use Rattle.group_requests.proofs.offset_fetch.walk.CommitWalk.run.Goals as goal
 
 below : (end n : ℕ) → 0 < end → end ≤ n → ((end - 1) < n) × (end ≡ (end - 1) + 1) × ((end - 1) ≤ n)
 below end n some le = (omega arith, omega arith, omega arith)

@@ -4,7 +4,7 @@ use Rattle.std.specs.Option.{option_map, option_copied_mut, is_some}
 use Rattle.batch_codec.specs.Views.{record_value}
 use Rattle.group_requests.specs.OffsetFetch.Walks.{slot_value, slot_in, slot_at}
 use Rattle.group_requests.proofs.OffsetWalks.{behind, other_front, not_wanted, noted}
-use Rattle.group_requests.proofs.offset_fetch.walk.Walk.note.Goals as goal
+use Rattle.group_requests.proofs.offset_fetch.walk.CommitWalk.note.Goals as goal
 
 pub returns-in_default-strip_prefix : goal.returns-in_default-strip_prefix
 returns-in_default-strip_prefix g c = record {

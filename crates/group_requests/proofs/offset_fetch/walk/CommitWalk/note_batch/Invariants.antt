@@ -1,7 +1,7 @@
 use Rattle.std.proofs.Common.{◌≡◌, ℕ, List, ◌++◌}
 use Rattle.group_requests.specs.OffsetFetch.Walks.{slot_at}
 use Rattle.group_requests.proofs.OffsetWalks.{SeesAll}
-use Rattle.group_requests.proofs.offset_fetch.walk.Walk.note_batch.Given as goal
+use Rattle.group_requests.proofs.offset_fetch.walk.CommitWalk.note_batch.Given as goal
 
 -- what is left to see leads to what all of the batch leads to
 abbrev pub invariant-loop-rec : goal.invariant-loop-rec

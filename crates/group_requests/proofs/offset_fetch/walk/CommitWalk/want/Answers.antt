@@ -1,6 +1,6 @@
 use Rattle.std.proofs.Common.{refl}
 use Rattle.group_requests.proofs.OffsetWalks.{none_more}
-use Rattle.group_requests.proofs.offset_fetch.walk.Walk.want.Goals as goal
+use Rattle.group_requests.proofs.offset_fetch.walk.CommitWalk.want.Goals as goal
 
 pub returns-then-is_none : goal.returns-then-is_none
 returns-then-is_none g c = λ old. record {

@@ -2,7 +2,7 @@ use Rattle.std.proofs.Common.{Some, None, sym, ap, ◌∙◌}
 use Rattle.std.specs.Option.{option_map, option_copied}
 use Rattle.group_requests.specs.OffsetFetch.Walks.{slot_value}
 use Rattle.group_requests.proofs.OffsetWalks.{told}
-use Rattle.group_requests.proofs.offset_fetch.walk.Walk.shown.Goals as goal
+use Rattle.group_requests.proofs.offset_fetch.walk.CommitWalk.shown.Goals as goal
 
 pub returns-in-Some : goal.returns-in-Some
 returns-in-Some g c = λ t knows.

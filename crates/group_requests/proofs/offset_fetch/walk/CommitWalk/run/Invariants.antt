@@ -1,7 +1,7 @@
 use Rattle.std.proofs.Common.{◌≡◌, ◌≤◌, ℕ, List, ◌++◌, length, Some}
 use Rattle.group_requests.specs.OffsetFetch.Walks.{Slot, slot_at, HasNone}
 use Rattle.group_requests.proofs.OffsetWalks.{Says}
-use Rattle.group_requests.proofs.offset_fetch.walk.Walk.run.Given as goal
+use Rattle.group_requests.proofs.offset_fetch.walk.CommitWalk.run.Given as goal
 
 abbrev pub invariant-loop-end : goal.invariant-loop-end
 invariant-loop-end g l =
