@@ -28,14 +28,6 @@ struct Covered<'c> {
     runs: &'c [(i64, i64)],
 }
 
-/// Appends a run.
-fn put_pair<A: Allocator + Copy>(run: &(i64, i64), out: &mut Vec<u8, A>) -> Result<(), AllocError>
-    ensures appends { OnOk result (out.new.items ≡ out.old.items ++ cover_run_bytes run.now) }
-    ensures unchanged_on_error { OnErr result (out.new.items ≡ out.old.items) }
-{
-    append_fixed(out, &cover_run_bytes(*run))
-}
-
 /// Appends runs.
 fn put_runs<A: Allocator + Copy>(
     runs: &[(i64, i64)],
@@ -46,7 +38,7 @@ fn put_runs<A: Allocator + Copy>(
     ensures begins { OnErr result (Begins out.old.items out.new.items) }
 {
     for run in runs {
-        put_pair(run, out)?;
+        append_fixed(out, &cover_run_bytes(*run))?;
     }
     Ok(())
 }
