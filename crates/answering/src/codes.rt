@@ -10,7 +10,7 @@ pub enum ErrorCode {
     UnknownServerError,
     /// An offset lies outside the log, or outside the range of offsets.
     OffsetOutOfRange,
-    /// The bytes of a batch or of an image are none, or a checksum is wrong.
+    /// A batch is cut short, or its length or its checksum is wrong; or bytes are no image or no delta.
     CorruptMessage,
     /// There is no such topic, or it has no such partition.
     UnknownTopicOrPartition,
@@ -18,7 +18,7 @@ pub enum ErrorCode {
     LeaderNotAvailable,
     /// This broker does not lead the partition.
     NotLeader,
-    /// A batch, an image, or a list of ranges is larger than the limit.
+    /// A batch, an image, a delta, or a list of ranges is larger than the limit.
     MessageTooLarge,
     /// The metadata of a committed offset is longer than the limit.
     OffsetMetadataTooLarge,

@@ -83,13 +83,13 @@ pub fn respond_with<B: Body, A: Allocator + Copy>(
 
 /// A body of three parts.
 #[derive(Drop)]
-struct Parts<'b> {
+struct ThreeParts<'b> {
     before: &'b [u8],
     middle: &'b [u8],
     after: &'b [u8],
 }
 
-impl<'b> Body for Parts<'b> {
+impl<'b> Body for ThreeParts<'b> {
     ghost use Rattle.std.specs.Prelude.{◌++◌, ◌+◌, Some, length};
 
     ghost bytes = { λ p. p.before.now ++ p.middle.now ++ p.after.now };
@@ -124,7 +124,7 @@ pub fn respond_once<'b, A: Allocator + Copy>(
         + (RESPONSE_HEAD_BYTES + (length before.now + length middle.now + length after.now))
         ≤ vec_capacity out.old → IsOk result }
 {
-    let parts = Parts {
+    let parts = ThreeParts {
         before,
         middle,
         after,

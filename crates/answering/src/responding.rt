@@ -10,7 +10,10 @@ ghost use Rattle.answering.specs.WritingParts.{WritesTopic, WritesTopics, Writes
 
 use crate::entries::Answers;
 use frame_fields::{Array, Element, Topic, Topics};
-use responses::{COUNT_BYTES, RESPONSE_HEAD_BYTES, begin_response, begin_topic, finish_response};
+use responses::{
+    COUNT_BYTES, RESPONSE_HEAD_BYTES, append_fixed, begin_response, begin_topic, count_bytes,
+    finish_response,
+};
 use std::alloc::{AllocError, Allocator};
 
 /// Appends what is answered of a topic.
@@ -80,7 +83,7 @@ fn put_head<A: Allocator + Copy>(
 {
     begin_response(out, correlation)?;
     out.extend_from_slice(before)?;
-    out.extend_from_slice(&topic_count.to_be_bytes())
+    append_fixed(out, &count_bytes(topic_count))
 }
 
 /// Appends the whole response behind its size, which is not set yet.

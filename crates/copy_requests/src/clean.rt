@@ -31,6 +31,7 @@ fn clean_log<S: BatchStore>(
 ) -> Result<CleanReport, AllocError>
     ensures { Cleans bounds.upto bounds.tomb_before result log.old log.new }
 {
+    // Called for its clause alone: the log is a content.
     let _ = log.copy().end();
     log.clean(bounds.upto, bounds.tomb_before)
 }
@@ -42,6 +43,7 @@ fn clean_copy<S: BatchStore>(
 ) -> Result<CleanReport, AllocError>
     ensures { Cleans bounds.upto bounds.tomb_before result copy.old copy.new }
 {
+    // Called for its clause alone: the copy is a content.
     let _ = copy.end();
     copy.clean(bounds.upto, bounds.tomb_before)
 }

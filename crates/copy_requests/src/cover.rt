@@ -13,7 +13,8 @@ ghost use Rattle.copy_requests.specs.Cover.{cover_work, cover_sent};
 use answering::{Body, ErrorCode, respond_with};
 use broker_state::BrokerState;
 use request_frames::CoverRequest;
-use responses::cover::{cover_head, cover_parts, put_run};
+use responses::append_fixed;
+use responses::cover::{cover_head, cover_parts, cover_run_bytes};
 use segment::BatchStore;
 use std::alloc::{AllocError, Allocator};
 
@@ -27,14 +28,6 @@ struct Covered<'c> {
     runs: &'c [(i64, i64)],
 }
 
-/// Appends a run.
-fn put_pair<A: Allocator + Copy>(run: &(i64, i64), out: &mut Vec<u8, A>) -> Result<(), AllocError>
-    ensures appends { OnOk result (out.new.items ≡ out.old.items ++ cover_run_bytes run.now) }
-    ensures unchanged_on_error { OnErr result (out.new.items ≡ out.old.items) }
-{
-    put_run(out, run.0, run.1)
-}
-
 /// Appends runs.
 fn put_runs<A: Allocator + Copy>(
     runs: &[(i64, i64)],
@@ -45,7 +38,7 @@ fn put_runs<A: Allocator + Copy>(
     ensures begins { OnErr result (Begins out.old.items out.new.items) }
 {
     for run in runs {
-        put_pair(run, out)?;
+        append_fixed(out, &cover_run_bytes(*run))?;
     }
     Ok(())
 }
@@ -62,7 +55,7 @@ impl<'c> Body for Covered<'c> {
 
     fn put<A: Allocator + Copy>(&self, out: &mut Vec<u8, A>) -> Result<(), AllocError> {
         let count = u32::try_from(self.runs.len()).map_err(|_| AllocError)?;
-        out.extend_from_slice(&cover_head(self.code, count))?;
+        append_fixed(out, &cover_head(self.code, count))?;
         put_runs(self.runs, out)
     }
 }
@@ -99,6 +92,7 @@ fn put_answer<A: Allocator + Copy>(
         (record { code = code; runs = runs.now })) }
     ensures unchanged_on_error { OnErr result (out.new.items ≡ out.old.items) }
 {
+    // A law for the proof: the parts are the whole.
     cover_parts();
     respond_with(correlation, &Covered { code, runs }, out)
 }

@@ -11,7 +11,7 @@ use answering::{ErrorCode, respond_once};
 use broker_state::BrokerState;
 use copy_images::{has_image_within, write_image};
 use request_frames::ExportRequest;
-use responses::export::export_head;
+use responses::export::{export_head, export_parts};
 use segment::BatchStore;
 use std::alloc::{AllocError, Allocator};
 
@@ -52,6 +52,8 @@ pub(crate) fn put_answer<A: Allocator + Copy>(
         (record { code = code; sent = sent.now })) }
     ensures unchanged_on_error { OnErr result (out.new.items ≡ out.old.items) }
 {
+    // A law for the proof: the parts are the whole.
+    export_parts();
     let head = export_head(code, sent.len());
     respond_once(correlation, &[], &head, sent, out)
 }

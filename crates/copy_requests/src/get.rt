@@ -11,7 +11,7 @@ ghost use Rattle.copy_requests.specs.Get.{get_work, get_sent};
 use answering::{ErrorCode, respond_once};
 use broker_state::BrokerState;
 use request_frames::GetRequest;
-use responses::get::get_head;
+use responses::get::{get_head, get_parts};
 use segment::BatchStore;
 use std::alloc::{AllocError, Allocator};
 
@@ -44,6 +44,8 @@ fn put_answer<A: Allocator + Copy>(
         (record { code = code; value = option_map (λ bytes. bytes.now) value.entry })) }
     ensures unchanged_on_error { OnErr result (out.new.items ≡ out.old.items) }
 {
+    // A law for the proof: the parts are the whole.
+    get_parts();
     let head = get_head(code, value);
     respond_once(correlation, &[], &head, value.unwrap_or(&[]), out)
 }

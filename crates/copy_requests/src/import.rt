@@ -32,6 +32,7 @@ struct Importing<S: BatchStore> {
 fn lead<S: BatchStore>(log: &mut LeaderLog<S>, copy: PartitionLog<S>) -> Result<(), ErrorCode>
     ensures { Imports Leader copy result log.old log.new }
 {
+    // Called for its clause alone: the copy is a content.
     let _ = copy.end();
     match LeaderLog::from_copy(copy) {
         Ok(led) => {
@@ -49,6 +50,7 @@ fn merge_copy<S: BatchStore>(
 ) -> Result<(), ErrorCode>
     ensures { Imports Follower copy.now result here.old here.new }
 {
+    // Called for their clauses alone: both copies are contents.
     let _ = (here.end(), copy.end());
     match merge_into(here, copy) {
         Ok(()) => Ok(()),

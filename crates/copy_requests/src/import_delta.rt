@@ -31,6 +31,7 @@ struct Patching<'d> {
 fn patch_copy<S: BatchStore>(copy: &mut PartitionLog<S>, delta: &[u8]) -> Result<(), ErrorCode>
     ensures { Patches delta.now result copy.old copy.new }
 {
+    // Called for its clause alone: the copy is a content.
     let _ = copy.end();
     match apply_delta(copy, delta) {
         Ok(()) => Ok(()),

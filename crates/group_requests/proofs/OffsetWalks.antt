@@ -26,7 +26,7 @@ use Rattle.group_requests.specs.GroupPartition.{group_content}
 use Rattle.group_requests.specs.OffsetFetch.{offset_fetch_fault}
 use Rattle.group_requests.specs.OffsetFetch.Entries.{ShowsAt, ReadsAs, LooksUpAt}
 use Rattle.group_requests.specs.declared.offset_fetch.walk.Latest.{Latest}
-use Rattle.group_requests.specs.declared.offset_fetch.walk.Walk.{Walk}
+use Rattle.group_requests.specs.declared.offset_fetch.walk.CommitWalk.{CommitWalk}
 use Rattle.group_requests.specs.OffsetFetch.Walks.{Slot, slot_value, filled_with, filled, slot_at, Tells, Knows}
 
 -- ---- bytes behind a front
@@ -228,7 +228,7 @@ none_more items eq same key q old new slot put keeps none at = by (bytes_eq key 
         same_Some _ _ (sym at ∙ here)
 
 -- what is told of a key
-pub told : {A : Type 0} (t : Table) (w : Walk A) (front rest key : List ℕ) (o : Option Latest) → Knows t w → front ≡ w.front.items → bytes_eq (take (length front) key) front ≡ true → rest ≡ drop (length front) key
+pub told : {A : Type 0} (t : Table) (w : CommitWalk A) (front rest key : List ℕ) (o : Option Latest) → Knows t w → front ≡ w.front.items → bytes_eq (take (length front) key) front ≡ true → rest ≡ drop (length front) key
     → slot_at w rest ≡ Some (slot_value o) → Tells w.is_whole t key (slot_value o)
 told t w front rest key o knows fronts begins ends at =
     subst (λ (k : List ℕ). Tells w.is_whole t k (slot_value o)) (ap (λ (f : List ℕ). f ++ rest) (sym fronts) ∙ sym (behind front key rest begins ends)) (knows.tells rest (slot_value o) at)

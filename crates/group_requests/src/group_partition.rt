@@ -57,6 +57,7 @@ pub(crate) fn append_to_groups<S: BatchStore>(
     requires writable { Writable batch.now }
     ensures { AppendsToGroups state.old batch.now result state.new }
 {
+    // A law for the proof: a batch has one encoding.
     one_encoding();
     match encoded(batch) {
         Ok(bytes) => append_view(state, &BatchView::open(&bytes)),

@@ -11,7 +11,8 @@ use crate::offset_commit::entry::commit_entry;
 use answering::{Answers, respond, response_room};
 use broker_state::BrokerState;
 use request_frames::{OffsetCommitPartition, OffsetCommitRequest};
-use responses::offset_commit::{OFFSET_COMMIT_PARTITION_BYTES, put_committed_partition};
+use responses::append_fixed;
+use responses::offset_commit::{OFFSET_COMMIT_PARTITION_BYTES, committed_partition_bytes};
 use segment::BatchStore;
 use std::alloc::{AllocError, Allocator};
 
@@ -54,7 +55,8 @@ impl<'a, 'q, 'r, S: BatchStore> Answers<OffsetCommitPartition<'a>, BrokerState<S
         entry: OffsetCommitPartition<'a>,
         out: &mut Vec<u8, A>,
     ) -> Result<(), AllocError> {
-        put_committed_partition(out, commit_entry(state, self.request, topic, &entry))
+        let answer = commit_entry(state, self.request, topic, &entry);
+        append_fixed(out, &committed_partition_bytes(answer))
     }
 }
 

@@ -13,7 +13,7 @@ mod walk;
 
 use crate::group_partition::group_copy;
 use crate::offset_fetch::entry::Fetching;
-use crate::offset_fetch::walk::Walk;
+use crate::offset_fetch::walk::CommitWalk;
 use answering::{Answers, respond};
 use broker_state::BrokerState;
 use frame_fields::{Topic, Topics};
@@ -75,7 +75,7 @@ fn names_more_than(request: &OffsetFetchRequest<'_>, most: usize) -> bool
     false
 }
 
-/// A key as bytes; none where a name is too long.
+/// The bytes of a key, empty where a name is too long.
 fn key_of<A: Allocator + Copy>(
     alloc: A,
     group: &[u8],
@@ -91,7 +91,7 @@ fn key_of<A: Allocator + Copy>(
 
 /// Looks for the offsets of a topic's partitions too, of those that the broker has.
 fn want_topic<'n, S: BatchStore>(
-    walk: &mut Walk<'n, S::Alloc>,
+    walk: &mut CommitWalk<'n, S::Alloc>,
     state: &BrokerState<S>,
     group: &[u8],
     topic: Topic<'_, OffsetFetchPartition>,
@@ -118,12 +118,12 @@ fn key_front<A: Allocator + Copy>(alloc: A, group: &[u8]) -> Result<Vec<u8, A>, 
 fn walk_for<'n, S: BatchStore>(
     state: &'n BrokerState<S>,
     request: &OffsetFetchRequest<'_>,
-) -> Result<Walk<'n, S::Alloc>, AllocError>
+) -> Result<CommitWalk<'n, S::Alloc>, AllocError>
     ensures { IfOk result (Knows (shown_table (group_content state.now))) }
 {
     let copy = group_copy(state);
     let front = key_front(copy.allocator(), request.group)?;
-    let mut walk = Walk::new(copy.allocator(), front);
+    let mut walk = CommitWalk::new(copy.allocator(), front);
     for topic in Topics::of(&request.topics) {
         want_topic(&mut walk, state, request.group, topic)?;
     }
@@ -136,14 +136,14 @@ fn walk_if_many<'n, S: BatchStore>(
     state: &'n BrokerState<S>,
     request: &OffsetFetchRequest<'_>,
     too_many: bool,
-) -> Result<Walk<'n, S::Alloc>, AllocError>
+) -> Result<CommitWalk<'n, S::Alloc>, AllocError>
     ensures { IfOk result (Knows (shown_table (group_content state.now))) }
 {
     if !too_many && names_more_than(request, 1) {
         return walk_for(state, request);
     }
     let alloc = group_copy(state).allocator();
-    Ok(Walk::new(alloc, Vec::new(alloc)))
+    Ok(CommitWalk::new(alloc, Vec::new(alloc)))
 }
 
 /// Appends the response to an OffsetFetch request. It changes nothing else.

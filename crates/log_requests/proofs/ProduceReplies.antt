@@ -14,7 +14,7 @@ use Rattle.frame_fields.specs.Types.{TopicOf}
 use Rattle.request_frames.specs.Produce.{ProduceValue, produce_partition, produce_partition_value}
 use Rattle.frame_fields.specs.Frames.{framed}
 use Rattle.responses.specs.Responses.{response, topic_bytes}
-use Rattle.responses.specs.Produce.{produced_bytes, produce_response, produce_value}
+use Rattle.responses.specs.Produce.{produced_bytes, produce_tail, produce_response, produce_value}
 use Rattle.responses.proofs.ProduceParts.{produce_parts}
 use Rattle.answering.specs.Work.{MayAnswer}
 use Rattle.broker_state.specs.State.{State}
@@ -29,9 +29,9 @@ produce_may q s name v r after said = subst (λ w. MayAnswer (produce_work s q n
 parts : (count topics tail : List ℕ) → (count ++ topics) ++ tail ≡ (count ++ []) ++ (topics ++ tail)
 parts count topics tail = simp (append_assoc, append-nil {A = ℕ})
 
-whole : (n : ℤ) (ts : List (TopicOf ProducedPartition)) → framed (be size32 n ++ (elements (topic_bytes produced_bytes) ts ++ be size32 (pos 0))) ≡ response n produce_response (produce_value ts)
+whole : (n : ℤ) (ts : List (TopicOf ProducedPartition)) → framed (be size32 n ++ (elements (topic_bytes produced_bytes) ts ++ produce_tail)) ≡ response n produce_response (produce_value ts)
 unfolding encoded
-whole n ts = ap (λ fields. framed (be size32 n ++ fields)) (parts (be size32 (pos (length ts))) (flat_map (topic_bytes produced_bytes) ts) (be size32 (pos 0)) ∙ sym (produce_parts ts))
+whole n ts = ap (λ fields. framed (be size32 n ++ fields)) (parts (be size32 (pos (length ts))) (flat_map (topic_bytes produced_bytes) ts) produce_tail ∙ sym (produce_parts ts))
 
 same_number : (x : ℤ) → int_eq x (pos 0) ≡ true → x ≡ pos 0
 same_number x e = grind (arith, ints, e)
@@ -40,10 +40,10 @@ not_silent : (acks : ℤ) (b : Bool) → int_eq acks (pos 0) ≡ b → (of_z w16
 not_silent acks true e other = absurd (other (ap (of_z w16) (same_number acks e)))
 not_silent acks false e other = refl
 
-pub produce_sends : (s : State) (q : ProduceValue) (n : ℤ) → (of_z w16 q.acks ≡ 0 → ⊥) → (ts : List (TopicOf ProducedPartition))
-    → Some (framed (be size32 n ++ (elements (topic_bytes produced_bytes) ts ++ be size32 (pos 0)))) ≡ (produce_plan s n q).response ts
-produce_sends s q n acks ts =
-    ap Some (whole n ts) ∙ sym (ap (λ b. cond b None (Some (response n produce_response (produce_value ts)))) (not_silent q.acks (int_eq q.acks (pos 0)) refl acks))
+pub produce_sends : (s : State) (q : ProduceValue) (n : ℤ) → (of_z w16 q.acks ≡ 0 → ⊥) → (tail : List ℕ) → tail ≡ produce_tail → (ts : List (TopicOf ProducedPartition))
+    → Some (framed (be size32 n ++ (elements (topic_bytes produced_bytes) ts ++ tail))) ≡ (produce_plan s n q).response ts
+produce_sends s q n acks tail last ts =
+    (λ i. Some (framed (be size32 n ++ (elements (topic_bytes produced_bytes) ts ++ last i)))) ∙ ap Some (whole n ts) ∙ sym (ap (λ b. cond b None (Some (response n produce_response (produce_value ts)))) (not_silent q.acks (int_eq q.acks (pos 0)) refl acks))
 
 is_silent : (acks : ℤ) → FitsSigned w16 acks → of_z w16 acks ≡ 0 → int_eq acks (pos 0) ≡ true
 is_silent acks fits is = ap (λ z. int_eq z (pos 0)) (sym (to_z-of_z w16 acks fits) ∙ ap (to_z w16) is)

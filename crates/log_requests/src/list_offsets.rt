@@ -12,7 +12,8 @@ use crate::reading::Reading;
 use answering::{Answers, respond};
 use broker_state::BrokerState;
 use request_frames::{ListOffsetsPartition, ListOffsetsRequest};
-use responses::list_offsets::put_listed_partition;
+use responses::append_fixed;
+use responses::list_offsets::list_offsets_answer_bytes;
 use segment::BatchStore;
 use std::alloc::{AllocError, Allocator};
 
@@ -39,7 +40,8 @@ impl<'n, S: BatchStore> Answers<ListOffsetsPartition, ()> for Reading<'n, S> {
         entry: ListOffsetsPartition,
         out: &mut Vec<u8, A>,
     ) -> Result<(), AllocError> {
-        put_listed_partition(out, list_offsets_entry(self.state, topic, entry))
+        let answer = list_offsets_entry(self.state, topic, entry);
+        append_fixed(out, &list_offsets_answer_bytes(answer))
     }
 }
 

@@ -60,6 +60,7 @@ fn put_all<S: BatchStore, A: Allocator + Copy>(
     ensures appends { OnOk result (out.new.items ≡ out.old.items ++ metadata_body state.now None) }
     ensures begins { OnErr result (Begins out.old.items out.new.items) }
 {
+    // A law for the proof: the parts are the whole.
     metadata_parts();
     put_broker(state, state.topics().len() as u32, out)?;
     put_topics(state, out)
@@ -75,6 +76,7 @@ fn put_asked<'a, S: BatchStore, A: Allocator + Copy>(
         ≡ out.old.items ++ metadata_body state.now (Some (metadata_names names.now))) }
     ensures begins { OnErr result (Begins out.old.items out.new.items) }
 {
+    // A law for the proof: the parts are the whole.
     metadata_parts();
     // The set has at most as many names, so their count fits as this one does.
     let _sent = names.len();

@@ -11,7 +11,10 @@ use crate::produce::entry::produce_entry;
 use answering::{Answers, respond, response_room};
 use broker_state::BrokerState;
 use request_frames::{ProducePartition, ProduceRequest};
-use responses::produce::{PRODUCE_TAIL_BYTES, PRODUCED_PARTITION_BYTES, put_produced_partition};
+use responses::append_fixed;
+use responses::produce::{
+    PRODUCE_TAIL_BYTES, PRODUCED_PARTITION_BYTES, produce_tail, produced_bytes,
+};
 use segment::BatchStore;
 use std::alloc::{AllocError, Allocator};
 
@@ -48,7 +51,8 @@ impl<'a, 'q, 'r, S: BatchStore> Answers<ProducePartition<'a>, BrokerState<S>> fo
         entry: ProducePartition<'a>,
         out: &mut Vec<u8, A>,
     ) -> Result<(), AllocError> {
-        put_produced_partition(out, produce_entry(state, self.request, topic, &entry))
+        let answer = produce_entry(state, self.request, topic, &entry);
+        append_fixed(out, &produced_bytes(answer))
     }
 }
 
@@ -80,7 +84,7 @@ pub fn reply_to_produce<S: BatchStore, A: Allocator + Copy>(
     let start = out.len();
     out.reserve(room)?;
     let asked = Storing { request };
-    let tail = [0; PRODUCE_TAIL_BYTES];
+    let tail = produce_tail();
     let Ok(()) = respond(&asked, state, correlation, &[], topics, &tail, out) else {
         unreachable!()
     };

@@ -1,26 +1,19 @@
--- Responses whose last field is bytes: a head, and the bytes behind it.
-use Rattle.std.proofs.Common.{◌≡◌, ℕ, ℤ, pos, List, ◌++◌, length, refl, sym, ◌∙◌, append-nil}
+-- Responses whose last field is bytes: a head and the bytes, one after the other, are the encoding of the fields.
+use Rattle.std.proofs.Common.{◌≡◌, ℕ, ℤ, pos, List, [], ◌++◌, length, refl, ap, append-nil}
 use Rattle.std.specs.Prelude.{Option, None, Some}
 use Rattle.frame_fields.specs.Fields.{size16, size32, be, encoded}
 use Rattle.frame_fields.specs.Types.{or_empty}
-use Rattle.responses.specs.Responses.{length_or_null}
-use Rattle.responses.specs.Export.{export_response, export_value}
-use Rattle.responses.specs.Get.{get_response, get_value}
+use Rattle.responses.specs.Export.{export_response, export_value, export_head_bytes}
+use Rattle.responses.specs.Get.{get_response, get_value, get_head_bytes}
 
--- the code is passed on by value before it is written
+behind : (code size : ℤ) (last : List ℕ) → be size16 code ++ (be size32 size ++ (last ++ [])) ≡ be size16 code ++ (be size32 size ++ last)
+behind code size last = ap (λ (x : List ℕ). be size16 code ++ (be size32 size ++ x)) (append-nil last)
 
-pub export_front : (head : List ℕ) (code sent : ℤ) (len : ℕ) (image : List ℕ) → sent ≡ code → head ≡ be size16 sent ++ be size32 (pos len) → length image ≡ len
-    → head ++ image ≡ encoded export_response (export_value code image)
+pub export_parts : (code : ℤ) (sent : List ℕ) → encoded export_response (export_value code sent) ≡ export_head_bytes code (length sent) ++ sent
 unfolding encoded
-export_front head code sent len image same is count =
-    (λ i. is i ++ image) ∙ (λ i. be size16 (same i) ++ (be size32 (pos (sym count i)) ++ sym (append-nil image) i))
+export_parts code sent = behind code (pos (length sent)) sent
 
-value_front : (code : ℤ) (value : Option (List ℕ)) → (be size16 code ++ be size32 (length_or_null value)) ++ or_empty value ≡ encoded get_response (get_value code value)
+pub get_parts : (code : ℤ) (value : Option (List ℕ)) → encoded get_response (get_value code value) ≡ get_head_bytes code value ++ or_empty value
 unfolding encoded
-value_front code None = refl
-value_front code (Some bytes) = λ i. be size16 code ++ (be size32 (pos (length bytes)) ++ sym (append-nil bytes) i)
-
-pub get_front : (head : List ℕ) (code sent : ℤ) (value : Option (List ℕ)) → sent ≡ code → head ≡ be size16 sent ++ be size32 (length_or_null value)
-    → head ++ or_empty value ≡ encoded get_response (get_value code value)
-get_front head code sent value same is =
-    (λ i. is i ++ or_empty value) ∙ (λ i. (be size16 (same i) ++ be size32 (length_or_null value)) ++ or_empty value) ∙ value_front code value
+get_parts code None = refl
+get_parts code (Some bytes) = behind code (pos (length bytes)) bytes

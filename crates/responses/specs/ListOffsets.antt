@@ -1,10 +1,10 @@
 -- The response to ListOffsets, version 1: its fields, the values that these take, and the parts in which they are
 -- written. Kafka's documentation, "Protocol Guide", section "The Messages".
-use Rattle.std.specs.Prelude.{ℕ, pos, List}
+use Rattle.std.specs.Prelude.{ℕ, List}
 use Rattle.responses.specs.declared.list_offsets.partition.ListedPartition.{ListedPartition}
 use Rattle.frame_fields.specs.Fields.{Fields, end, Value, encoded}
 use Rattle.frame_fields.specs.Types.{TopicOf, int16, int32, int64, ◌⨾◌, topics_of}
-use Rattle.responses.specs.Responses.{topic_values}
+use Rattle.responses.specs.Responses.{count_bytes, topic_values}
 
 -- a partition: index, error code, time, offset
 abbrev pub list_offsets_answer_fields : Fields
@@ -22,7 +22,7 @@ list_offsets_value ts = (topic_values list_offsets_answer_fields list_offsets_an
 
 -- before the topics: their count
 abbrev pub list_offsets_head : (count : ℕ) → List ℕ
-list_offsets_head count = encoded (int32 ⨾ end) (pos count, tt)
+list_offsets_head count = count_bytes count
 
 abbrev pub list_offsets_answer_bytes : ListedPartition → List ℕ
 list_offsets_answer_bytes p = encoded list_offsets_answer_fields (list_offsets_answer_value p)

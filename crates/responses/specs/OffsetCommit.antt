@@ -1,10 +1,10 @@
 -- The response to OffsetCommit, version 2: its fields, the values that these take, and the parts in which they are
 -- written. Kafka's documentation, "Protocol Guide", section "The Messages".
-use Rattle.std.specs.Prelude.{ℕ, pos, List}
+use Rattle.std.specs.Prelude.{ℕ, List}
 use Rattle.responses.specs.declared.offset_commit.partition.CommittedPartition.{CommittedPartition}
 use Rattle.frame_fields.specs.Fields.{Fields, end, Value, encoded}
 use Rattle.frame_fields.specs.Types.{TopicOf, int16, int32, ◌⨾◌, topics_of}
-use Rattle.responses.specs.Responses.{topic_values}
+use Rattle.responses.specs.Responses.{count_bytes, topic_values}
 
 -- a partition: index, error code
 abbrev pub committed_partition_fields : Fields
@@ -22,7 +22,7 @@ offset_commit_value ts = (topic_values committed_partition_fields committed_part
 
 -- before the topics: their count
 abbrev pub offset_commit_head : (count : ℕ) → List ℕ
-offset_commit_head count = encoded (int32 ⨾ end) (pos count, tt)
+offset_commit_head count = count_bytes count
 
 abbrev pub committed_partition_bytes : CommittedPartition → List ℕ
 committed_partition_bytes p = encoded committed_partition_fields (committed_partition_value p)

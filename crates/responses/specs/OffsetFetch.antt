@@ -1,9 +1,9 @@
 -- The response to OffsetFetch, version 1: its fields, the values that these take, and the parts in which they are
 -- written. Kafka's documentation, "Protocol Guide", section "The Messages".
-use Rattle.std.specs.Prelude.{ℕ, ℤ, pos, List, Option}
+use Rattle.std.specs.Prelude.{ℕ, ℤ, List, Option}
 use Rattle.frame_fields.specs.Fields.{Fields, end, Value, encoded}
 use Rattle.frame_fields.specs.Types.{TopicOf, int16, int32, int64, nullable_string, ◌⨾◌, topics_of}
-use Rattle.responses.specs.Responses.{topic_values}
+use Rattle.responses.specs.Responses.{count_bytes, topic_values}
 
 -- a partition: index, committed offset, metadata, error code
 abbrev pub fetched_offset_fields : Fields
@@ -28,7 +28,7 @@ offset_fetch_value ts = (topic_values fetched_offset_fields fetched_offset_value
 
 -- before the topics: their count
 abbrev pub offset_fetch_head : (count : ℕ) → List ℕ
-offset_fetch_head count = encoded (int32 ⨾ end) (pos count, tt)
+offset_fetch_head count = count_bytes count
 
 abbrev pub fetched_offset_bytes : FetchedOffset → List ℕ
 fetched_offset_bytes p = encoded fetched_offset_fields (fetched_offset_value p)

@@ -5,7 +5,7 @@ use Rattle.std.specs.Prelude.{ℕ, pos, negsuc, List}
 use Rattle.responses.specs.declared.produce.partition.ProducedPartition.{ProducedPartition}
 use Rattle.frame_fields.specs.Fields.{Fields, end, Value, encoded}
 use Rattle.frame_fields.specs.Types.{TopicOf, int16, int32, int64, ◌⨾◌, topics_of}
-use Rattle.responses.specs.Responses.{topic_values}
+use Rattle.responses.specs.Responses.{count_bytes, topic_values}
 
 -- a partition: index, error code, base offset, log append time
 abbrev pub produced_fields : Fields
@@ -25,7 +25,7 @@ produce_value ts = (topic_values produced_fields produced_value ts, (pos 0, tt))
 
 -- before the topics: their count
 abbrev pub produce_head : (count : ℕ) → List ℕ
-produce_head count = encoded (int32 ⨾ end) (pos count, tt)
+produce_head count = count_bytes count
 
 abbrev pub produced_bytes : ProducedPartition → List ℕ
 produced_bytes p = encoded produced_fields (produced_value p)

@@ -17,6 +17,10 @@ response_head correlation = be size32 (pos 0) ++ be size32 correlation
 
 -- ---- topics
 
+-- before topics: their count
+abbrev pub count_bytes : (count : ℕ) → List ℕ
+count_bytes count = encoded (int32 ⨾ end) (pos count, tt)
+
 abbrev pub topic_values : {Entry : Type 0} → (d : Fields) → (Entry → Value d) → List (TopicOf Entry) → List (Value (topic d))
 topic_values d f ts = map (λ t. (t.name, (map f t.entries, tt))) ts
 

@@ -1,4 +1,4 @@
-//! The response to Cover, version 0: `cover_head`, and the runs, each by `put_run`.
+//! The response to Cover, version 0: `cover_head`, and the runs, each `cover_run_bytes`.
 
 mod law;
 mod response;
@@ -6,4 +6,4 @@ mod run;
 
 pub use law::cover_parts;
 pub use response::{COVER_HEAD_BYTES, cover_head};
-pub use run::{COVER_RUN_BYTES, put_run};
+pub use run::{COVER_RUN_BYTES, cover_run_bytes};

@@ -1,13 +1,15 @@
-//! Laws about responses: the parts of each, one after the other, are the encoding of its fields; and the
-//! limits are those of the fields.
+//! Laws about responses: the parts of each kind, one after the other, are the encoding of its fields; and
+//! the limits are those of the fields.
 
 ghost use Rattle.std.specs.Prelude.{◌≤◌, ◌↔◌, ℕ};
 ghost use Rattle.frame_fields.specs.Fields.{size16, size32, FitsLength};
 
 pub use crate::api_versions::api_versions_parts;
 pub use crate::cover::cover_parts;
+pub use crate::export::export_parts;
 pub use crate::fetch::fetch_parts;
 pub use crate::find_coordinator::find_coordinator_parts;
+pub use crate::get::get_parts;
 pub use crate::list_offsets::list_offsets_parts;
 pub use crate::metadata::metadata_parts;
 pub use crate::offset_commit::offset_commit_parts;

@@ -1,19 +1,23 @@
 //! Responses to a broker's clients (Kafka's documentation, "Protocol Guide"), written part by part at
-//! the end of a `Vec` that may hold earlier ones. Each part appends exactly its bytes, or leaves the
-//! output as it was. At the end the size is set.
+//! the end of a `Vec` that may hold earlier ones. A part of fixed size is an array, which `append_fixed`
+//! appends; a part whose size varies has a call of its own. Each call appends exactly the bytes of its part,
+//! or leaves the output as it was. At the end the size is set.
 //!
 //! ```
 //! let start = out.len();
 //! begin_response(&mut out, correlation)?;
-//! begin_produce(&mut out, 1)?;
+//! append_fixed(&mut out, &count_bytes(1))?;
 //! begin_topic(&mut out, b"readings", 1)?;
-//! put_produced_partition(&mut out, ProducedPartition { index: 0, code: 0, base: 7 })?;
-//! end_produce(&mut out)?;
+//! append_fixed(&mut out, &produced_bytes(ProducedPartition { index: 0, code: 0, base: 7 }))?;
+//! append_fixed(&mut out, &produce_tail())?;
 //! finish_response(&mut out, start);
 //! ```
 //!
-//! What answers a request of one entry is an array: all bytes of its fields, or those before the last
-//! field, where that is bytes or a list.
+//! Where a call fails, the parts before it still stand in the output: the caller cuts it back to `start`,
+//! or reserves the room of all parts first, and then no call fails.
+//!
+//! `laws` has a law for each kind of response that has several parts: one after the other they are the
+//! encoding of its fields. Where the response is one array, the array's function says so.
 //!
 //! A part is the encoding of its fields whatever they are. What is written of a count, a name or a
 //! body above the limits below has a length that can't be read again.
@@ -41,5 +45,6 @@ pub mod trim;
 
 pub use parts::{
     COUNT_BYTES, MAX_BODY_BYTES, MAX_COUNT, MAX_STRING_BYTES, RESPONSE_HEAD_BYTES,
-    TOPIC_HEAD_BYTES, begin_response, begin_topic, finish_response, set_count,
+    TOPIC_HEAD_BYTES, append_fixed, begin_response, begin_topic, count_bytes, finish_response,
+    set_count,
 };

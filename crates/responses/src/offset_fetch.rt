@@ -1,5 +1,5 @@
-//! The response to OffsetFetch, version 1: the count of topics; for each topic `begin_topic` and its
-//! partitions, each by `put_fetched_offset`.
+//! The response to OffsetFetch, version 1: `count_bytes` of the topics; for each topic `begin_topic` and
+//! its partitions, each by `put_fetched_offset`.
 
 mod law;
 mod partition;

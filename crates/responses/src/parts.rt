@@ -4,7 +4,7 @@ ghost use Rattle.std.specs.Prelude.{◌≡◌, ◌≤◌, ◌+◌, ◌-◌, ◌+
 ghost use Rattle.std.specs.Vec.{vec_len, vec_capacity};
 ghost use Rattle.frame_fields.specs.Fields.{size32, be};
 ghost use Rattle.frame_fields.specs.Frames.{framed};
-ghost use Rattle.responses.specs.Responses.{response_head, topic_head};
+ghost use Rattle.responses.specs.Responses.{response_head, count_bytes, topic_head};
 
 use byteorder::{BigEndian, ByteOrder};
 use std::alloc::{AllocError, Allocator};
@@ -26,6 +26,24 @@ pub const MAX_STRING_BYTES: usize = 32_767;
 
 /// The most bytes that can stand behind a response's size.
 pub const MAX_BODY_BYTES: usize = 2_147_483_647;
+
+/// Appends a part of fixed size.
+///
+/// # Errors
+///
+/// `AllocError` where the allocation fails; then the output is as before.
+pub fn append_fixed<const N: usize, A: Allocator + Copy>(
+    out: &mut Vec<u8, A>,
+    part: &[u8; N],
+) -> Result<(), AllocError>
+    ensures appends { OnOk result (out.new.items ≡ out.old.items ++ part.now) }
+    ensures unchanged_on_error { OnErr result (out.new.items ≡ out.old.items) }
+    ensures len { OnOk result (vec_len out.new ≡ vec_len out.old + N) }
+    ensures succeeds { vec_len out.old + N ≤ vec_capacity out.old → IsOk result }
+    ensures keeps_capacity { vec_capacity out.old ≤ vec_capacity out.new }
+{
+    out.extend_from_slice(part)
+}
 
 /// Appends bytes, a name and more bytes, all or nothing.
 pub(crate) fn append_around<A: Allocator + Copy>(
@@ -75,7 +93,15 @@ pub fn begin_response<A: Allocator + Copy>(
     ensures succeeds { vec_len out.old + RESPONSE_HEAD_BYTES ≤ vec_capacity out.old → IsOk result }
     ensures keeps_capacity { vec_capacity out.old ≤ vec_capacity out.new }
 {
-    out.extend_from_slice(&response_head_bytes(correlation))
+    append_fixed(out, &response_head_bytes(correlation))
+}
+
+/// The bytes of a count, as it stands before topics.
+#[tactic(auto, unfolding(frame_fields::specs::Fields::encoded))]
+pub fn count_bytes(count: u32) -> [u8; COUNT_BYTES]
+    ensures { result ≡ count_bytes count }
+{
+    count.to_be_bytes()
 }
 
 /// Sets the INT32 at an offset.
@@ -149,5 +175,5 @@ pub fn begin_topic<A: Allocator + Copy>(
     ensures keeps_capacity { vec_capacity out.old ≤ vec_capacity out.new }
 {
     let length = name.len().to_be_bytes();
-    append_around(out, &length[6..8], name, &partition_count.to_be_bytes())
+    append_around(out, &length[6..8], name, &count_bytes(partition_count))
 }

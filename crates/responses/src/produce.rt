@@ -1,10 +1,10 @@
-//! The response to Produce, version 3: `begin_produce`; for each topic `begin_topic` and its
-//! partitions, each by `put_produced_partition`; `end_produce`.
+//! The response to Produce, version 3: `count_bytes` of the topics; for each topic `begin_topic` and its
+//! partitions, each `produced_bytes`; `produce_tail`.
 
 mod law;
 mod partition;
 mod response;
 
 pub use law::produce_parts;
-pub use partition::{PRODUCED_PARTITION_BYTES, ProducedPartition, put_produced_partition};
-pub use response::{PRODUCE_TAIL_BYTES, begin_produce, end_produce};
+pub use partition::{PRODUCED_PARTITION_BYTES, ProducedPartition, produced_bytes};
+pub use response::{PRODUCE_TAIL_BYTES, produce_tail};

@@ -9,8 +9,9 @@ ghost use Rattle.setup_requests.specs.ApiVersions.{version_range, versions_code,
 use answering::{Body, ErrorCode, respond_with};
 use request_frames::{Api, ApiVersionsRequest, LISTED_API_COUNT};
 use responses::api_versions::{
-    VersionRange, api_versions_head, api_versions_parts, put_version_range,
+    VersionRange, api_versions_head, api_versions_parts, version_range_bytes,
 };
+use responses::append_fixed;
 use std::alloc::{AllocError, Allocator};
 
 /// In which versions a request is answered.
@@ -25,15 +26,6 @@ fn version_range(api: Api) -> VersionRange
     }
 }
 
-/// Appends what is said of a request.
-fn put_api<A: Allocator + Copy>(api: &Api, out: &mut Vec<u8, A>) -> Result<(), AllocError>
-    ensures appends { OnOk result
-        (out.new.items ≡ out.old.items ++ version_range_bytes (version_range api.now)) }
-    ensures unchanged_on_error { OnErr result (out.new.items ≡ out.old.items) }
-{
-    put_version_range(out, version_range(*api))
-}
-
 /// Appends what is said of requests.
 fn put_apis<A: Allocator + Copy>(apis: &[Api], out: &mut Vec<u8, A>) -> Result<(), AllocError>
     ensures appends { OnOk result (out.new.items
@@ -41,7 +33,7 @@ fn put_apis<A: Allocator + Copy>(apis: &[Api], out: &mut Vec<u8, A>) -> Result<(
     ensures begins { OnErr result (Begins out.old.items out.new.items) }
 {
     for api in apis {
-        put_api(api, out)?;
+        append_fixed(out, &version_range_bytes(version_range(*api)))?;
     }
     Ok(())
 }
@@ -64,7 +56,7 @@ impl Body for Versions {
     ghost size = { λ versions. None };
 
     fn put<A: Allocator + Copy>(&self, out: &mut Vec<u8, A>) -> Result<(), AllocError> {
-        out.extend_from_slice(&api_versions_head(self.code, LISTED_API_COUNT as u32))?;
+        append_fixed(out, &api_versions_head(self.code, LISTED_API_COUNT as u32))?;
         put_apis(&Api::listed(), out)
     }
 }
@@ -94,6 +86,7 @@ pub fn reply_to_api_versions<A: Allocator + Copy>(
         ++ api_versions_reply correlation request.now.version) }
     ensures unchanged_on_error { OnErr result (out.new.items ≡ out.old.items) }
 {
+    // A law for the proof: the parts are the whole.
     api_versions_parts();
     let code = versions_code(request.version);
     respond_with(correlation, &Versions { code }, out)

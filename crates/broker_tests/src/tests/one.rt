@@ -5,12 +5,11 @@ ghost use Rattle.responses.specs.Responses.{response};
 ghost use Rattle.responses.specs.Produce.{produce_response, produce_value};
 
 use request_frames::response::produce::{
-    PRODUCE_TAIL_BYTES, PRODUCED_PARTITION_BYTES, ProducedPartition, begin_produce, end_produce,
-    put_produced_partition,
+    PRODUCE_TAIL_BYTES, PRODUCED_PARTITION_BYTES, ProducedPartition, produce_tail, produced_bytes,
 };
 use request_frames::response::{
-    COUNT_BYTES, RESPONSE_HEAD_BYTES, TOPIC_HEAD_BYTES, begin_response, begin_topic,
-    finish_response,
+    COUNT_BYTES, RESPONSE_HEAD_BYTES, TOPIC_HEAD_BYTES, append_fixed, begin_response, begin_topic,
+    count_bytes, finish_response,
 };
 use request_frames::response_laws::produce_parts;
 use std::alloc::{AllocError, Allocator};
@@ -37,22 +36,23 @@ pub fn put_one<A: Allocator + Copy>(
         produce_response (produce_value (record { name = name.now; entries = partition ∷ [] } ∷ []))) }
     ensures unchanged_on_error { OnErr result (out.new.items ≡ out.old.items) }
 {
+    // A law for the proof: the parts are the whole.
     produce_parts();
     let start = out.len();
     out.reserve(ONE_BYTES + name.len())?;
     let Ok(()) = begin_response(out, correlation) else {
         unreachable!()
     };
-    let Ok(()) = begin_produce(out, 1) else {
+    let Ok(()) = append_fixed(out, &count_bytes(1)) else {
         unreachable!()
     };
     let Ok(()) = begin_topic(out, name, 1) else {
         unreachable!()
     };
-    let Ok(()) = put_produced_partition(out, partition) else {
+    let Ok(()) = append_fixed(out, &produced_bytes(partition)) else {
         unreachable!()
     };
-    let Ok(()) = end_produce(out) else {
+    let Ok(()) = append_fixed(out, &produce_tail()) else {
         unreachable!()
     };
     finish_response(out, start);

@@ -1,11 +1,13 @@
 //! The values that the tests write.
 
-use request_frames::response::api_versions::{VersionRange, api_versions_head, put_version_range};
+use request_frames::response::api_versions::{
+    VersionRange, api_versions_head, version_range_bytes,
+};
 use request_frames::response::clean::{CleanAnswer, clean_answer_bytes};
-use request_frames::response::cover::{cover_head, put_run};
+use request_frames::response::cover::{cover_head, cover_run_bytes};
 use request_frames::response::deliver::{DeliverAnswer, deliver_answer_bytes};
 use request_frames::response::export::export_head;
-use request_frames::response::fetch::{FetchedPartition, begin_fetch, begin_fetched_partition};
+use request_frames::response::fetch::{FetchedPartition, fetch_head, fetched_head};
 use request_frames::response::find_coordinator::{find_coordinator_head, find_coordinator_port};
 use request_frames::response::forget_group::{ForgetGroupAnswer, forget_group_answer_bytes};
 use request_frames::response::get::get_head;
@@ -13,19 +15,15 @@ use request_frames::response::import::{ImportAnswer, import_answer_bytes};
 use request_frames::response::init_producer_id::{
     InitProducerIdAnswer, init_producer_id_answer_bytes,
 };
-use request_frames::response::list_offsets::{
-    ListedPartition, begin_list_offsets, put_listed_partition,
-};
+use request_frames::response::list_offsets::{ListedPartition, list_offsets_answer_bytes};
 use request_frames::response::metadata::{
     MetadataBroker, MetadataPartition, MetadataTopic, begin_metadata, begin_metadata_topic,
     put_metadata_partition,
 };
-use request_frames::response::offset_commit::{CommittedPartition, put_committed_partition};
+use request_frames::response::offset_commit::{CommittedPartition, committed_partition_bytes};
 use request_frames::response::offset_fetch::put_fetched_offset;
-use request_frames::response::produce::{
-    ProducedPartition, begin_produce, end_produce, put_produced_partition,
-};
-use request_frames::response::{begin_response, begin_topic};
+use request_frames::response::produce::{ProducedPartition, produce_tail, produced_bytes};
+use request_frames::response::{append_fixed, begin_response, begin_topic, count_bytes};
 use std::alloc::{AllocError, Allocator};
 
 pub(crate) const STORED: ProducedPartition = ProducedPartition {
@@ -105,37 +103,37 @@ const GIVEN: InitProducerIdAnswer = InitProducerIdAnswer {
 };
 
 /// The number of parts that `put_part` knows.
-pub(crate) const PARTS: usize = 30;
+pub(crate) const PARTS: usize = 29;
 
-/// Appends the part of that number from 24 on.
+/// Appends the part of that number from 23 on.
 fn put_last_part<A: Allocator + Copy>(out: &mut Vec<u8, A>, part: usize) -> Result<(), AllocError> {
     match part {
-        24 => out.extend_from_slice(&forget_group_answer_bytes(FORGOTTEN)),
-        25 => out.extend_from_slice(&find_coordinator_head(0, 258, b"ab")),
-        26 => out.extend_from_slice(&find_coordinator_port(9092)),
-        27 => out.extend_from_slice(&api_versions_head(35, 9)),
-        28 => put_version_range(out, VERSIONS),
-        _ => out.extend_from_slice(&init_producer_id_answer_bytes(GIVEN)),
+        23 => append_fixed(out, &forget_group_answer_bytes(FORGOTTEN)),
+        24 => append_fixed(out, &find_coordinator_head(0, 258, b"ab")),
+        25 => append_fixed(out, &find_coordinator_port(9092)),
+        26 => append_fixed(out, &api_versions_head(35, 9)),
+        27 => append_fixed(out, &version_range_bytes(VERSIONS)),
+        _ => append_fixed(out, &init_producer_id_answer_bytes(GIVEN)),
     }
 }
 
-/// Appends the part of that number from 13 on.
+/// Appends the part of that number from 12 on.
 fn put_later_part<A: Allocator + Copy>(
     out: &mut Vec<u8, A>,
     part: usize,
 ) -> Result<(), AllocError> {
     match part {
-        13 => put_committed_partition(out, TOO_LARGE),
-        14 => put_fetched_offset(out, 1, 258, Some(b"ab"), 0),
-        15 => put_fetched_offset(out, 1, 258, None, 0),
-        16 => out.extend_from_slice(&deliver_answer_bytes(REPEATED)),
-        17 => out.extend_from_slice(&clean_answer_bytes(CLEANED)),
-        18 => out.extend_from_slice(&export_head(0, 258)),
-        19 => out.extend_from_slice(&import_answer_bytes(CORRUPT)),
-        20 => out.extend_from_slice(&get_head(0, Some(b"ab"))),
-        21 => out.extend_from_slice(&get_head(3, None)),
-        22 => out.extend_from_slice(&cover_head(0, 2)),
-        23 => put_run(out, 1, 258),
+        12 => append_fixed(out, &committed_partition_bytes(TOO_LARGE)),
+        13 => put_fetched_offset(out, 1, 258, Some(b"ab"), 0),
+        14 => put_fetched_offset(out, 1, 258, None, 0),
+        15 => append_fixed(out, &deliver_answer_bytes(REPEATED)),
+        16 => append_fixed(out, &clean_answer_bytes(CLEANED)),
+        17 => append_fixed(out, &export_head(0, 258)),
+        18 => append_fixed(out, &import_answer_bytes(CORRUPT)),
+        19 => append_fixed(out, &get_head(0, Some(b"ab"))),
+        20 => append_fixed(out, &get_head(3, None)),
+        21 => append_fixed(out, &cover_head(0, 2)),
+        22 => append_fixed(out, &cover_run_bytes((1, 258))),
         _ => put_last_part(out, part),
     }
 }
@@ -148,17 +146,16 @@ pub(crate) fn put_part<A: Allocator + Copy>(
     match part {
         0 => begin_response(out, 258),
         1 => begin_topic(out, b"ab", 2),
-        2 => begin_produce(out, 2),
-        3 => put_produced_partition(out, STORED),
-        4 => end_produce(out),
-        5 => begin_fetch(out, 2),
-        6 => begin_fetched_partition(out, READ, 3),
-        7 => begin_list_offsets(out, 2),
-        8 => put_listed_partition(out, FOUND),
-        9 => begin_metadata(out, BROKER, 1, 2),
-        10 => begin_metadata_topic(out, INTERNAL, 2),
-        11 => put_metadata_partition(out, LED),
-        12 => put_metadata_partition(out, LEADERLESS),
+        2 => append_fixed(out, &count_bytes(2)),
+        3 => append_fixed(out, &produced_bytes(STORED)),
+        4 => append_fixed(out, &produce_tail()),
+        5 => append_fixed(out, &fetch_head(2)),
+        6 => append_fixed(out, &fetched_head(READ, 3)),
+        7 => append_fixed(out, &list_offsets_answer_bytes(FOUND)),
+        8 => begin_metadata(out, BROKER, 1, 2),
+        9 => begin_metadata_topic(out, INTERNAL, 2),
+        10 => put_metadata_partition(out, LED),
+        11 => put_metadata_partition(out, LEADERLESS),
         _ => put_later_part(out, part),
     }
 }

@@ -10,7 +10,7 @@ use Rattle.content.specs.Records.{equal_keys}
 use Rattle.content.specs.Table.{Table}
 use Rattle.partition_log.specs.Newest.{value_of}
 use Rattle.group_requests.specs.declared.offset_fetch.walk.Latest.{Latest}
-use Rattle.group_requests.specs.declared.offset_fetch.walk.Walk.{Walk}
+use Rattle.group_requests.specs.declared.offset_fetch.walk.CommitWalk.{CommitWalk}
 
 -- what was found of a key: the index of a batch, and the key's latest value in it
 abbrev pub Slot : Type 0
@@ -35,16 +35,16 @@ filled i key slot r = if equal_keys r.key (Some key) then filled_with i r.value 
 abbrev pub slot_in : {A S : Type 0} → index.IndexMap (Vec ℕ A) (Option Latest) S → List ℕ → Option Slot
 slot_in slots rest = option_map slot_value (index.get_by (λ key. bytes_eq rest key.items) slots)
 
-abbrev pub slot_at : {A : Type 0} → Walk A → List ℕ → Option Slot
+abbrev pub slot_at : {A : Type 0} → CommitWalk A → List ℕ → Option Slot
 slot_at w rest = slot_in w.slots rest
 
 -- all keys see the records of a batch
-pub record Fills {A : Type 0} (i : ℕ) (rs : List RecordValue) (old new : Walk A) : Type 0 where
+pub record Fills {A : Type 0} (i : ℕ) (rs : List RecordValue) (old new : CommitWalk A) : Type 0 where
   pub front : new.front.items ≡ old.front.items
   pub slots : (rest : List ℕ) → slot_at new rest ≡ option_map (λ slot. fold (filled i (old.front.items ++ rest)) slot rs) (slot_at old rest)
 
 -- nothing was found
-pub record HasNone {A : Type 0} (w : Walk A) : Type 0 where
+pub record HasNone {A : Type 0} (w : CommitWalk A) : Type 0 where
   pub none : (rest : List ℕ) (slot : Slot) → slot_at w rest ≡ Some slot → slot ≡ None
 
 -- what a slot tells of its key's value in the table: where nothing was found, and all was walked, there is none
@@ -53,5 +53,5 @@ Tells whole t key (Some f) = f.1 ≡ finite.get t key
 Tells whole t key None = whole ≡ true → finite.get t key ≡ None
 
 -- what the walk found is what the table has
-pub record Knows {A : Type 0} (t : Table) (w : Walk A) : Type 0 where
+pub record Knows {A : Type 0} (t : Table) (w : CommitWalk A) : Type 0 where
   pub tells : (rest : List ℕ) (slot : Slot) → slot_at w rest ≡ Some slot → Tells w.is_whole t (w.front.items ++ rest) slot

@@ -16,7 +16,7 @@ ghost use Rattle.group_requests.specs.OffsetFetch.Walks.{Knows};
 ghost use Rattle.group_requests.specs.OffsetFetch.Entries.{HasWalked, LooksUpAt, ShowsAt, ReadsAs, fetched_offset};
 
 use crate::group_partition::group_copy;
-use crate::offset_fetch::walk::Walk;
+use crate::offset_fetch::walk::CommitWalk;
 use answering::ErrorCode;
 use broker_state::BrokerState;
 use group_offsets::{Committed, GroupError, lookup, put_key, read_value};
@@ -31,7 +31,7 @@ pub(crate) struct Fetching<'n, 'q, S: BatchStore> {
     /// Whether the request names more partitions than are answered.
     pub(crate) too_many: bool,
     /// What one walk for all partitions found, if there was memory for it.
-    pub(crate) walk: Result<Walk<'n, S::Alloc>, AllocError>,
+    pub(crate) walk: Result<CommitWalk<'n, S::Alloc>, AllocError>,
 }
 
 /// What is answered of a partition.
@@ -79,7 +79,7 @@ impl<'n, 'q, S: BatchStore> Fetching<'n, 'q, S> {
     /// What the walk found of a partition; `None` where it doesn't tell.
     fn walked(
         &self,
-        walk: &Walk<'n, S::Alloc>,
+        walk: &CommitWalk<'n, S::Alloc>,
         topic: &[u8],
         partition: i32,
     ) -> Option<Option<&'n [u8]>>

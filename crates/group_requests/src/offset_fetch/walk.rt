@@ -25,9 +25,9 @@ pub(crate) struct Latest<'n> {
 /// The keys that are looked for, behind the bytes with which all of them begin, each with what was found.
 type Slots<'n, A> = IndexMap<Vec<u8, A>, Option<Latest<'n>>, BuildHasherDefault<FoldHasher>, A>;
 
-/// A walk, and what it found.
+/// A walk over what groups committed, and what it found.
 #[derive(Drop)]
-pub(crate) struct Walk<'n, A: Allocator + Copy> {
+pub(crate) struct CommitWalk<'n, A: Allocator + Copy> {
     /// The bytes with which the keys begin.
     front: Vec<u8, A>,
     slots: Slots<'n, A>,
@@ -56,13 +56,13 @@ fn fill<'n>(slot: &mut Option<Latest<'n>>, found: Latest<'n>) -> bool
     }
 }
 
-impl<'n, A: Allocator + Copy> Walk<'n, A> {
+impl<'n, A: Allocator + Copy> CommitWalk<'n, A> {
     /// A walk for no keys yet.
-    pub(crate) fn new(alloc: A, front: Vec<u8, A>) -> Walk<'n, A>
+    pub(crate) fn new(alloc: A, front: Vec<u8, A>) -> CommitWalk<'n, A>
         ensures none { HasNone result }
         ensures knows { (t : Table) → Knows t result }
     {
-        Walk {
+        CommitWalk {
             front,
             slots: IndexMap::new(alloc),
             left: 0,

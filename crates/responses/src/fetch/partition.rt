@@ -1,11 +1,9 @@
 //! A partition of a Fetch response, before its records.
 
-ghost use Rattle.std.specs.Prelude.{◌≡◌, ◌≤◌, ◌+◌, ◌++◌, IsOk, OnOk, OnErr};
-ghost use Rattle.std.specs.Vec.{vec_len, vec_capacity};
+ghost use Rattle.std.specs.Prelude.{◌≡◌};
 ghost use Rattle.responses.specs.Fetch.{fetched_head};
 
 use byteorder::{BigEndian, ByteOrder};
-use std::alloc::{AllocError, Allocator};
 
 /// The number of bytes before a partition's records.
 pub const FETCHED_HEAD_BYTES: usize = 30;
@@ -22,8 +20,9 @@ pub struct FetchedPartition {
     pub end: i64,
 }
 
+/// What stands before a partition's records: the answer, and the number of the records' bytes.
 #[tactic(auto, unfolding(frame_fields::specs::Fields::encoded))]
-fn partition_head_bytes(partition: FetchedPartition, size: u32) -> [u8; FETCHED_HEAD_BYTES]
+pub fn fetched_head(partition: FetchedPartition, size: u32) -> [u8; FETCHED_HEAD_BYTES]
     ensures { result ≡ fetched_head partition size }
 {
     let mut bytes = [0; FETCHED_HEAD_BYTES];
@@ -34,23 +33,4 @@ fn partition_head_bytes(partition: FetchedPartition, size: u32) -> [u8; FETCHED_
     BigEndian::write_i32(&mut bytes[22..26], -1);
     BigEndian::write_u32(&mut bytes[26..30], size);
     bytes
-}
-
-/// Appends the answer for a partition, and the number of bytes of its records. These bytes follow.
-///
-/// # Errors
-///
-/// `AllocError` where the allocation fails; then the output is as before.
-pub fn begin_fetched_partition<A: Allocator + Copy>(
-    out: &mut Vec<u8, A>,
-    partition: FetchedPartition,
-    size: u32,
-) -> Result<(), AllocError>
-    ensures appends { OnOk result (out.new.items ≡ out.old.items ++ fetched_head partition size) }
-    ensures unchanged_on_error { OnErr result (out.new.items ≡ out.old.items) }
-    ensures len { OnOk result (vec_len out.new ≡ vec_len out.old + FETCHED_HEAD_BYTES) }
-    ensures succeeds { vec_len out.old + FETCHED_HEAD_BYTES ≤ vec_capacity out.old → IsOk result }
-    ensures keeps_capacity { vec_capacity out.old ≤ vec_capacity out.new }
-{
-    out.extend_from_slice(&partition_head_bytes(partition, size))
 }

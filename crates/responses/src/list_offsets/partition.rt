@@ -1,11 +1,9 @@
 //! A partition of a ListOffsets response.
 
-ghost use Rattle.std.specs.Prelude.{◌≡◌, ◌≤◌, ◌+◌, ◌++◌, IsOk, OnOk, OnErr};
-ghost use Rattle.std.specs.Vec.{vec_len, vec_capacity};
+ghost use Rattle.std.specs.Prelude.{◌≡◌};
 ghost use Rattle.responses.specs.ListOffsets.{list_offsets_answer_bytes};
 
 use byteorder::{BigEndian, ByteOrder};
-use std::alloc::{AllocError, Allocator};
 
 /// The number of bytes of a partition.
 pub const LISTED_PARTITION_BYTES: usize = 22;
@@ -23,8 +21,9 @@ pub struct ListedPartition {
     pub offset: i64,
 }
 
+/// The bytes of a partition.
 #[tactic(auto, unfolding(frame_fields::specs::Fields::encoded))]
-fn partition_bytes(partition: ListedPartition) -> [u8; LISTED_PARTITION_BYTES]
+pub fn list_offsets_answer_bytes(partition: ListedPartition) -> [u8; LISTED_PARTITION_BYTES]
     ensures { result ≡ list_offsets_answer_bytes partition }
 {
     let mut bytes = [0; LISTED_PARTITION_BYTES];
@@ -33,23 +32,4 @@ fn partition_bytes(partition: ListedPartition) -> [u8; LISTED_PARTITION_BYTES]
     BigEndian::write_i64(&mut bytes[6..14], partition.time);
     BigEndian::write_i64(&mut bytes[14..22], partition.offset);
     bytes
-}
-
-/// Appends the answer for a partition.
-///
-/// # Errors
-///
-/// `AllocError` where the allocation fails; then the output is as before.
-pub fn put_listed_partition<A: Allocator + Copy>(
-    out: &mut Vec<u8, A>,
-    partition: ListedPartition,
-) -> Result<(), AllocError>
-    ensures appends { OnOk result (out.new.items ≡ out.old.items ++ list_offsets_answer_bytes partition) }
-    ensures unchanged_on_error { OnErr result (out.new.items ≡ out.old.items) }
-    ensures len { OnOk result (vec_len out.new ≡ vec_len out.old + LISTED_PARTITION_BYTES) }
-    ensures succeeds { vec_len out.old + LISTED_PARTITION_BYTES ≤ vec_capacity out.old
-        → IsOk result }
-    ensures keeps_capacity { vec_capacity out.old ≤ vec_capacity out.new }
-{
-    out.extend_from_slice(&partition_bytes(partition))
 }

@@ -4,6 +4,7 @@ ghost use Rattle.std.specs.Prelude.{◌≡◌, ◌≤◌, ◌+◌, ◌++◌, IsO
 ghost use Rattle.std.specs.Vec.{vec_len, vec_capacity};
 ghost use Rattle.responses.specs.Metadata.{metadata_partition_bytes};
 
+use crate::parts::append_fixed;
 use byteorder::{BigEndian, ByteOrder};
 use std::alloc::{AllocError, Allocator};
 
@@ -71,9 +72,7 @@ pub fn put_metadata_partition<A: Allocator + Copy>(
     ensures keeps_capacity { vec_capacity out.old ≤ vec_capacity out.new }
 {
     match partition.leader {
-        Some(leader) => {
-            out.extend_from_slice(&with_leader(partition.code, partition.index, leader))
-        }
-        None => out.extend_from_slice(&without_leader(partition.code, partition.index)),
+        Some(leader) => { append_fixed(out, &with_leader(partition.code, partition.index, leader)) }
+        None => append_fixed(out, &without_leader(partition.code, partition.index)),
     }
 }

@@ -1,46 +1,15 @@
-//! What stands before the topics of a Produce response, and behind them.
+//! What stands behind the topics of a Produce response.
 
-ghost use Rattle.std.specs.Prelude.{◌≡◌, ◌≤◌, ◌+◌, ◌++◌, IsOk, OnOk, OnErr};
-ghost use Rattle.std.specs.Vec.{vec_len, vec_capacity};
-ghost use Rattle.responses.specs.Produce.{produce_head, produce_tail};
-
-use crate::parts::COUNT_BYTES;
-use std::alloc::{AllocError, Allocator};
+ghost use Rattle.std.specs.Prelude.{◌≡◌};
+ghost use Rattle.responses.specs.Produce.{produce_tail};
 
 /// The number of bytes after the topics.
 pub const PRODUCE_TAIL_BYTES: usize = 4;
 
-/// Appends the count of the topics.
-///
-/// # Errors
-///
-/// `AllocError` where the allocation fails; then the output is as before.
+/// What stands after the topics: the throttle time, which is 0.
 #[tactic(auto, unfolding(frame_fields::specs::Fields::encoded))]
-pub fn begin_produce<A: Allocator + Copy>(
-    out: &mut Vec<u8, A>,
-    topic_count: u32,
-) -> Result<(), AllocError>
-    ensures appends { OnOk result (out.new.items ≡ out.old.items ++ produce_head topic_count) }
-    ensures unchanged_on_error { OnErr result (out.new.items ≡ out.old.items) }
-    ensures len { OnOk result (vec_len out.new ≡ vec_len out.old + COUNT_BYTES) }
-    ensures succeeds { vec_len out.old + COUNT_BYTES ≤ vec_capacity out.old → IsOk result }
-    ensures keeps_capacity { vec_capacity out.old ≤ vec_capacity out.new }
+pub fn produce_tail() -> [u8; PRODUCE_TAIL_BYTES]
+    ensures { result ≡ produce_tail }
 {
-    out.extend_from_slice(&topic_count.to_be_bytes())
-}
-
-/// Appends what follows the topics.
-///
-/// # Errors
-///
-/// `AllocError` where the allocation fails; then the output is as before.
-#[tactic(auto, unfolding(frame_fields::specs::Fields::encoded))]
-pub fn end_produce<A: Allocator + Copy>(out: &mut Vec<u8, A>) -> Result<(), AllocError>
-    ensures appends { OnOk result (out.new.items ≡ out.old.items ++ produce_tail) }
-    ensures unchanged_on_error { OnErr result (out.new.items ≡ out.old.items) }
-    ensures len { OnOk result (vec_len out.new ≡ vec_len out.old + PRODUCE_TAIL_BYTES) }
-    ensures succeeds { vec_len out.old + PRODUCE_TAIL_BYTES ≤ vec_capacity out.old → IsOk result }
-    ensures keeps_capacity { vec_capacity out.old ≤ vec_capacity out.new }
-{
-    out.extend_from_slice(&[0; PRODUCE_TAIL_BYTES])
+    [0; PRODUCE_TAIL_BYTES]
 }

@@ -27,4 +27,4 @@ returns-else-request-eq0-clause-responds g c =
     let q = produce_view c.args.request.now in
     let n = c.args.correlation in
     plan_responded (produce_plan s n q) produce_partition _ produce_partition_value (λ (m : State). m) (produce_may q) produced_bytes n _ _ _ _ _ _ _ _ _ c.respond.new.state
-    refl refl refl (produce_sends s q n c.if-request-eq0.false) (to_z-of_z w32 n c.ranges.correlation) c.in_ok-reserve.ensures.items c.in-Ok.ensures.responds
+    refl refl refl (produce_sends s q n c.if-request-eq0.false c.produce_tail-tail.result c.produce_tail-tail.ensures) (to_z-of_z w32 n c.ranges.correlation) c.in_ok-reserve.ensures.items c.in-Ok.ensures.responds

@@ -1,0 +1,7 @@
+use Rattle.std.proofs.Common.{rules}
+use Rattle.frame_fields.specs.Fields.{encoded}
+use Rattle.responses.proofs.api_versions.range.version_range_bytes.Goals as goal
+
+pub returns : goal.returns
+unfolding encoded
+returns c = search rules

@@ -1,0 +1,7 @@
+use Rattle.std.proofs.Common.{rules}
+use Rattle.frame_fields.specs.Fields.{encoded}
+use Rattle.responses.proofs.list_offsets.partition.list_offsets_answer_bytes.Goals as goal
+
+pub returns : goal.returns
+unfolding encoded
+returns c = search rules

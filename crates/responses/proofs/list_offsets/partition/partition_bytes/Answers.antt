@@ -1,7 +1,0 @@
-use Rattle.std.proofs.Common.{rules}
-use Rattle.frame_fields.specs.Fields.{encoded}
-use Rattle.responses.proofs.list_offsets.partition.partition_bytes.Goals as goal
-
-pub returns : goal.returns
-unfolding encoded
-returns c = search rules
