@@ -1,4 +1,5 @@
 pub mod AnsweredFrames
+pub mod ChangedPlaces
 mod Followed
 mod Said
 mod TopicsFit
