@@ -23,6 +23,7 @@ pub mod DeliverAlike
 pub mod ImportDeltaAlike
 pub mod TrimAlike
 pub mod RepliesAlike
+pub mod FollowersAlike
 pub mod LongerLogs
 pub mod ConfigStays
 pub mod LeftOut
