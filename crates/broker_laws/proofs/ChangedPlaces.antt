@@ -30,11 +30,10 @@ use Rattle.broker_node.specs.Kinds.{kind}
 use Rattle.broker_node.specs.Effects.Effect.{reads, gives_id}
 use Rattle.broker_node.specs.Effects.{TopicPartition, produced_to, group_partition, effect, places, is_among}
 use Rattle.broker_node.specs.Replies.{RepliesTo, MayReply}
-use Rattle.broker_node.proofs.KeptStates.{worked, Keeps, way_keeps, EachEntry, plan_keeps}
+use Rattle.broker_node.proofs.KeptStates.{Keeps, way_keeps, EachEntry, plan_keeps}
 use Rattle.group_requests.specs.GroupPartition.{with_group_content}
 use Rattle.log_requests.specs.Fetch.{FetchRoom, fetch_run_within, fetch_room_after, fetch_result, is_out_of_range, fetch_work}
 use Rattle.log_requests.specs.Produce.{produce_plan}
-use Rattle.setup_requests.specs.InitProducerId.{init_producer_id_work}
 
 -- ---- the configuration, and what is only read
 

@@ -82,7 +82,8 @@ pub fn a_request_changes_only_its_places()
     ensures config { (s after : State) (q : RequestValue) (out : Option (List ℕ))
         → MayReply s q out after → after.config ≡ s.config }
     ensures known_partitions { (s after : State) (q : RequestValue) (out : Option (List ℕ))
-        (name : List ℕ) (p : ℤ) → MayReply s q out after → is_known after name p ≡ is_known s name p }
+        (name : List ℕ) (p : ℤ) → MayReply s q out after
+        → is_known after name p ≡ is_known s name p }
     ensures other_partitions { (s after : State) (q : RequestValue) (out : Option (List ℕ))
         (name : List ℕ) (p : ℤ) → is_among (places (effect q.body)) name p ≡ false
         → MayReply s q out after → partition_at after name p ≡ partition_at s name p }
@@ -93,9 +94,11 @@ pub fn a_request_changes_only_its_places()
     ensures reading_changes_nothing { (s after : State) (q : RequestValue) (out : Option (List ℕ))
         → effect q.body ≡ reads → MayReply s q out after → after ≡ s }
     ensures one_id_is_given { (s after : State) (q : RequestValue) (out : Option (List ℕ))
-        → effect q.body ≡ gives_id → MayReply s q out after → (after ≡ s) ⊎ (after ≡ with_id_given s) }
+        → effect q.body ≡ gives_id → MayReply s q out after
+        → (after ≡ s) ⊎ (after ≡ with_id_given s) }
     ensures next_producer { (s after : State) (q : RequestValue) (out : Option (List ℕ))
-        → effect q.body ≢ gives_id → MayReply s q out after → after.next_producer ≡ s.next_producer }
+        → effect q.body ≢ gives_id → MayReply s q out after
+        → after.next_producer ≡ s.next_producer }
 {}
 
 /// Over any list of requests to a new broker, wherever memory lacks, the producer ids in the responses with

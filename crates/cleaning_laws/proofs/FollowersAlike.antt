@@ -2,19 +2,13 @@
 -- out no id.
 use Rattle.std.proofs.Common.{◌≡◌, ℕ, ℤ, true, false, List, ◌++◌, Option, None, refl, sym, ap, subst, ◌∙◌, arith}
 use Rattle.std.specs.Prelude.{is_some}
-use Rattle.request_frames.specs.Requests.BodyValue.{deliver, import, import_delta, trim}
 use Rattle.request_frames.specs.Requests.{BodyValue, RequestValue}
 use Rattle.request_frames.specs.Produce.{ProduceValue, ProducePartitionValue}
 use Rattle.request_frames.specs.OffsetCommit.{OffsetCommitValue, OffsetCommitPartitionValue}
-use Rattle.request_frames.specs.Deliver.{DeliverValue}
-use Rattle.request_frames.specs.Import.{ImportValue}
-use Rattle.request_frames.specs.ImportDelta.{ImportDeltaValue}
-use Rattle.request_frames.specs.Trim.{TrimValue}
 use Rattle.answering.specs.declared.codes.ErrorCode.TheVariants.{InvalidTransactionState}
 use Rattle.answering.specs.Lists.{fault_if, first_some}
-use Rattle.broker_state.specs.declared.config.Role.{Role}
 use Rattle.broker_state.specs.declared.config.Role.TheVariants.{Leader, Follower}
-use Rattle.broker_state.specs.State.{ConfigValue, State, is_known}
+use Rattle.broker_state.specs.State.{ConfigValue, State}
 use Rattle.broker_state.specs.Checks.{no_group, not_leader}
 use Rattle.broker_state.proofs.Passed.{none_first, none_both}
 use Rattle.log_requests.specs.Produce.{produce_checks, produce_work}
@@ -29,6 +23,8 @@ use Rattle.cleaning_laws.specs.Logs.{Logs}
 use Rattle.cleaning_laws.specs.Alike.{AreAlike}
 use Rattle.cleaning_laws.specs.Settled.{IsWithin, MayTrim}
 use Rattle.cleaning_laws.specs.Cleans.{is_clean, is_no_clean}
+use Rattle.cleaning_laws.proofs.Asked.Asked.{delivers, imports, imports_delta, trims, other}
+use Rattle.cleaning_laws.proofs.Asked.{Asked, asked, IsAsked, is_asked}
 use Rattle.cleaning_laws.proofs.ProduceAlike as produced
 use Rattle.cleaning_laws.proofs.OffsetCommitAlike as committed
 use Rattle.cleaning_laws.proofs.BothAppend.{known_same}
@@ -63,31 +59,9 @@ id_refused s id follows none =
 
 -- ---- what a follower does
 
--- what may change a follower but for a Clean, and all else
-data Asked : Type 0 where
-  delivers : DeliverValue → Asked
-  imports : ImportValue → Asked
-  imports_delta : ImportDeltaValue → Asked
-  trims : TrimValue → Asked
-  else_asked : Asked
-
-abbrev asked : BodyValue → Asked
-asked (deliver q) = delivers q
-asked (import q) = imports q
-asked (import_delta q) = imports_delta q
-asked (trim q) = trims q
-asked _ = else_asked
-
--- the request that it is; all else leaves a follower as it is
-abbrev IsAsked : Asked → BodyValue → Type 0
-IsAsked (delivers q) body = body ≡ deliver q
-IsAsked (imports q) body = body ≡ import q
-IsAsked (imports_delta q) body = body ≡ import_delta q
-IsAsked (trims q) body = body ≡ trim q
-IsAsked else_asked body = (s : State) (n : ℤ) → s.config.role ≡ Follower → is_clean body ≡ false → Keeps (λ m. m ≡ s) ((kind body).way s n)
-
-is_asked : (body : BodyValue) → IsAsked (asked body) body
-is_asked body = grind (arith, produce_refused, commit_refused, forget_refused, id_refused)
+-- all other requests but a Clean leave it as it is
+other_stays : (s : State) (n : ℤ) (body : BodyValue) → asked body ≡ other → s.config.role ≡ Follower → is_clean body ≡ false → Keeps (λ m. m ≡ s) ((kind body).way s n)
+other_stays s n body e follows no_clean = grind (arith, e, follows, no_clean, produce_refused, commit_refused, forget_refused, id_refused)
 
 module _ (logs : Logs) (s z : State) (n : ℤ) where
   -- the states after are alike
@@ -95,7 +69,7 @@ module _ (logs : Logs) (s z : State) (n : ℤ) where
   KeptAlike body = AreAlike logs (reply_to s n body).1 (reply_to z n body).1
 
   both_same : (m o : State) → AreAlike logs s z → m ≡ s → o ≡ z → AreAlike logs m o
-  both_same m o alike one other = subst (λ (x : State). AreAlike logs x o) (sym one) (subst (λ (x : State). AreAlike logs s x) (sym other) alike)
+  both_same m o alike one two = subst (λ (x : State). AreAlike logs x o) (sym one) (subst (λ (x : State). AreAlike logs s x) (sym two) alike)
 
   kept_alike : (body : BodyValue) → AreAlike logs s z → s.config.role ≡ Follower → IsWithin s logs body → MayTrim s body → MayTrim z body → is_clean body ≡ false → KeptAlike body
   kept_alike body alike follows within may other_may no_clean = by (asked body) (is_asked body) within may other_may
@@ -112,10 +86,10 @@ module _ (logs : Logs) (s z : State) (n : ℤ) where
           subst KeptAlike (sym is) (import_delta_keeps logs s z q in_logs.0 in_logs.1 alike).1
       by (trims q) is within may other_may =
           subst KeptAlike (sym is) (trim_keeps logs s z q (subst (MayTrim s) is may) (subst (MayTrim z) is other_may) alike).1
-      by else_asked stays within may other_may =
+      by other is within may other_may =
           both_same _ _ alike
-          (reply_keeps (λ (m : State). m ≡ s) ((kind body).way s n) (stays s n follows no_clean))
-          (reply_keeps (λ (m : State). m ≡ z) ((kind body).way z n) (stays z n (ap (λ (g : ConfigValue). g.role) (sym alike.config) ∙ follows) no_clean))
+          (reply_keeps (λ (m : State). m ≡ s) ((kind body).way s n) (other_stays s n body is follows no_clean))
+          (reply_keeps (λ (m : State). m ≡ z) ((kind body).way z n) (other_stays z n body is (ap (λ (g : ConfigValue). g.role) (sym alike.config) ∙ follows) no_clean))
 
 pub follower_alike : (logs : Logs) (s z : State) (q : RequestValue) → AreAlike logs s z → s.config.role ≡ Follower → IsWithin s logs q.body → MayTrim s q.body → MayTrim z q.body → is_no_clean q ≡ true
     → AreAlike logs (reply s q).1 (reply z q).1

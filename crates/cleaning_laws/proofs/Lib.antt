@@ -1,4 +1,5 @@
 -- Read in this order; each module uses only those above it.
+pub mod Asked
 pub mod Seen
 pub mod Stated
 pub mod TopicsAlike

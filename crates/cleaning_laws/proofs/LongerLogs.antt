@@ -1,5 +1,5 @@
 -- Requests within the logs are within longer ones, in any later state of the broker.
-use Rattle.std.proofs.Common.{◌≡◌, ℕ, ℤ, false, List, [], ◌∷◌, ◌++◌, Option, Some, sym, ap, subst, ◌∙◌, append_assoc, arith}
+use Rattle.std.proofs.Common.{◌≡◌, ℕ, ℤ, List, [], ◌∷◌, ◌++◌, Option, Some, sym, ap, subst, ◌∙◌, append_assoc, arith}
 use Rattle.std.specs.Ordering.{int_eq}
 use Rattle.std.specs.Option.{option_or}
 use Rattle.std.proofs.lemmas.List.{append-nil}
@@ -13,13 +13,13 @@ use Rattle.content.specs.Logs.{IsPlainLog}
 use Rattle.content.specs.Copies.{IsCopy}
 use Rattle.content_laws.proofs.CopyGrow.{plain_front, copy_of_longer}
 use Rattle.deltas.specs.Deltas.{Delta}
-use Rattle.request_frames.specs.Requests.BodyValue.{deliver, import, import_delta}
 use Rattle.request_frames.specs.Requests.{BodyValue}
 use Rattle.request_frames.specs.Deliver.{DeliverValue}
-use Rattle.request_frames.specs.Import.{ImportValue}
 use Rattle.request_frames.specs.ImportDelta.{ImportDeltaValue}
 use Rattle.broker_state.specs.State.{ConfigValue, State, is_known}
 use Rattle.cleaning_laws.specs.Logs.{Logs, Grows}
+use Rattle.cleaning_laws.proofs.Asked.Asked.{delivers, imports, imports_delta, trims, other}
+use Rattle.cleaning_laws.proofs.Asked.{Asked, asked, IsAsked, is_asked}
 use Rattle.cleaning_laws.specs.Settled.{FollowsAt, IsOfLog, IsFromCopy, IsDeltaOfLog, IsFromLogs, IsWithin}
 
 found_longer : (o : ℤ) (b : BatchValue) (log longer more : List BatchValue) → longer ≡ log ++ more → look_up first_offset o log ≡ Some b → look_up first_offset o longer ≡ Some b
@@ -67,37 +67,19 @@ delta_of_longer s m logs longer q later grows is = λ at e read.
 
 -- ---- requests
 
--- what a request brings of a log, if anything
-data Brought : Type 0 where
-  batch : DeliverValue → Brought
-  image : ImportValue → Brought
-  delta : ImportDeltaValue → Brought
-  nothing : Brought
-
-abbrev brought : BodyValue → Brought
-brought (deliver q) = batch q
-brought (import q) = image q
-brought (import_delta q) = delta q
-brought _ = nothing
-
--- what brings nothing is of any logs
-abbrev Brings : Brought → BodyValue → Type 0
-Brings (batch q) body = body ≡ deliver q
-Brings (image q) body = body ≡ import q
-Brings (delta q) body = body ≡ import_delta q
-Brings nothing body = (s : State) (logs : Logs) → IsFromLogs s logs body
-
-brings : (body : BodyValue) → Brings (brought body) body
-brings body = grind arith
+-- all other requests are of any logs
+of_any_logs : (s : State) (logs : Logs) (body : BodyValue) → asked body ≡ other → IsFromLogs s logs body
+of_any_logs s logs body e = grind (arith, e)
 
 from_longer : (s m : State) (logs longer : Logs) (body : BodyValue) → IsLater s m → Grows logs longer → IsFromLogs s logs body → IsFromLogs m longer body
-from_longer s m logs longer body later grows = by (brought body) (brings body)
+from_longer s m logs longer body later grows = by (asked body) (is_asked body)
   where
-    by : (b : Brought) → Brings b body → IsFromLogs s logs body → IsFromLogs m longer body
-    by (batch q) is from = subst (IsFromLogs m longer) (sym is) (of_longer s m logs longer q later grows (subst (IsFromLogs s logs) is from))
-    by (image q) is from = subst (IsFromLogs m longer) (sym is) (later.known q.topic q.partition ∙ subst (IsFromLogs s logs) is from)
-    by (delta q) is from = subst (IsFromLogs m longer) (sym is) (delta_of_longer s m logs longer q later grows (subst (IsFromLogs s logs) is from))
-    by nothing any from = any m longer
+    by : (a : Asked) → IsAsked a body → IsFromLogs s logs body → IsFromLogs m longer body
+    by (delivers q) is from = subst (IsFromLogs m longer) (sym is) (of_longer s m logs longer q later grows (subst (IsFromLogs s logs) is from))
+    by (imports q) is from = subst (IsFromLogs m longer) (sym is) (later.known q.topic q.partition ∙ subst (IsFromLogs s logs) is from)
+    by (imports_delta q) is from = subst (IsFromLogs m longer) (sym is) (delta_of_longer s m logs longer q later grows (subst (IsFromLogs s logs) is from))
+    by (trims q) is from = subst (IsFromLogs m longer) (sym is) tt
+    by other is from = of_any_logs m longer body is
 
 pub within_longer : (s m : State) (logs longer : Logs) (body : BodyValue) → IsLater s m → Grows logs longer → IsWithin s logs body → IsWithin m longer body
 within_longer s m logs longer body later grows is = (is.0, from_longer s m logs longer body later grows is.1)
