@@ -24,10 +24,11 @@ ghost use Rattle.log_requests.specs.Fetch.{FetchRoom, fetch_work};
 ghost use Rattle.setup_requests.specs.ApiVersions.{listed_ranges};
 ghost use Rattle.broker_state.specs.Batches.{append_fault, FaultIs};
 ghost use Rattle.broker_state.specs.State.{ConfigValue, State, new_state, partition_at, is_known, with_content};
+ghost use Rattle.broker_state.specs.declared.config.Role.TheVariants.{Follower};
 ghost use Rattle.broker_state.specs.Producers.{with_id_given};
 ghost use Rattle.broker_state.specs.Sound.{IsSoundConfig, IsSound};
-ghost use Rattle.broker_node.specs.Effects.{effect, places, is_among};
-ghost use Rattle.broker_node.specs.Effects.Effect.{reads, gives_id};
+ghost use Rattle.broker_node.specs.Effects.{TopicPartition, effect, places, is_among};
+ghost use Rattle.broker_node.specs.Effects.Effect.{reads, gives_id, appends};
 ghost use Rattle.broker_node.specs.Replies.{reply, IsReply, MayReply};
 ghost use Rattle.broker_node.specs.Fitting.{IsFitting, FitsReply};
 ghost use Rattle.broker_node.specs.Streams.{IsAnswered, AreAnswered};
@@ -99,6 +100,11 @@ pub fn a_request_changes_only_its_places()
     ensures next_producer { (s after : State) (q : RequestValue) (out : Option (List ℕ))
         → effect q.body ≢ gives_id → MayReply s q out after
         → after.next_producer ≡ s.next_producer }
+    ensures followers_append_nothing { (s after : State) (q : RequestValue) (out : Option (List ℕ))
+        (ps : List TopicPartition) → s.config.role ≡ Follower → effect q.body ≡ appends ps
+        → MayReply s q out after → after ≡ s }
+    ensures followers_give_no_id { (s after : State) (q : RequestValue) (out : Option (List ℕ))
+        → s.config.role ≡ Follower → effect q.body ≡ gives_id → MayReply s q out after → after ≡ s }
 {}
 
 /// Over any list of requests to a new broker, wherever memory lacks, the producer ids in the responses with

@@ -1,65 +1,26 @@
 -- Two followers that are alike answer a request within the logs and stay of the same logs: a follower appends nothing, and gives
 -- out no id.
-use Rattle.std.proofs.Common.{◌≡◌, ℕ, ℤ, true, false, List, ◌++◌, Option, None, refl, sym, ap, subst, ◌∙◌, arith}
-use Rattle.std.specs.Prelude.{is_some}
+use Rattle.std.proofs.Common.{◌≡◌, ℤ, true, false, sym, ap, subst, ◌∙◌, arith}
 use Rattle.request_frames.specs.Requests.{BodyValue, RequestValue}
-use Rattle.request_frames.specs.Produce.{ProduceValue, ProducePartitionValue}
-use Rattle.request_frames.specs.OffsetCommit.{OffsetCommitValue, OffsetCommitPartitionValue}
-use Rattle.answering.specs.declared.codes.ErrorCode.TheVariants.{InvalidTransactionState}
-use Rattle.answering.specs.Lists.{fault_if, first_some}
-use Rattle.broker_state.specs.declared.config.Role.TheVariants.{Leader, Follower}
+use Rattle.broker_state.specs.declared.config.Role.TheVariants.{Follower}
 use Rattle.broker_state.specs.State.{ConfigValue, State}
-use Rattle.broker_state.specs.Checks.{no_group, not_leader}
-use Rattle.broker_state.proofs.Passed.{none_first, none_both}
-use Rattle.log_requests.specs.Produce.{produce_checks, produce_work}
-use Rattle.group_requests.specs.OffsetCommit.{offset_commit_work}
-use Rattle.group_requests.proofs.OffsetCommitEntries.{leads}
-use Rattle.group_requests.specs.ForgetGroup.{forget_group_work}
-use Rattle.setup_requests.specs.InitProducerId.{init_producer_id_work}
 use Rattle.broker_node.specs.Kinds.{kind}
 use Rattle.broker_node.specs.Replies.{reply_to, reply}
 use Rattle.broker_node.proofs.KeptStates.{Keeps, reply_keeps}
+use Rattle.broker_laws.proofs.FollowersStay.{produce_refused, commit_refused, forget_refused, id_refused}
 use Rattle.cleaning_laws.specs.Logs.{Logs}
 use Rattle.cleaning_laws.specs.Alike.{AreAlike}
 use Rattle.cleaning_laws.specs.Settled.{IsWithin, MayTrim}
 use Rattle.cleaning_laws.specs.Cleans.{is_clean, is_no_clean}
 use Rattle.cleaning_laws.proofs.Asked.Asked.{delivers, imports, imports_delta, trims, other}
 use Rattle.cleaning_laws.proofs.Asked.{Asked, asked, IsAsked, is_asked}
-use Rattle.cleaning_laws.proofs.ProduceAlike as produced
-use Rattle.cleaning_laws.proofs.OffsetCommitAlike as committed
 use Rattle.cleaning_laws.proofs.BothAppend.{known_same}
 use Rattle.cleaning_laws.proofs.DeliverAlike.{deliver_keeps}
 use Rattle.cleaning_laws.proofs.ImportDeltaAlike.{import_delta_keeps}
 use Rattle.cleaning_laws.proofs.TrimAlike.{trim_keeps}
 use Rattle.cleaning_laws.proofs.RepliesAlike.{not_imported, not_false}
 
--- ---- what only a leader does
-
-no_leader : (s m : State) → s.config.role ≡ Follower → m ≡ s → m.config.role ≡ Leader → ⊥
-no_leader s m follows same leads = let clash : Leader ≡ Follower = sym leads ∙ ap (λ (x : State). x.config.role) same ∙ follows in absurd cc
-
-produce_refused : (s m : State) (q : ProduceValue) (name : List ℕ) (e : ProducePartitionValue) → s.config.role ≡ Follower → m ≡ s → first_some ((produce_work m q name e).early ++ (produce_work m q name e).late) ≡ None
-    → (produce_work m q name e).done.1 ≡ s
-produce_refused s m q name e follows same none =
-    absurd (no_leader s m follows same (produced.passed q m name e (none_both (produce_checks m q name e) (produce_work m q name e).late none).0).0)
-
-commit_refused : (s m : State) (q : OffsetCommitValue) (name : List ℕ) (e : OffsetCommitPartitionValue) → s.config.role ≡ Follower → m ≡ s → first_some ((offset_commit_work m q name e).early ++ (offset_commit_work m q name e).late) ≡ None
-    → (offset_commit_work m q name e).done.1 ≡ s
-commit_refused s m q name e follows same none = absurd (no_leader s m follows same (committed.passed q m name e none).0)
-
-forget_refused : (s : State) (group : List ℕ) → s.config.role ≡ Follower → first_some ((forget_group_work s group).early ++ (forget_group_work s group).late) ≡ None → (forget_group_work s group).done.1 ≡ s
-forget_refused s group follows none =
-    let named = none_first (no_group group) _ (none_both (forget_group_work s group).early (forget_group_work s group).late none).0 in
-    absurd (no_leader s s follows refl (leads s.config.role (none_first (not_leader s) None named.1).0))
-
-id_refused : (s : State) (id : Option (List ℕ)) → s.config.role ≡ Follower → first_some ((init_producer_id_work s id).early ++ (init_producer_id_work s id).late) ≡ None → (init_producer_id_work s id).done.1 ≡ s
-id_refused s id follows none =
-    let plain = none_first (fault_if (is_some id) InvalidTransactionState) _ none in
-    absurd (no_leader s s follows refl (leads s.config.role (none_first (not_leader s) _ plain.1).0))
-
--- ---- what a follower does
-
--- all other requests but a Clean leave it as it is
+-- all other requests but a Clean leave a follower as it is
 other_stays : (s : State) (n : ℤ) (body : BodyValue) → asked body ≡ other → s.config.role ≡ Follower → is_clean body ≡ false → Keeps (λ m. m ≡ s) ((kind body).way s n)
 other_stays s n body e follows no_clean = grind (arith, e, follows, no_clean, produce_refused, commit_refused, forget_refused, id_refused)
 

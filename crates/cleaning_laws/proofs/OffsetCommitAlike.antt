@@ -66,7 +66,7 @@ module _ (q : OffsetCommitValue) where
         ∙ (λ i. fault_of e (known_same logs s z name e.partition alike i) (role_same logs s z name e.partition alike i) (fault z))
 
   -- what an entry without a fault passed
-  pub passed : (s : State) (name : List ℕ) (e : OffsetCommitPartitionValue) → first_some ((offset_commit_work s q name e).early ++ (offset_commit_work s q name e).late) ≡ None
+  passed : (s : State) (name : List ℕ) (e : OffsetCommitPartitionValue) → first_some ((offset_commit_work s q name e).early ++ (offset_commit_work s q name e).late) ≡ None
       → (s.config.role ≡ Leader) × (append_fault (group_content s) (offset_commit_batch q.group name e) ≡ None)
   passed s name e none =
       let parts = none_both (offset_commit_work s q name e).early (offset_commit_work s q name e).late none in

@@ -59,7 +59,7 @@ module _ (q : ProduceValue) where
         ∙ (λ i. fault_of name e (known_same logs s z name e.index alike i) (role_same logs s z name e.index alike i) (fault z))
 
   -- what an entry without a fault passed
-  pub passed : (s : State) (name : List ℕ) (e : ProducePartitionValue) → first_some (produce_checks s q name e) ≡ None
+  passed : (s : State) (name : List ℕ) (e : ProducePartitionValue) → first_some (produce_checks s q name e) ≡ None
       → (s.config.role ≡ Leader) × (first_some (batch_checks e.records) ≡ None) × (append_fault (content_at s name e.index) (batch_of e.records) ≡ None)
   passed s name e none =
       let acks = none_first (fault_if (not (is_acks q.acks)) InvalidRequiredAcks) _ none in

@@ -1,4 +1,5 @@
 use Rattle.broker_laws.proofs.ChangedPlaces.{config_kept, known_kept, other_partition, other_fetch, unchanged, gives_one, next_stays}
+use Rattle.broker_laws.proofs.FollowersStay.{appends_nothing, gives_nothing}
 use Rattle.broker_laws.proofs.laws.a_request_changes_only_its_places.Goals as goal
 
 pub returns-clause-config : goal.returns-clause-config
@@ -21,3 +22,9 @@ returns-clause-one_id_is_given c = gives_one
 
 pub returns-clause-next_producer : goal.returns-clause-next_producer
 returns-clause-next_producer c = next_stays
+
+pub returns-clause-followers_append_nothing : goal.returns-clause-followers_append_nothing
+returns-clause-followers_append_nothing c = appends_nothing
+
+pub returns-clause-followers_give_no_id : goal.returns-clause-followers_give_no_id
+returns-clause-followers_give_no_id c = gives_nothing
