@@ -78,7 +78,7 @@ pub fn answered_snoc()
 
 /// What a request changes, wherever memory lacks: no more than its `effect` says, and nothing in a partition
 /// that isn't among its `places`, of which a fetch shows the same then. The configuration stays, and so do
-/// the partitions that the broker has.
+/// the partitions that the broker has. A follower appends nothing and gives out no id.
 pub fn a_request_changes_only_its_places()
     ensures config { (s after : State) (q : RequestValue) (out : Option (List ℕ))
         → MayReply s q out after → after.config ≡ s.config }

@@ -73,8 +73,8 @@ HoldsFields (deliver q) = IsBytes q.batch
 HoldsFields (import_delta q) = IsBytes q.delta
 HoldsFields _ = ⊤
 
--- What a request brings to a broker is of the logs. Which state of the broker it is says no more than its role and which
--- partitions it has, and these stay. An image is none, unless it comes to a partition that the broker hasn't got.
+-- What a request brings to a broker is of the logs. Of the broker's state only its role and which partitions it has are read,
+-- and these stay. An image is only within the logs where it is refused, since the broker hasn't got its partition.
 abbrev pub IsFromLogs : State → Logs → BodyValue → Type 0
 IsFromLogs s logs (deliver q) = IsOfLog s logs q
 IsFromLogs s logs (import q) = is_known s q.topic q.partition ≡ false

@@ -60,8 +60,8 @@ pub fn brokers_of_the_same_logs_answer_alike()
 /// Two brokers that are alike, as two new ones are, get two lists of requests within the logs, which are
 /// the same once their Cleans are left out, and of which each Trim is to an offset at which its copy may
 /// start then. Then each other request gets the same reply from both, but for
-/// those that are read of which records are kept, and the brokers after are again alike. So cleaning changes
-/// no such reply, whenever and with whatever bounds it is done.
+/// those that are read of which records are kept, and the brokers after are again alike; followers stay alike
+/// of the same logs. So cleaning changes no such reply, whenever and with whatever bounds it is done.
 pub fn cleaning_changes_no_reply()
     ensures alike { (logs : Logs) (s z : State) (qs ps : List RequestValue) → AreAlike logs s z
         → AreWithin s logs qs → MayTrimAll s qs → MayTrimAll z ps
@@ -79,7 +79,8 @@ pub fn cleaning_changes_no_reply()
     ensures follower_from_the_start { (g : ConfigValue) (logs : Logs) (qs ps : List RequestValue)
         → g.role ≡ Follower
         → ((name : List ℕ) (p : ℤ) → IsPlainLog (logs name p) × IsLegalFromSome (logs name p))
-        → AreWithin (new_state g) logs qs → MayTrimAll (new_state g) qs → MayTrimAll (new_state g) ps
+        → AreWithin (new_state g) logs qs
+        → MayTrimAll (new_state g) qs → MayTrimAll (new_state g) ps
         → without_cleans qs ≡ without_cleans ps
         → AnswerAllAlike logs (new_state g) (new_state g) qs ps }
 {}
