@@ -26,9 +26,10 @@ use Rattle.log_requests.specs.declared.fetch.room.TheConstants.{MAX_FETCH_BYTES}
 use Rattle.log_requests.specs.Fetch.{FetchRoom, fetch_limit, fetch_run_within, fetch_room_after, fetch_result, fetch_work, fetch_room, fetch_plan}
 use Rattle.log_requests.proofs.FetchRuns.{bytes_of, bytes_more, run_fits, all_behind}
 use Rattle.broker_node.specs.Fitting.{FitsIfSent}
+use Rattle.broker_node.proofs.KeptStates.{worked}
 use Rattle.broker_laws.proofs.Said.{IsSaid, IsPart, later, elements_are, array_length, none_long, first_long}
 use Rattle.broker_laws.proofs.TopicsFit.{EntryFits, topics_fit}
-use Rattle.broker_laws.proofs.Works.{worked, no_error_fits, code_fits}
+use Rattle.broker_laws.proofs.Works.{no_error_fits, code_fits}
 use Rattle.broker_laws.proofs.FittingResponses.{enough, fitting_response, IsKept, frame_limit}
 use Rattle.broker_laws.proofs.Followed.{total, spent}
 

@@ -1,72 +1,30 @@
 -- The ids that replies give are numbers in a row: only a reply that gives the next id changes what comes next, by one.
-use Rattle.std.proofs.Common.{◌≡◌, inl, inr, ◌⊎◌, ℕ, ℤ, pos, ◌+ℤ◌, Bool, false, cond, List, [], ◌∷◌, ◌++◌, length, Option, refl, sym, ap, subst, ◌∙◌, arith}
+use Rattle.std.proofs.Common.{◌≡◌, inl, inr, ◌⊎◌, ℕ, ℤ, pos, ◌+ℤ◌, Bool, false, cond, List, [], ◌∷◌, ◌++◌, length, Option, Some, None, refl, sym, ap, subst, ◌∙◌, arith}
 use Rattle.std.specs.Prelude.{FitsSigned}
 use Rattle.std.specs.Ordering.{int_eq}
 use Rattle.std.specs.Int.{w16, w64}
 use Rattle.std.proofs.lemmas.Int.{ints}
 use Rattle.frame_fields.specs.Fields.{size16, size64, be, encoded}
-use Rattle.frame_fields.specs.Types.{TopicOf}
 use Rattle.frame_fields.proofs.Numbers.{number_again}
-use Rattle.request_frames.specs.Requests.BodyValue.{produce, fetch, list_offsets, metadata, offset_commit, offset_fetch, find_coordinator, api_versions, init_producer_id, deliver, clean, export, export_delta, import, import_delta, get, cover, forget_group, trim}
+use Rattle.request_frames.specs.Requests.BodyValue.{init_producer_id}
 use Rattle.request_frames.specs.Requests.{BodyValue, RequestValue}
 use Rattle.responses.specs.declared.init_producer_id.InitProducerIdAnswer.{InitProducerIdAnswer}
 use Rattle.answering.specs.declared.codes.ErrorCode.{ErrorCode}
 use Rattle.answering.specs.Codes.{no_error, code_number}
-use Rattle.answering.specs.Work.{Work, MayAnswer}
-use Rattle.answering.specs.Plans.{AnswersAll, AnswersTopics, Plan, RepliesBy}
+use Rattle.answering.specs.Work.{MayAnswer}
+use Rattle.answering.specs.Plans.{AnswersAll}
 use Rattle.answering.specs.Once.{RepliesOnce}
+use Rattle.answering.proofs.AnswersOfAll.{in_any_case}
 use Rattle.broker_state.specs.State.{ConfigValue, State, new_state}
 use Rattle.broker_state.specs.Sound.{IsSoundConfig}
-use Rattle.log_requests.specs.Produce.{produce_plan}
-use Rattle.log_requests.specs.ListOffsets.{list_offsets_plan}
-use Rattle.group_requests.specs.OffsetCommit.{offset_commit_plan}
-use Rattle.group_requests.specs.OffsetFetch.{offset_fetch_plan}
-use Rattle.group_requests.specs.ForgetGroup.{forget_group_work, forget_group_sent}
-use Rattle.setup_requests.specs.FindCoordinator.{find_coordinator_work, find_coordinator_sent}
 use Rattle.setup_requests.specs.InitProducerId.{id_answer, init_producer_id_work, init_producer_id_sent}
-use Rattle.copy_requests.specs.Deliver.{deliver_work, deliver_sent}
-use Rattle.copy_requests.specs.Clean.{clean_work, clean_sent}
-use Rattle.copy_requests.specs.Export.{export_work, export_sent}
-use Rattle.copy_requests.specs.ExportDelta.{export_delta_work}
-use Rattle.copy_requests.specs.Import.{import_work, import_sent}
-use Rattle.copy_requests.specs.ImportDelta.{import_delta_work}
-use Rattle.copy_requests.specs.Get.{get_work, get_sent}
-use Rattle.copy_requests.specs.Cover.{cover_work, cover_sent}
-use Rattle.copy_requests.specs.Trim.{trim_work, trim_sent}
+use Rattle.broker_node.specs.Kinds.{kind}
 use Rattle.broker_node.specs.Replies.{RepliesTo, MayReply}
+use Rattle.broker_node.proofs.KeptStates.{worked, way_keeps}
 use Rattle.broker_laws.specs.ProducerIds.{code_in, id_in, ids_in, ids_given, in_a_row, AreInARow}
-use Rattle.broker_laws.proofs.Works.{worked, no_error_fits, code_fits}
+use Rattle.broker_laws.proofs.Works.{no_error_fits, code_fits}
 use Rattle.broker_laws.proofs.InitProducerIdFits.{id_left, next_fits}
-
--- ---- requests that leave the next id
-
-abbrev Stays : State → State → Type 0
-Stays s after = after.next_producer ≡ s.next_producer
-
-work_stays : {R : Type 0} (w : Work R State) (s : State) (r : R) (after : State) → Stays s w.done.1 → MayAnswer w s r after → Stays s after
-work_stays w s r after same answer = worked (λ r m. Stays s m) w s r after (λ code. refl) (λ none. same) answer
-
-all_stay : {X Y : Type 0} (A : State → X → Y → State → Type 0) → ((s : State) (x : X) (y : Y) (m : State) → A s x y m → Stays s m) → (s : State) (xs : List X) (ys : List Y) (end : State) → AnswersAll A s xs ys end → Stays s end
-all_stay A step s [] [] end same = sym (ap (λ (t : State). t.next_producer) same)
-all_stay A step s [] (y ∷ ys) end all = absurd all
-all_stay A step s (x ∷ xs) [] end all = absurd all
-all_stay A step s (x ∷ xs) (y ∷ ys) end all = all_stay A step all.0 xs ys end all.2 ∙ step s x y all.0 all.1
-
-topics_stay : {E R : Type 0} (A : State → List ℕ → E → R → State → Type 0) → ((s : State) (name : List ℕ) (e : E) (r : R) (m : State) → A s name e r m → Stays s m)
-    → (s : State) (ts : List (TopicOf E)) (rs : List (TopicOf R)) (end : State) → AnswersTopics A s ts rs end → Stays s end
-topics_stay A step s ts rs end all =
-    all_stay _ (λ s t r m of_topic. all_stay (λ s e y m. A s t.name e y m) (λ s e y m. step s t.name e y m) s t.entries r.entries m of_topic.1) s ts rs end all
-
--- a request of entries, whose plan goes over the broker's states
-plan_stays : {E R : Type 0} (p : Plan E R State State) (s : State) (out : Option (List ℕ)) (after : State) → p.first ≡ s → ((m : State) → p.after m ≡ m) → ((s : State) (name : List ℕ) (e : E) → Stays s (p.work s name e).done.1)
-    → RepliesBy (λ R S w. MayAnswer w) p out after → Stays s after
-plan_stays p s out after first same each replies =
-    ap (λ (t : State). t.next_producer) (replies.leaves ∙ same replies.end)
-    ∙ topics_stay (λ s name e r m. MayAnswer (p.work s name e) s r m) (λ s name e r m. work_stays (p.work s name e) s r m (each s name e)) p.first p.topics replies.results replies.end replies.answers
-    ∙ ap (λ (t : State). t.next_producer) first
-
-once_stays : {R : Type 0} (sent : R → List ℕ) (w : Work R State) (s : State) (out : Option (List ℕ)) (after : State) → Stays s w.done.1 → RepliesOnce (λ R S w. MayAnswer w) sent w s out after → Stays s after
-once_stays sent w s out after same replies = work_stays w s replies.result after same replies.answers
+use Rattle.broker_laws.proofs.ChangedPlaces.{asked_id, asks_id, next_kept}
 
 -- ---- what a reply gives
 
@@ -121,26 +79,19 @@ id_step s n id out after fits replies =
 
 -- ---- all requests
 
-reply_steps : (s : State) (n : ℤ) (body : BodyValue) (out : Option (List ℕ)) (after : State) → FitsSigned w64 s.next_producer → RepliesTo (λ R S w. MayAnswer w) s n body out after → Steps s (ids_in body out) after
-reply_steps s n (produce q) out after fits r = inl (refl, plan_stays (produce_plan s n q) s out after refl (λ m. refl) (λ s name e. refl) r)
-reply_steps s n (fetch q) out after fits r = inl (refl, ap (λ (t : State). t.next_producer) r.leaves)
-reply_steps s n (list_offsets ts) out after fits r = inl (refl, plan_stays (list_offsets_plan s n ts) s out after refl (λ m. refl) (λ s name e. refl) r)
-reply_steps s n (metadata names) out after fits r = inl (refl, ap (λ (t : State). t.next_producer) r.1)
-reply_steps s n (offset_commit q) out after fits r = inl (refl, plan_stays (offset_commit_plan s n q) s out after refl (λ m. refl) (λ s name e. refl) r)
-reply_steps s n (offset_fetch q) out after fits r = inl (refl, plan_stays (offset_fetch_plan s n q) s out after refl (λ m. refl) (λ s name e. refl) r)
-reply_steps s n (find_coordinator group) out after fits r = inl (refl, once_stays (find_coordinator_sent n) (find_coordinator_work s group) s out after refl r)
-reply_steps s n (api_versions version) out after fits r = inl (refl, ap (λ (t : State). t.next_producer) r.1)
-reply_steps s n (init_producer_id id) out after fits r = id_step s n id out after fits r
-reply_steps s n (deliver q) out after fits r = inl (refl, once_stays (deliver_sent n) (deliver_work s q) s out after refl r)
-reply_steps s n (clean q) out after fits r = inl (refl, once_stays (clean_sent n) (clean_work s q) s out after refl r)
-reply_steps s n (export q) out after fits r = inl (refl, once_stays (export_sent n) (export_work s q) s out after refl r)
-reply_steps s n (export_delta q) out after fits r = inl (refl, once_stays (export_sent n) (export_delta_work s q) s out after refl r)
-reply_steps s n (import q) out after fits r = inl (refl, once_stays (import_sent n) (import_work s q) s out after refl r)
-reply_steps s n (import_delta q) out after fits r = inl (refl, once_stays (import_sent n) (import_delta_work s q) s out after refl r)
-reply_steps s n (get q) out after fits r = inl (refl, once_stays (get_sent n) (get_work s q) s out after refl r)
-reply_steps s n (cover q) out after fits r = inl (refl, once_stays (cover_sent n) (cover_work s q) s out after refl r)
-reply_steps s n (forget_group group) out after fits r = inl (refl, once_stays (forget_group_sent n) (forget_group_work s group) s out after refl r)
-reply_steps s n (trim q) out after fits r = inl (refl, once_stays (trim_sent n) (trim_work s q) s out after refl r)
+-- no other request's reply is one that gives an id
+no_ids : (body : BodyValue) (out : Option (List ℕ)) → asked_id body ≡ None → ids_in body out ≡ []
+no_ids body out none = grind (arith, none)
+
+reply_steps : (s : State) (n : ℤ) (body : BodyValue) (out : Option (List ℕ)) (after : State) → FitsSigned w64 s.next_producer → RepliesTo in_any_case s n body out after → Steps s (ids_in body out) after
+reply_steps s n body out after fits = by (asked_id body) refl
+  where
+    by : (o : Option (Option (List ℕ))) → asked_id body ≡ o → RepliesTo in_any_case s n body out after → Steps s (ids_in body out) after
+    by None e replies = inl (no_ids body out e, way_keeps (λ m. m.next_producer ≡ s.next_producer) ((kind body).way s n) out after (next_kept s n body e) replies)
+    by (Some id) e replies =
+        let is = asks_id body id e in
+        subst (λ (b : BodyValue). Steps s (ids_in b out) after) (sym is)
+        (id_step s n id out after fits (subst (λ (b : BodyValue). RepliesTo in_any_case s n b out after) is replies))
 
 -- ---- lists of requests
 

@@ -1,4 +1,6 @@
 pub mod AnsweredFrames
+pub mod ChangedPlaces
+pub mod FollowersStay
 mod Followed
 mod Said
 mod TopicsFit

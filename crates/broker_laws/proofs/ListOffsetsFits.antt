@@ -21,10 +21,11 @@ use Rattle.broker_state.proofs.ValidAppends.{end_fits}
 use Rattle.broker_state.proofs.SoundStates.{content_valid}
 use Rattle.log_requests.specs.ListOffsets.{list_offsets_latest, list_offsets_earliest, list_offsets_at, list_offsets_result, list_offsets_work, list_offsets_plan}
 use Rattle.broker_node.specs.Fitting.{FitsIfSent}
+use Rattle.broker_node.proofs.KeptStates.{worked}
 use Rattle.broker_laws.proofs.Said.{IsSaid, IsPart, later, elements_are, array_length, none_long}
 use Rattle.broker_laws.proofs.TopicsFit.{EntryFits, topics_fit, none_apart}
 use Rattle.broker_laws.proofs.ValidContents.{StampFits, start_fits, time_fits}
-use Rattle.broker_laws.proofs.Works.{worked, no_error_fits, code_fits}
+use Rattle.broker_laws.proofs.Works.{no_error_fits, code_fits}
 use Rattle.broker_laws.proofs.FittingResponses.{enough, fitting_response, IsKept, frame_limit}
 
 abbrev Entry : Type 0

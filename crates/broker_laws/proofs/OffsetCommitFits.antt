@@ -27,9 +27,10 @@ use Rattle.broker_state.proofs.ValidAppends.{appended_valid}
 use Rattle.group_requests.specs.GroupPartition.{group_content, with_group_content}
 use Rattle.group_requests.specs.OffsetCommit.{offset_commit_batch, offset_commit_result, offset_commit_work, offset_commit_plan}
 use Rattle.broker_node.specs.Fitting.{FitsIfSent}
+use Rattle.broker_node.proofs.KeptStates.{worked}
 use Rattle.broker_laws.proofs.Said.{IsSaid, IsPart, later, elements_are, array_length, none_long}
 use Rattle.broker_laws.proofs.TopicsFit.{EntryFits, topics_fit, none_apart}
-use Rattle.broker_laws.proofs.Works.{worked, unmapped, no_error_fits, code_fits}
+use Rattle.broker_laws.proofs.Works.{unmapped, no_error_fits, code_fits}
 use Rattle.broker_laws.proofs.FittingResponses.{enough, fitting_response, IsKept, frame_limit}
 
 abbrev Entry : Type 0

@@ -28,9 +28,10 @@ use Rattle.group_requests.specs.GroupPartition.{group_content}
 use Rattle.group_requests.specs.declared.offset_fetch.TheConstants.{MAX_FETCHED_OFFSETS}
 use Rattle.group_requests.specs.OffsetFetch.{offset_fetch_lookup, offset_fetch_none, offset_fetch_result, offset_fetch_work, partition_count, offset_fetch_plan}
 use Rattle.broker_node.specs.Fitting.{FitsIfSent}
+use Rattle.broker_node.proofs.KeptStates.{worked}
 use Rattle.broker_laws.proofs.Said.{IsSaid, IsPart, later, elements_are, array_length, none_long}
 use Rattle.broker_laws.proofs.TopicsFit.{EntryFits, topics_fit, none_apart}
-use Rattle.broker_laws.proofs.Works.{worked, no_error_fits, code_fits}
+use Rattle.broker_laws.proofs.Works.{no_error_fits, code_fits}
 use Rattle.broker_laws.proofs.FittingResponses.{enough, fitting_response, IsKept, frame_limit}
 use Rattle.broker_laws.proofs.Followed.{total, bounded}
 

@@ -15,8 +15,8 @@ use Rattle.answering.specs.Once.{RepliesOnce}
 use Rattle.broker_state.specs.State.{State}
 use Rattle.broker_state.specs.Sound.{IsSound}
 use Rattle.broker_node.specs.Fitting.{FitsIfSent}
+use Rattle.broker_node.proofs.KeptStates.{worked}
 use Rattle.broker_laws.proofs.Said.{IsSaid, bytes_first}
-use Rattle.broker_laws.proofs.Works.{worked}
 use Rattle.broker_laws.proofs.FittingResponses.{enough, fitting_response, IsKept}
 
 -- the values fit, and have fewer bytes than any response

@@ -29,9 +29,10 @@ use Rattle.broker_state.proofs.Passed.{none_first, none_both}
 use Rattle.broker_state.proofs.ValidAppends.{appended_valid}
 use Rattle.log_requests.specs.Produce.{is_acks, produce_result, produce_checks, produce_work, produce_plan}
 use Rattle.broker_node.specs.Fitting.{IsFitting, FitsIfSent}
+use Rattle.broker_node.proofs.KeptStates.{worked}
 use Rattle.broker_laws.proofs.Said.{IsSaid, bytes_first, IsPart, later, elements_are, array_length, none_long, first_long}
 use Rattle.broker_laws.proofs.TopicsFit.{EntryFits, topics_fit, none_apart}
-use Rattle.broker_laws.proofs.Works.{worked, unmapped, no_error_fits, code_fits}
+use Rattle.broker_laws.proofs.Works.{unmapped, no_error_fits, code_fits}
 use Rattle.broker_laws.proofs.SentBatches.{batch_writable}
 use Rattle.broker_laws.proofs.FittingResponses.{enough, fitting_response, IsKept, frame_limit}
 

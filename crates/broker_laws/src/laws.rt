@@ -1,6 +1,6 @@
 //! Laws about the definitions alone. The functions do nothing: what they ensure is the law.
 
-ghost use Rattle.std.specs.Prelude.{◌≡◌, ◌≢◌, ◌↔◌, ◌-◌, ℕ, ℤ, pos, true, false, List, [], ◌∷◌, ◌++◌, length, Option, Some, None, Ok};
+ghost use Rattle.std.specs.Prelude.{◌≡◌, ◌≢◌, ◌↔◌, ◌⊎◌, ◌-◌, ℕ, ℤ, pos, true, false, List, [], ◌∷◌, ◌++◌, length, Option, Some, None, Ok};
 ghost use Rattle.batch_codec.specs.Values.{BatchValue};
 ghost use Rattle.content.specs.Content.{Content};
 ghost use Rattle.content.specs.declared.verdict.Verdict.TheVariants.{New, Repeat};
@@ -13,16 +13,22 @@ ghost use Rattle.frame_fields.specs.Reading.{read_fields};
 ghost use Rattle.frame_fields.specs.declared.error.FrameError.TheVariants.{BadVersion};
 ghost use Rattle.request_frames.specs.declared.api.Api.TheVariants.{ApiVersions};
 ghost use Rattle.request_frames.specs.Apis.{api_key};
+ghost use Rattle.request_frames.specs.Fetch.{FetchPartitionValue};
 ghost use Rattle.request_frames.specs.Requests.{RequestValue, key_of, correlation_of, IsUnread, unread_request, IsRequest, IsRefused};
 ghost use Rattle.responses.specs.Responses.{response};
 ghost use Rattle.responses.specs.ApiVersions.{api_versions_response, api_versions_value};
 ghost use Rattle.answering.specs.declared.codes.ErrorCode.TheVariants.{UnsupportedVersion};
 ghost use Rattle.answering.specs.Codes.{code_number};
 ghost use Rattle.answering.specs.Plans.{AnswersAll};
+ghost use Rattle.log_requests.specs.Fetch.{FetchRoom, fetch_work};
 ghost use Rattle.setup_requests.specs.ApiVersions.{listed_ranges};
 ghost use Rattle.broker_state.specs.Batches.{append_fault, FaultIs};
 ghost use Rattle.broker_state.specs.State.{ConfigValue, State, new_state, partition_at, is_known, with_content};
+ghost use Rattle.broker_state.specs.declared.config.Role.TheVariants.{Follower};
+ghost use Rattle.broker_state.specs.Producers.{with_id_given};
 ghost use Rattle.broker_state.specs.Sound.{IsSoundConfig, IsSound};
+ghost use Rattle.broker_node.specs.Effects.{TopicPartition, effect, places, is_among};
+ghost use Rattle.broker_node.specs.Effects.Effect.{reads, gives_id, appends};
 ghost use Rattle.broker_node.specs.Replies.{reply, IsReply, MayReply};
 ghost use Rattle.broker_node.specs.Fitting.{IsFitting, FitsReply};
 ghost use Rattle.broker_node.specs.Streams.{IsAnswered, AreAnswered};
@@ -68,6 +74,37 @@ pub fn answered_snoc()
     ensures { (s m after : State) (frames : List (List ℕ))
         (frame out one : List ℕ) → AreAnswered s frames out m → IsAnswered m frame one after
         → AreAnswered s (frames ++ frame ∷ []) (out ++ one) after }
+{}
+
+/// What a request changes, wherever memory lacks: no more than its `effect` says, and nothing in a partition
+/// that isn't among its `places`, of which a fetch shows the same then. The configuration stays, and so do
+/// the partitions that the broker has. A follower appends nothing and gives out no id.
+pub fn a_request_changes_only_its_places()
+    ensures config { (s after : State) (q : RequestValue) (out : Option (List ℕ))
+        → MayReply s q out after → after.config ≡ s.config }
+    ensures known_partitions { (s after : State) (q : RequestValue) (out : Option (List ℕ))
+        (name : List ℕ) (p : ℤ) → MayReply s q out after
+        → is_known after name p ≡ is_known s name p }
+    ensures other_partitions { (s after : State) (q : RequestValue) (out : Option (List ℕ))
+        (name : List ℕ) (p : ℤ) → is_among (places (effect q.body)) name p ≡ false
+        → MayReply s q out after → partition_at after name p ≡ partition_at s name p }
+    ensures other_fetches { (s after : State) (q : RequestValue) (out : Option (List ℕ))
+        (name : List ℕ) (room : FetchRoom) (e : FetchPartitionValue)
+        → is_among (places (effect q.body)) name e.partition ≡ false
+        → MayReply s q out after → fetch_work after room name e ≡ fetch_work s room name e }
+    ensures reading_changes_nothing { (s after : State) (q : RequestValue) (out : Option (List ℕ))
+        → effect q.body ≡ reads → MayReply s q out after → after ≡ s }
+    ensures one_id_is_given { (s after : State) (q : RequestValue) (out : Option (List ℕ))
+        → effect q.body ≡ gives_id → MayReply s q out after
+        → (after ≡ s) ⊎ (after ≡ with_id_given s) }
+    ensures next_producer { (s after : State) (q : RequestValue) (out : Option (List ℕ))
+        → effect q.body ≢ gives_id → MayReply s q out after
+        → after.next_producer ≡ s.next_producer }
+    ensures followers_append_nothing { (s after : State) (q : RequestValue) (out : Option (List ℕ))
+        (ps : List TopicPartition) → s.config.role ≡ Follower → effect q.body ≡ appends ps
+        → MayReply s q out after → after ≡ s }
+    ensures followers_give_no_id { (s after : State) (q : RequestValue) (out : Option (List ℕ))
+        → s.config.role ≡ Follower → effect q.body ≡ gives_id → MayReply s q out after → after ≡ s }
 {}
 
 /// Over any list of requests to a new broker, wherever memory lacks, the producer ids in the responses with

@@ -6,6 +6,6 @@ pub mod examples;
 mod laws;
 
 pub use laws::{
-    answered_snoc, answers_function, any_version_is_answered, append_faults, one_content_changes,
-    producer_ids_are_in_a_row, replies_fit,
+    a_request_changes_only_its_places, answered_snoc, answers_function, any_version_is_answered,
+    append_faults, one_content_changes, producer_ids_are_in_a_row, replies_fit,
 };

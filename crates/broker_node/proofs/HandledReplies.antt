@@ -1,13 +1,11 @@
 -- From what answering a request does to the output, to what handling it does.
-use Rattle.std.proofs.Common.{◌≡◌, ℕ, ℤ, pos, Bool, true, false, cond, List, ◌++◌, Option, Some, None, Result, Ok, Err, refl, sym, ap, subst, ◌∙◌}
-use Rattle.std.specs.Ordering.{int_eq}
+use Rattle.std.proofs.Common.{◌≡◌, ℕ, ℤ, Bool, true, false, cond, List, ◌++◌, Option, Some, None, Result, Ok, Err, refl, sym, ap, subst, ◌∙◌, arith}
 use Rattle.std.specs.Prelude.{OnOk}
 use Rattle.request_frames.specs.declared.parsing.RequestBody.TheVariants as variants
 use Rattle.request_frames.specs.declared.api_versions.ApiVersionsRequest.{ApiVersionsRequest}
 use Rattle.request_frames.specs.declared.metadata.request.MetadataRequest.{MetadataRequest}
 use Rattle.request_frames.specs.declared.parsing.Request.{Request}
 use Rattle.request_frames.specs.declared.parsing.RequestBody.{RequestBody}
-use Rattle.request_frames.specs.Requests.BodyValue.{produce, fetch, list_offsets, metadata, offset_commit, offset_fetch, find_coordinator, api_versions, init_producer_id, deliver, clean, export, export_delta, import, import_delta, get, cover, forget_group, trim}
 use Rattle.request_frames.specs.Requests.{BodyValue, RequestValue}
 use Rattle.request_frames.specs.ApiVersions.{api_versions_view}
 use Rattle.request_frames.specs.Metadata.{metadata_view}
@@ -15,12 +13,16 @@ use Rattle.request_frames.specs.Views.{request_body, request_value}
 use Rattle.answering.specs.Work.{Work, MayAnswer}
 use Rattle.answering.specs.Plans.{Plan, RepliesBy}
 use Rattle.answering.specs.Once.{RepliesOnce, WritesOnce}
+use Rattle.answering.proofs.AnswersOfAll.{in_any_case}
 use Rattle.broker_state.specs.State.{State}
 use Rattle.answering.specs.Responding.{RespondsBy}
 use Rattle.log_requests.specs.Metadata.{metadata_reply}
 use Rattle.setup_requests.specs.ApiVersions.{api_versions_reply}
 use Rattle.broker_node.specs.declared.handling.Answer.{Answer}
 use Rattle.broker_node.specs.declared.handling.Answer.TheVariants.{Reply, Silent}
+use Rattle.broker_node.specs.Ways.Way.{planned, once, fixed}
+use Rattle.broker_node.specs.Ways.{Way, RepliesByWay}
+use Rattle.broker_node.specs.Kinds.{kind}
 use Rattle.broker_node.specs.Replies.{RepliesTo}
 use Rattle.broker_node.specs.Handling.{answer_of, Handles}
 use Rattle.broker_node.specs.Answers.{RespondsTo, answer_to}
@@ -79,30 +81,23 @@ versions_respond (Ok x) s request asked z held held' same is written = record {
 
 -- ---- whether there is a reply
 
-silent : (acks : ℤ) (response : Option (List ℕ)) (whole : List ℕ) (b : Bool) → int_eq acks (pos 0) ≡ b → response ≡ cond b None (Some whole) → cond b Silent Reply ≡ answer_of response
-silent acks response whole true is e = ap answer_of (sym e)
-silent acks response whole false is e = ap answer_of (sym e)
+-- a request is answered so, whatever comes of its entries
+abbrev Tells : {B : Type 0} → Answer → Way B → Type 0
+Tells answer (planned p) = (results : _) → answer ≡ answer_of (p.response results)
+Tells answer (once response w s) = answer ≡ Reply
+Tells answer (fixed response s) = answer ≡ Reply
 
-tells : (s after : State) (n : ℤ) (body : BodyValue) (response : Option (List ℕ)) → RepliesTo (λ R S w. MayAnswer w) s n body response after → answer_to body ≡ answer_of response
-tells s after n (produce q) response r = silent q.acks response _ (int_eq q.acks (pos 0)) refl r.sends
-tells s after n (fetch q) response r = ap answer_of (sym r.sends)
-tells s after n (list_offsets ts) response r = ap answer_of (sym r.sends)
-tells s after n (metadata names) response r = ap answer_of (sym r.0)
-tells s after n (offset_commit q) response r = ap answer_of (sym r.sends)
-tells s after n (offset_fetch q) response r = ap answer_of (sym r.sends)
-tells s after n (find_coordinator group) response r = ap answer_of (sym r.sends)
-tells s after n (api_versions version) response r = ap answer_of (sym r.0)
-tells s after n (init_producer_id id) response r = ap answer_of (sym r.sends)
-tells s after n (deliver q) response r = ap answer_of (sym r.sends)
-tells s after n (clean q) response r = ap answer_of (sym r.sends)
-tells s after n (export q) response r = ap answer_of (sym r.sends)
-tells s after n (export_delta q) response r = ap answer_of (sym r.sends)
-tells s after n (import q) response r = ap answer_of (sym r.sends)
-tells s after n (import_delta q) response r = ap answer_of (sym r.sends)
-tells s after n (get q) response r = ap answer_of (sym r.sends)
-tells s after n (cover q) response r = ap answer_of (sym r.sends)
-tells s after n (forget_group q) response r = ap answer_of (sym r.sends)
-tells s after n (trim q) response r = ap answer_of (sym r.sends)
+way_tells : {B : Type 0} (answer : Answer) (w : Way B) (out : Option (List ℕ)) (after : B) → Tells answer w → RepliesByWay in_any_case w out after → answer ≡ answer_of out
+way_tells answer (planned p) out after is replies = is replies.results ∙ ap answer_of (sym replies.sends)
+way_tells answer (once response w s) out after is replies = is ∙ ap answer_of (sym replies.sends)
+way_tells answer (fixed response s) out after is replies = is ∙ ap answer_of (sym replies.0)
+
+silent_or_not : (silent : Bool) (whole : List ℕ) → cond silent Silent Reply ≡ answer_of (cond silent None (Some whole))
+silent_or_not true whole = refl
+silent_or_not false whole = refl
+
+tells : (s : State) (n : ℤ) (body : BodyValue) → Tells (answer_to body) ((kind body).way s n)
+tells s n body = grind (arith, silent_or_not)
 
 pub handled : (s after : State) (q : RequestValue) (held held' : List ℕ) (answer : Answer) → RespondsTo s q held held' after → answer ≡ answer_to q.body
     → Handles s q held held' answer after
@@ -110,5 +105,5 @@ handled s after q held held' answer r is = record {
   response = r.response;
   replies = r.replies;
   appends = r.appends;
-  tells = is ∙ tells s after q.correlation q.body r.response r.replies;
+  tells = is ∙ way_tells (answer_to q.body) ((kind q.body).way s q.correlation) r.response after (tells s q.correlation q.body) r.replies;
 }

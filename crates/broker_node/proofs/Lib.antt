@@ -1,2 +1,3 @@
 pub mod PlannedReplies
+pub mod KeptStates
 pub mod HandledReplies

@@ -1,4 +1,7 @@
 -- Read in this order; each module uses only those above it.
+pub mod Ways
+pub mod Kinds
+pub mod Effects
 pub mod Replies
 pub mod Fitting
 pub mod Streams

@@ -27,6 +27,7 @@ use Rattle.answering.specs.declared.codes.ErrorCode.{ErrorCode}
 use Rattle.answering.specs.declared.codes.ErrorCode.TheVariants.{UnknownTopicOrPartition}
 use Rattle.answering.specs.Codes.{no_error}
 use Rattle.answering.specs.Lists.{fault_if, first_some}
+use Rattle.answering.specs.Work.{answer}
 use Rattle.broker_state.specs.declared.config.Role.{Role}
 use Rattle.broker_state.specs.declared.config.Role.TheVariants.{Leader, Follower}
 use Rattle.broker_state.specs.State.{State, is_known, content_at, with_content}
@@ -43,7 +44,8 @@ use Rattle.cleaning_laws.proofs.Stated.{state_with}
 use Rattle.cleaning_laws.proofs.GrownLogs.{stay}
 use Rattle.cleaning_laws.proofs.NewBatches.{same_added}
 use Rattle.cleaning_laws.proofs.SentBatches.{no_code, sent_encoding}
-use Rattle.cleaning_laws.proofs.WorksAlike.{same_work}
+use Rattle.cleaning_laws.proofs.TopicsAlike.{Same}
+use Rattle.cleaning_laws.proofs.WorksAlike.{same_by}
 use Rattle.cleaning_laws.proofs.BothAppend.{seen_same, known_same, role_same}
 use Rattle.cleaning_laws.proofs.OnlyRead.{BodyAlike, both_true}
 
@@ -151,15 +153,20 @@ both_take logs s z name p b alike role there = record {
   next_producer = alike.next_producer;
 }
 
-pub deliver_alike : (logs : Logs) (s z : State) (n : ℤ) (q : DeliverValue) → IsBytes q.batch → IsOfLog s.config.role logs q → AreAlike logs s z → BodyAlike logs s z n (deliver q)
-deliver_alike logs s z n q bytes of_log alike =
+-- both answer alike, and both stay of the same logs
+pub deliver_keeps : (logs : Logs) (s z : State) (q : DeliverValue) → IsBytes q.batch → IsOfLog s logs q → AreAlike logs s z → Same (AreAlike logs) (answer (deliver_work s q) s) (answer (deliver_work z q) z)
+deliver_keeps logs s z q bytes of_log alike =
     let known : is_known s q.topic q.partition ≡ is_known z q.topic q.partition = known_same logs s z q.topic q.partition alike in
     let seen : seen_of (content_at s q.topic q.partition) ≡ seen_of (content_at z q.topic q.partition) = seen_same logs s z q.topic q.partition alike in
     let b = batch_of q.batch in
-    let both = same_work logs s z (deliver_work s q) (deliver_work z q) alike (λ i. first_fault q (known i) (alike.config i).role (seen i)) (λ code. refl) (λ none.
+    same_by (AreAlike logs) s z (deliver_work s q) (deliver_work z q) alike (λ i. first_fault q (known i) (alike.config i).role (seen i)) (λ code. refl) (λ none.
     let is = is_delivered s q bytes (none_both (deliver_checks s q) [] none).0 in
-    let there : look_up first_offset (first_offset b) (logs q.topic q.partition) ≡ Some b = subst (λ (r : Role). IsOfLog r logs q) is.role of_log is.encoding is.batch in (
+    let there : look_up first_offset (first_offset b) (logs q.topic q.partition) ≡ Some b = of_log (record { follows = is.role; known = is.known }) is.encoding is.batch in (
       (λ i. record { code = no_error; repeat = has_seen_all (as_content (seen i)) b }),
-      stay logs (with_content s q.topic q.partition (add (content_at s q.topic q.partition) b)) (with_content z q.topic q.partition (add (content_at z q.topic q.partition) b)) (both_take logs s z q.topic q.partition b alike is.role there),
-    )) in
-    record { states = both.1; replies = λ settled. ap (λ r. Some (deliver_sent n r)) both.0 }
+      both_take logs s z q.topic q.partition b alike is.role there,
+    ))
+
+pub deliver_alike : (logs : Logs) (s z : State) (n : ℤ) (q : DeliverValue) → IsBytes q.batch → IsOfLog s logs q → AreAlike logs s z → BodyAlike logs s z n (deliver q)
+deliver_alike logs s z n q bytes of_log alike =
+    let both = deliver_keeps logs s z q bytes of_log alike in
+    record { states = stay logs (answer (deliver_work s q) s).1 (answer (deliver_work z q) z).1 both.1; replies = λ settled. ap (λ r. Some (deliver_sent n r)) both.0 }

@@ -5,7 +5,7 @@ use Rattle.std.proofs.lemmas.List.Concat.{flat_map-cons}
 use Rattle.request_frames.specs.Requests.{RequestValue}
 use Rattle.answering.specs.Lists.{map_accum}
 use Rattle.answering.specs.Responding.{sent}
-use Rattle.broker_state.specs.declared.config.Role.{Role}
+use Rattle.broker_state.specs.declared.config.Role.TheVariants.{Follower}
 use Rattle.broker_state.specs.State.{State}
 use Rattle.broker_node.specs.Replies.{reply, Replies, MayReply}
 use Rattle.broker_node.specs.Streams.{AreAnswered}
@@ -16,7 +16,7 @@ use Rattle.cleaning_laws.specs.Cleans.{compared_replies, without_cleans, AreWith
 use Rattle.cleaning_laws.specs.WithMemory.{AnsweredWithMemory}
 use Rattle.cleaning_laws.specs.AnsweredFrames.{AnsweredFrame, frames_of, requests_of, responses_of, sent_for, AreAnsweredWithMemory, AreFramesWithin, AreAnsweredAlike}
 use Rattle.cleaning_laws.proofs.WithMemory.{full_reply}
-use Rattle.cleaning_laws.proofs.AllAlike.{all_alike}
+use Rattle.cleaning_laws.proofs.AllAlike.{all_alike, followers_alike}
 use Rattle.cleaning_laws.proofs.SaidBytes.{request_within}
 
 -- the responses and the state after are the replies', one after the other
@@ -43,18 +43,35 @@ full_answered s after (a ∷ answered) h = (
   full_answered h.0 after answered h.3,
 )
 
-frames_within : (role : Role) (logs : Logs) (s after : State) (answered : List AnsweredFrame) → AreFramesWithin role logs answered → AreAnsweredWithMemory s answered after → AreWithin role logs (requests_of answered)
-frames_within role logs s after [] within h = tt
-frames_within role logs s after (a ∷ answered) within h =
-    (request_within role logs a.frame a.request within.0.0 h.1 within.0.1, frames_within role logs h.0 after answered within.1 h.3)
+frames_within : (first : State) (logs : Logs) (s after : State) (answered : List AnsweredFrame) → AreFramesWithin first logs answered → AreAnsweredWithMemory s answered after → AreWithin first logs (requests_of answered)
+frames_within first logs s after [] within h = tt
+frames_within first logs s after (a ∷ answered) within h =
+    (request_within first logs a.frame a.request within.0.0 h.1 within.0.1, frames_within first logs h.0 after answered within.1 h.3)
 
-pub frames_alike : (logs : Logs) (s z after after' : State) (answered others : List AnsweredFrame) → AreAlike logs s z → AreFramesWithin s.config.role logs answered
-    → AreAnsweredWithMemory s answered after → AreAnsweredWithMemory z others after' → MayTrimAll s (requests_of answered) → MayTrimAll z (requests_of others) → without_cleans (requests_of answered) ≡ without_cleans (requests_of others) → AreAnsweredAlike logs after after' answered others
-frames_alike logs s z after after' answered others alike within one other may other_may same =
-    let all = all_alike logs s z (requests_of answered) (requests_of others) alike (frames_within s.config.role logs s after answered within one) may other_may same in
-    let first = full_replies s after answered one in
-    let second = full_replies z after' others other in
-    record {
-      states = subst (λ (m : State). StayAlike logs m after') (sym (ap (λ p. p.1) first)) (subst (λ (m : State). StayAlike logs (state_after s (requests_of answered)) m) (sym (ap (λ p. p.1) second)) all.states);
-      replies = ap (λ p. compared_replies (requests_of answered) p.0) first ∙ all.replies ∙ sym (ap (λ p. compared_replies (requests_of others) p.0) second);
-    }
+module _ (logs : Logs) (s z after after' : State) (answered others : List AnsweredFrame) (alike : AreAlike logs s z) (within : AreFramesWithin s logs answered)
+    (one : AreAnsweredWithMemory s answered after) (other : AreAnsweredWithMemory z others after')
+    (may : MayTrimAll s (requests_of answered)) (other_may : MayTrimAll z (requests_of others)) (same : without_cleans (requests_of answered) ≡ without_cleans (requests_of others)) where
+  first : (responses_of answered, after) ≡ map_accum reply s (requests_of answered)
+  first = full_replies s after answered one
+
+  second : (responses_of others, after') ≡ map_accum reply z (requests_of others)
+  second = full_replies z after' others other
+
+  are_within : AreWithin s logs (requests_of answered)
+  are_within = frames_within s logs s after answered within one
+
+  -- what holds of the states that the requests lead to holds of those that the frames did
+  of_after : (A : State → State → Type 0) → A (state_after s (requests_of answered)) (state_after z (requests_of others)) → A after after'
+  of_after A holds = subst (λ (m : State). A m after') (sym (ap (λ p. p.1) first)) (subst (A (state_after s (requests_of answered))) (sym (ap (λ p. p.1) second)) holds)
+
+  pub frames_alike : AreAnsweredAlike logs after after' answered others
+  frames_alike =
+      let all = all_alike logs s z (requests_of answered) (requests_of others) alike are_within may other_may same in
+      record {
+        states = of_after (StayAlike logs) all.states;
+        replies = ap (λ p. compared_replies (requests_of answered) p.0) first ∙ all.replies ∙ sym (ap (λ p. compared_replies (requests_of others) p.0) second);
+      }
+
+  pub follower_frames_alike : s.config.role ≡ Follower → AreAlike logs after after'
+  follower_frames_alike follows =
+      of_after (AreAlike logs) (followers_alike logs s z (requests_of answered) (requests_of others) alike follows are_within may other_may same)

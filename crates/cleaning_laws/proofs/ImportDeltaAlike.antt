@@ -27,6 +27,7 @@ use Rattle.request_frames.specs.ImportDelta.{ImportDeltaValue}
 use Rattle.answering.specs.declared.codes.ErrorCode.{ErrorCode}
 use Rattle.answering.specs.declared.codes.ErrorCode.TheVariants.{UnknownTopicOrPartition, CorruptMessage, InvalidRequest}
 use Rattle.answering.specs.Lists.{fault_if, first_some}
+use Rattle.answering.specs.Work.{answer}
 use Rattle.broker_state.specs.declared.config.Role.{Role}
 use Rattle.broker_state.specs.declared.config.Role.TheVariants.{Leader, Follower}
 use Rattle.broker_state.specs.State.{State, is_known, content_at, with_content}
@@ -39,7 +40,8 @@ use Rattle.cleaning_laws.specs.Settled.{IsFromCopy, IsDeltaOfLog}
 use Rattle.cleaning_laws.proofs.Seen.{both_with}
 use Rattle.cleaning_laws.proofs.Stated.{state_with}
 use Rattle.cleaning_laws.proofs.GrownLogs.{stay}
-use Rattle.cleaning_laws.proofs.WorksAlike.{same_work}
+use Rattle.cleaning_laws.proofs.TopicsAlike.{Same}
+use Rattle.cleaning_laws.proofs.WorksAlike.{same_by}
 use Rattle.cleaning_laws.proofs.BothAppend.{seen_same, known_same, role_same}
 use Rattle.cleaning_laws.proofs.OnlyRead.{BodyAlike}
 
@@ -150,7 +152,7 @@ module _ (logs : Logs) (q : ImportDeltaValue) (bytes : IsBytes q.delta) where
   patched : (s : State) → s.config.role ≡ Follower → Comes log given → HasPlace s → IsPartitionOf s.config.role (patch (at_partition s) given) log
   patched s role came place = subst (λ (r : Role). IsPartitionOf r (patch (at_partition s) given) log) (sym role) (patched_partition (at_partition s) log given place.partition came place.knows)
 
-  module _ (s z : State) (alike : AreAlike logs s z) (of_log : IsDeltaOfLog s.config.role logs q) where
+  module _ (s z : State) (alike : AreAlike logs s z) (of_log : IsDeltaOfLog s logs q) where
     known : is_known s q.topic q.partition ≡ is_known z q.topic q.partition
     known = known_same logs s z q.topic q.partition alike
 
@@ -163,8 +165,8 @@ module _ (logs : Logs) (q : ImportDeltaValue) (bytes : IsBytes q.delta) where
     other_role : s.config.role ≡ Follower → z.config.role ≡ Follower
     other_role role = sym (role_same logs s z q.topic q.partition alike) ∙ role
 
-    came : s.config.role ≡ Follower → is_none (delta_at q.delta) ≡ false → Comes log given
-    came role there = comes log q.delta bytes (subst (λ (r : Role). IsDeltaOfLog r logs q) role of_log) there
+    came : is_known s q.topic q.partition ≡ true → s.config.role ≡ Follower → is_none (delta_at q.delta) ≡ false → Comes log given
+    came there role is_delta = comes log q.delta bytes (of_log (record { follows = role; known = there })) is_delta
 
     one_place : is_known s q.topic q.partition ≡ true → s.config.role ≡ Follower → is_for (at_partition s) given.asked ≡ true → HasPlace s
     one_place there role is = has_place s role (alike.one q.topic q.partition) there is
@@ -177,7 +179,7 @@ module _ (logs : Logs) (q : ImportDeltaValue) (bytes : IsBytes q.delta) where
     both_accept there role is_delta is =
         let one = one_place there role is in
         let other = other_place there role is in
-        takes (at_partition s) log given one.partition (came role is_delta) one.knows ∙ sym (takes (at_partition z) log given other.partition (came role is_delta) other.knows)
+        takes (at_partition s) log given one.partition (came there role is_delta) one.knows ∙ sym (takes (at_partition z) log given other.partition (came there role is_delta) other.knows)
 
     faults : fault_of (is_known s q.topic q.partition) s.config.role (is_none (delta_at q.delta)) (is_for (at_partition s) given.asked) (accepts (at_partition s) given)
         ≡ fault_of (is_known z q.topic q.partition) z.config.role (is_none (delta_at q.delta)) (is_for (at_partition z) given.asked) (accepts (at_partition z) given)
@@ -188,7 +190,7 @@ module _ (logs : Logs) (q : ImportDeltaValue) (bytes : IsBytes q.delta) where
     both_patch : Passes (is_known s q.topic q.partition) s.config.role (is_none (delta_at q.delta)) (is_for (at_partition s) given.asked)
         → AreAlike logs (with_content s q.topic q.partition (patch (at_partition s) given)) (with_content z q.topic q.partition (patch (at_partition z) given))
     both_patch pass =
-        let d = came pass.follows pass.is_delta in record {
+        let d = came pass.there pass.follows pass.is_delta in record {
           one = state_with logs logs s q.topic q.partition (patch (at_partition s) given) alike.one (λ n q e. refl) (λ n q e. refl) (λ there. patched s pass.follows d (one_place there pass.follows pass.knows));
           other = state_with logs logs z q.topic q.partition (patch (at_partition z) given) alike.other (λ n q e. refl) (λ n q e. refl) (λ there. patched z (other_role pass.follows) d (other_place pass.there pass.follows pass.knows));
           config = alike.config;
@@ -196,11 +198,15 @@ module _ (logs : Logs) (q : ImportDeltaValue) (bytes : IsBytes q.delta) where
           next_producer = alike.next_producer;
         }
 
-pub import_delta_alike : (logs : Logs) (s z : State) (n : ℤ) (q : ImportDeltaValue) → IsBytes q.delta → IsDeltaOfLog s.config.role logs q → AreAlike logs s z → BodyAlike logs s z n (import_delta q)
-import_delta_alike logs s z n q bytes of_log alike =
-    let both = same_work logs s z (import_delta_work s q) (import_delta_work z q) alike (faults logs q bytes s z alike of_log) (λ code. refl) (λ none. (
+-- both answer alike, and both stay of the same logs
+pub import_delta_keeps : (logs : Logs) (s z : State) (q : ImportDeltaValue) → IsBytes q.delta → IsDeltaOfLog s logs q → AreAlike logs s z → Same (AreAlike logs) (answer (import_delta_work s q) s) (answer (import_delta_work z q) z)
+import_delta_keeps logs s z q bytes of_log alike =
+    same_by (AreAlike logs) s z (import_delta_work s q) (import_delta_work z q) alike (faults logs q bytes s z alike of_log) (λ code. refl) (λ none. (
       refl,
-      stay logs (with_content s q.topic q.partition (patch (content_at s q.topic q.partition) (given_delta q.delta))) (with_content z q.topic q.partition (patch (content_at z q.topic q.partition) (given_delta q.delta)))
-          (both_patch logs q bytes s z alike of_log (passes (is_known s q.topic q.partition) s.config.role (is_none (delta_at q.delta)) (is_for (content_at s q.topic q.partition) (given_delta q.delta).asked) (accepts (content_at s q.topic q.partition) (given_delta q.delta)) none)),
-    )) in
-    record { states = both.1; replies = λ settled. ap (λ r. Some (import_sent n r)) both.0 }
+      both_patch logs q bytes s z alike of_log (passes (is_known s q.topic q.partition) s.config.role (is_none (delta_at q.delta)) (is_for (content_at s q.topic q.partition) (given_delta q.delta).asked) (accepts (content_at s q.topic q.partition) (given_delta q.delta)) none),
+    ))
+
+pub import_delta_alike : (logs : Logs) (s z : State) (n : ℤ) (q : ImportDeltaValue) → IsBytes q.delta → IsDeltaOfLog s logs q → AreAlike logs s z → BodyAlike logs s z n (import_delta q)
+import_delta_alike logs s z n q bytes of_log alike =
+    let both = import_delta_keeps logs s z q bytes of_log alike in
+    record { states = stay logs (answer (import_delta_work s q) s).1 (answer (import_delta_work z q) z).1 both.1; replies = λ settled. ap (λ r. Some (import_sent n r)) both.0 }

@@ -1,4 +1,5 @@
 -- Read in this order; each module uses only those above it.
+pub mod Asked
 pub mod Seen
 pub mod Stated
 pub mod TopicsAlike
@@ -23,6 +24,7 @@ pub mod DeliverAlike
 pub mod ImportDeltaAlike
 pub mod TrimAlike
 pub mod RepliesAlike
+pub mod FollowersAlike
 pub mod LongerLogs
 pub mod ConfigStays
 pub mod LeftOut

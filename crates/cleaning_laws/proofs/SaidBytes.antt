@@ -16,7 +16,7 @@ use Rattle.request_frames.specs.Produce.{produce_partition, produce_partition_va
 use Rattle.request_frames.specs.OffsetCommit.{offset_commit_partition, offset_commit_partition_value, offset_commit_fields, offset_commit_request}
 use Rattle.group_offsets.specs.Keys.{IsName}
 use Rattle.group_offsets.proofs.KeyEncodings.{metadata_from}
-use Rattle.broker_state.specs.declared.config.Role.{Role}
+use Rattle.broker_state.specs.State.{State}
 use Rattle.cleaning_laws.specs.Logs.{Logs}
 use Rattle.cleaning_laws.specs.Settled.{EachEntry, CommitFits, IsFromLogs, IsWithin}
 
@@ -99,35 +99,35 @@ commit_within v fits =
     t.1.0 said.1.0.1)
     v.1.1.1.1.0 fits.1.1.1.1.0.1
 
-said_within : (role : Role) (logs : Logs) (api : Api) (v : Value (fields_of api)) → Fits (fields_of api) v → HasBytes (fields_of api) v → IsFromLogs role logs (body_value api v) → IsWithin role logs (body_value api v)
-said_within role logs Produce v fits all from = (produce_within v all, from)
-said_within role logs Fetch v fits all from = (tt, from)
-said_within role logs ListOffsets v fits all from = (tt, from)
-said_within role logs Metadata v fits all from = (tt, from)
-said_within role logs OffsetCommit v fits all from = (commit_within v fits, from)
-said_within role logs OffsetFetch v fits all from = (tt, from)
-said_within role logs FindCoordinator v fits all from = (tt, from)
-said_within role logs ApiVersions v fits all from = (tt, from)
-said_within role logs InitProducerId v fits all from = (tt, from)
-said_within role logs Deliver v fits all from = (all.1.1.0, from)
-said_within role logs Clean v fits all from = (tt, from)
-said_within role logs Export v fits all from = (tt, from)
-said_within role logs ExportDelta v fits all from = (tt, from)
-said_within role logs Import v fits all from = (tt, from)
-said_within role logs ImportDelta v fits all from = (all.1.1.0, from)
-said_within role logs Get v fits all from = (tt, from)
-said_within role logs Cover v fits all from = (tt, from)
-said_within role logs ForgetGroup v fits all from = (tt, from)
-said_within role logs Trim v fits all from = (tt, from)
+said_within : (s : State) (logs : Logs) (api : Api) (v : Value (fields_of api)) → Fits (fields_of api) v → HasBytes (fields_of api) v → IsFromLogs s logs (body_value api v) → IsWithin s logs (body_value api v)
+said_within s logs Produce v fits all from = (produce_within v all, from)
+said_within s logs Fetch v fits all from = (tt, from)
+said_within s logs ListOffsets v fits all from = (tt, from)
+said_within s logs Metadata v fits all from = (tt, from)
+said_within s logs OffsetCommit v fits all from = (commit_within v fits, from)
+said_within s logs OffsetFetch v fits all from = (tt, from)
+said_within s logs FindCoordinator v fits all from = (tt, from)
+said_within s logs ApiVersions v fits all from = (tt, from)
+said_within s logs InitProducerId v fits all from = (tt, from)
+said_within s logs Deliver v fits all from = (all.1.1.0, from)
+said_within s logs Clean v fits all from = (tt, from)
+said_within s logs Export v fits all from = (tt, from)
+said_within s logs ExportDelta v fits all from = (tt, from)
+said_within s logs Import v fits all from = (tt, from)
+said_within s logs ImportDelta v fits all from = (all.1.1.0, from)
+said_within s logs Get v fits all from = (tt, from)
+said_within s logs Cover v fits all from = (tt, from)
+said_within s logs ForgetGroup v fits all from = (tt, from)
+said_within s logs Trim v fits all from = (tt, from)
 
 later_fits : (f : Field) (d : Fields) (v : Value (one f d)) → Fits (one f d) v → Fits d v.1
 unfolding Fits
 later_fits f d v fits = fits.1
 
-pub request_within : (role : Role) (logs : Logs) (frame : List ℕ) (q : RequestValue) → IsBytes frame → IsRequest frame q → IsFromLogs role logs q.body → IsWithin role logs q.body
-request_within role logs frame q bytes (inr (asks, says)) from = subst (λ (x : RequestValue). IsWithin role logs x.body) (sym says) (tt, tt)
-request_within role logs frame q bytes (inl (api, is, v, encodes, says)) from =
+pub request_within : (s : State) (logs : Logs) (frame : List ℕ) (q : RequestValue) → IsBytes frame → IsRequest frame q → IsFromLogs s logs q.body → IsWithin s logs q.body
+request_within s logs frame q bytes (inr (asks, says)) from = subst (λ (x : RequestValue). IsWithin s logs x.body) (sym says) (tt, tt)
+request_within s logs frame q bytes (inl (api, is, v, encodes, says)) from =
     let whole : drop 8 frame ≡ encoded (body_fields api) v = encodes.parts ∙ append-nil (encoded (body_fields api) v) in
     let all : HasBytes (body_fields api) v = has_bytes (body_fields api) v (subst IsBytes whole (IsBytes-drop 8 frame bytes)) in
-    subst (λ (x : RequestValue). IsWithin role logs x.body) (sym says)
-    (said_within role logs api v.1 (later_fits nullable_string (fields_of api) v encodes.fits) all.1 (subst (λ (x : RequestValue). IsFromLogs role logs x.body) says from))
+    subst (λ (x : RequestValue). IsWithin s logs x.body) (sym says)
+    (said_within s logs api v.1 (later_fits nullable_string (fields_of api) v encodes.fits) all.1 (subst (λ (x : RequestValue). IsFromLogs s logs x.body) says from))

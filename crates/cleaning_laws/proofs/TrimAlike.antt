@@ -14,6 +14,7 @@ use Rattle.request_frames.specs.Trim.{TrimValue}
 use Rattle.answering.specs.declared.codes.ErrorCode.{ErrorCode}
 use Rattle.answering.specs.declared.codes.ErrorCode.TheVariants.{UnknownTopicOrPartition, OffsetOutOfRange, InvalidRequest}
 use Rattle.answering.specs.Lists.{fault_if, first_some}
+use Rattle.answering.specs.Work.{answer}
 use Rattle.broker_state.specs.declared.config.Role.{Role}
 use Rattle.broker_state.specs.declared.config.Role.TheVariants.{Leader, Follower}
 use Rattle.broker_state.specs.State.{State, is_known, content_at, with_content}
@@ -27,7 +28,8 @@ use Rattle.cleaning_laws.specs.Settled.{MayTrim}
 use Rattle.cleaning_laws.proofs.Seen.{both_with, seen_made, same_start, same_cover, same_end}
 use Rattle.cleaning_laws.proofs.Stated.{state_with}
 use Rattle.cleaning_laws.proofs.GrownLogs.{stay}
-use Rattle.cleaning_laws.proofs.WorksAlike.{same_work}
+use Rattle.cleaning_laws.proofs.TopicsAlike.{Same}
+use Rattle.cleaning_laws.proofs.WorksAlike.{same_by}
 use Rattle.cleaning_laws.proofs.BothAppend.{seen_same, known_same}
 use Rattle.cleaning_laws.proofs.OnlyRead.{BodyAlike}
 
@@ -85,16 +87,19 @@ both_cut logs s z name p start alike one other =
       next_producer = alike.next_producer;
     }
 
-pub trim_alike : (logs : Logs) (s z : State) (n : ℤ) (q : TrimValue) → MayTrim s (trim q) → MayTrim z (trim q) → AreAlike logs s z → BodyAlike logs s z n (trim q)
-trim_alike logs s z n q may other_may alike =
+-- both answer alike, and both stay of the same logs
+pub trim_keeps : (logs : Logs) (s z : State) (q : TrimValue) → MayTrim s (trim q) → MayTrim z (trim q) → AreAlike logs s z → Same (AreAlike logs) (answer (trim_work s q) s) (answer (trim_work z q) z)
+trim_keeps logs s z q may other_may alike =
     let c = content_at s q.topic q.partition in
     let d = content_at z q.topic q.partition in
     let known : is_known s q.topic q.partition ≡ is_known z q.topic q.partition = known_same logs s z q.topic q.partition alike in
     let outside : is_outside c q.start ≡ is_outside d q.start = same_outside c d q.start (seen_same logs s z q.topic q.partition alike) in
     let faults : fault_of (is_known s q.topic q.partition) (is_outside c q.start) (is_boundary c q.start) ≡ fault_of (is_known z q.topic q.partition) (is_outside d q.start) (is_boundary d q.start) =
     same_fault (is_known s q.topic q.partition) (is_outside c q.start) (is_boundary c q.start) (is_boundary d q.start) may (λ e. other_may (sym outside ∙ e)) ∙ (λ i. fault_of (known i) (outside i) (is_boundary d q.start)) in
-    let both = same_work logs s z (trim_work s q) (trim_work z q) alike faults (λ code. refl) (λ none. (
-      refl,
-      stay logs (with_content s q.topic q.partition (cut q.start c)) (with_content z q.topic q.partition (cut q.start d)) (both_cut logs s z q.topic q.partition q.start alike (accepted_in s q none) (accepted_in z q (sym faults ∙ none))),
-    )) in
-    record { states = both.1; replies = λ settled. ap (λ r. Some (trim_sent n r)) both.0 }
+    same_by (AreAlike logs) s z (trim_work s q) (trim_work z q) alike faults (λ code. refl)
+    (λ none. (refl, both_cut logs s z q.topic q.partition q.start alike (accepted_in s q none) (accepted_in z q (sym faults ∙ none))))
+
+pub trim_alike : (logs : Logs) (s z : State) (n : ℤ) (q : TrimValue) → MayTrim s (trim q) → MayTrim z (trim q) → AreAlike logs s z → BodyAlike logs s z n (trim q)
+trim_alike logs s z n q may other_may alike =
+    let both = trim_keeps logs s z q may other_may alike in
+    record { states = stay logs (answer (trim_work s q) s).1 (answer (trim_work z q) z).1 both.1; replies = λ settled. ap (λ r. Some (trim_sent n r)) both.0 }

@@ -12,16 +12,22 @@ use Rattle.cleaning_laws.specs.Settled.{EachEntry}
 use Rattle.cleaning_laws.proofs.TopicsAlike.{Same, topics_same}
 use Rattle.cleaning_laws.proofs.GrownLogs.{stay, stay_on}
 
--- Where the first fault is the same, a fault is answered alike, and without one both do alike, the answers are alike.
+-- Where the first fault is the same, a fault is answered alike, and without one both do alike, the answers are alike. The
+-- states are related in any way.
+pub same_by : {R : Type 0} (A : State → State → Type 0) (s z : State) (w v : Work R State) → A s z → first_some (w.early ++ w.late) ≡ first_some (v.early ++ v.late)
+    → ((code : ErrorCode) → w.failed code ≡ v.failed code) → (first_some (w.early ++ w.late) ≡ None → Same A w.done v.done)
+    → Same A (answer w s) (answer v z)
+same_by A s z w v related faults failed done =
+    subst (λ (o : Option ErrorCode). Same A (answer w s) (answer_after o v z)) faults (by (first_some (w.early ++ w.late)) refl)
+  where
+    by : (o : Option ErrorCode) → first_some (w.early ++ w.late) ≡ o → Same A (answer_after o w s) (answer_after o v z)
+    by None e = done e
+    by (Some code) e = (failed code, related)
+
 pub same_work : {R : Type 0} (logs : Logs) (s z : State) (w v : Work R State) → AreAlike logs s z → first_some (w.early ++ w.late) ≡ first_some (v.early ++ v.late)
     → ((code : ErrorCode) → w.failed code ≡ v.failed code) → (first_some (w.early ++ w.late) ≡ None → Same (StayAlike logs) w.done v.done)
     → Same (StayAlike logs) (answer w s) (answer v z)
-same_work logs s z w v alike faults failed done =
-    subst (λ (o : Option ErrorCode). Same (StayAlike logs) (answer w s) (answer_after o v z)) faults (by (first_some (w.early ++ w.late)) refl)
-  where
-    by : (o : Option ErrorCode) → first_some (w.early ++ w.late) ≡ o → Same (StayAlike logs) (answer_after o w s) (answer_after o v z)
-    by None e = done e
-    by (Some code) e = (failed code, stay logs s z alike)
+same_work logs s z w v alike = same_by (StayAlike logs) s z w v (stay logs s z alike)
 
 -- so all entries are answered alike, where each is in states that are alike
 module _ {E R : Type 0} (work : State → List ℕ → E → Work R State) (P : List ℕ → E → Type 0) where

@@ -5,7 +5,6 @@ use Rattle.std.specs.List.{flat_map, AllByRecursion}
 use Rattle.frame_fields.specs.Frames.{IsBytes}
 use Rattle.request_frames.specs.Requests.{RequestValue, IsRequest}
 use Rattle.answering.specs.Responding.{sent}
-use Rattle.broker_state.specs.declared.config.Role.{Role}
 use Rattle.broker_state.specs.State.{State}
 use Rattle.broker_node.specs.Replies.{Replies}
 use Rattle.cleaning_laws.specs.Logs.{Logs}
@@ -40,10 +39,10 @@ AreAnsweredWithMemory s (a ∷ answered) after =
     (m : State) × IsRequest a.frame a.request × Replies AnsweredWithMemory s a.request a.response m
     × AreAnsweredWithMemory m answered after
 
--- the frames are of bytes, and their requests are within the logs
-abbrev pub AreFramesWithin : Role → Logs → List AnsweredFrame → Type 0
-AreFramesWithin role logs answered =
-    AllByRecursion (λ a. IsBytes a.frame × IsFromLogs role logs a.request.body) answered
+-- the frames are of bytes, and their requests are within the logs, to a broker that was in this state at first
+abbrev pub AreFramesWithin : State → Logs → List AnsweredFrame → Type 0
+AreFramesWithin s logs answered =
+    AllByRecursion (λ a. IsBytes a.frame × IsFromLogs s logs a.request.body) answered
 
 -- two brokers answered two lists of frames alike
 pub record AreAnsweredAlike (logs : Logs) (after after' : State) (answered others : List AnsweredFrame) : Type 0 where

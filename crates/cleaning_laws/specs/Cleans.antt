@@ -4,7 +4,6 @@ use Rattle.std.specs.List.{filter, AllByRecursion}
 use Rattle.request_frames.specs.Requests.BodyValue.{clean}
 use Rattle.request_frames.specs.Requests.{BodyValue, RequestValue}
 use Rattle.answering.specs.Lists.{map_accum}
-use Rattle.broker_state.specs.declared.config.Role.{Role}
 use Rattle.broker_state.specs.State.{State}
 use Rattle.broker_node.specs.Replies.{reply}
 use Rattle.cleaning_laws.specs.Logs.{Logs}
@@ -33,9 +32,9 @@ results_where test (x ∷ xs) [] = []
 abbrev pub compared_replies : List RequestValue → List (Option (List ℕ)) → List (Option (List ℕ))
 compared_replies qs outs = results_where (λ q. is_settled q.body) qs outs
 
--- requests within the logs
-abbrev pub AreWithin : Role → Logs → List RequestValue → Type 0
-AreWithin role logs qs = AllByRecursion (λ q. IsWithin role logs q.body) qs
+-- requests within the logs, to a broker that was in this state at first
+abbrev pub AreWithin : State → Logs → List RequestValue → Type 0
+AreWithin s logs qs = AllByRecursion (λ q. IsWithin s logs q.body) qs
 
 -- ---- replies to a list of requests, each in the state that the one before it leaves
 

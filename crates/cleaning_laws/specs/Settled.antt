@@ -1,6 +1,6 @@
 -- Which requests are within the logs, and which replies no cleaning changes. Kafka's documentation, "Protocol Guide",
 -- section "The Messages".
-use Rattle.std.specs.Prelude.{◌≡◌, ℕ, pos, Bool, true, false, ⊤, int_lt, List, Some}
+use Rattle.std.specs.Prelude.{◌≡◌, ℕ, ℤ, pos, Bool, true, false, ⊤, int_lt, List, Some}
 use Rattle.std.specs.List.{AllByRecursion, list_all}
 use Rattle.frame_fields.specs.Frames.{IsBytes}
 use Rattle.frame_fields.specs.Types.{TopicOf}
@@ -21,9 +21,8 @@ use Rattle.request_frames.specs.Deliver.{DeliverValue}
 use Rattle.request_frames.specs.ImportDelta.{ImportDeltaValue}
 use Rattle.group_offsets.specs.Keys.{GroupKeyFits}
 use Rattle.group_offsets.specs.CommittedValues.{CommittedFits}
-use Rattle.broker_state.specs.declared.config.Role.{Role}
-use Rattle.broker_state.specs.declared.config.Role.TheVariants.{Leader, Follower}
-use Rattle.broker_state.specs.State.{State, content_at}
+use Rattle.broker_state.specs.declared.config.Role.TheVariants.{Follower}
+use Rattle.broker_state.specs.State.{State, is_known, content_at}
 use Rattle.copy_requests.specs.Trim.{is_outside, is_boundary}
 use Rattle.broker_node.specs.Replies.{reply}
 use Rattle.cleaning_laws.specs.Logs.{Logs}
@@ -35,12 +34,17 @@ use Rattle.cleaning_laws.specs.Alike.{StayAlike}
 abbrev pub EachEntry : {E : Type 0} → (List ℕ → E → Type 0) → List (TopicOf E) → Type 0
 EachEntry P ts = AllByRecursion (λ t. AllByRecursion (P t.name) t.entries) ts
 
--- a log batch that is delivered to a follower, as bytes that are its encoding, is the log's
-abbrev pub IsOfLog : Role → Logs → DeliverValue → Type 0
-IsOfLog Leader logs q = ⊤
-IsOfLog Follower logs q =
+-- the broker follows, and has this partition: of any other it takes nothing
+pub record FollowsAt (s : State) (name : List ℕ) (p : ℤ) : Type 0 where
+  pub follows : s.config.role ≡ Follower
+  pub known : is_known s name p ≡ true
+
+-- a log batch that is delivered to a follower's partition, as bytes that are its encoding, is the log's
+abbrev pub IsOfLog : State → Logs → DeliverValue → Type 0
+IsOfLog s logs q =
     let b = batch_of q.batch in
-    IsEncoding q.batch → IsLogBatch b → look_up first_offset (first_offset b) (logs q.topic q.partition) ≡ Some b
+    FollowsAt s q.topic q.partition → IsEncoding q.batch → IsLogBatch b
+    → look_up first_offset (first_offset b) (logs q.topic q.partition) ≡ Some b
 
 -- It is the delta of a copy of the log, for whatever was asked. Only a plain log is one that copies are of.
 pub record IsFromCopy (log : List BatchValue) (e : Delta) : Type 0 where
@@ -49,10 +53,11 @@ pub record IsFromCopy (log : List BatchValue) (e : Delta) : Type 0 where
   pub copy : IsPlainLog log → IsCopy sender log
   pub delta : e ≡ delta_of sender e.asked
 
--- a delta that comes to a follower, as bytes, is that of a copy of the log
-abbrev pub IsDeltaOfLog : Role → Logs → ImportDeltaValue → Type 0
-IsDeltaOfLog Leader logs q = ⊤
-IsDeltaOfLog Follower logs q = (e : Delta) → delta_at q.delta ≡ Some e → IsFromCopy (logs q.topic q.partition) e
+-- a delta that comes to a follower's partition, as bytes, is that of a copy of the log
+abbrev pub IsDeltaOfLog : State → Logs → ImportDeltaValue → Type 0
+IsDeltaOfLog s logs q =
+    FollowsAt s q.topic q.partition → (e : Delta) → delta_at q.delta ≡ Some e
+    → IsFromCopy (logs q.topic q.partition) e
 
 -- a STRING holds each name of a commit and its metadata, and its numbers are of their types
 abbrev pub CommitFits : (group name : List ℕ) → OffsetCommitPartitionValue → Type 0
@@ -68,15 +73,16 @@ HoldsFields (deliver q) = IsBytes q.batch
 HoldsFields (import_delta q) = IsBytes q.delta
 HoldsFields _ = ⊤
 
--- what a request brings is of the logs
-abbrev pub IsFromLogs : Role → Logs → BodyValue → Type 0
-IsFromLogs role logs (deliver q) = IsOfLog role logs q
-IsFromLogs role logs (import q) = ⊥
-IsFromLogs role logs (import_delta q) = IsDeltaOfLog role logs q
-IsFromLogs role logs _ = ⊤
+-- What a request brings to a broker is of the logs. Of the broker's state only its role and which partitions it has are read,
+-- and these stay. An image is only within the logs where it is refused, since the broker hasn't got its partition.
+abbrev pub IsFromLogs : State → Logs → BodyValue → Type 0
+IsFromLogs s logs (deliver q) = IsOfLog s logs q
+IsFromLogs s logs (import q) = is_known s q.topic q.partition ≡ false
+IsFromLogs s logs (import_delta q) = IsDeltaOfLog s logs q
+IsFromLogs s logs _ = ⊤
 
-abbrev pub IsWithin : Role → Logs → BodyValue → Type 0
-IsWithin role logs body = HoldsFields body × IsFromLogs role logs body
+abbrev pub IsWithin : State → Logs → BodyValue → Type 0
+IsWithin s logs body = HoldsFields body × IsFromLogs s logs body
 
 -- A Trim within a copy's offsets is to where the copy may start. Whether it is depends on which batches are kept.
 abbrev pub MayTrim : State → BodyValue → Type 0

@@ -16,7 +16,7 @@ ghost use Rattle.broker_node.specs.Streams.{AreAnswered};
 ghost use Rattle.cleaning_laws.specs.Logs.{Logs, no_logs, IsLegalFromSome, IsStateOf};
 ghost use Rattle.cleaning_laws.specs.Alike.{seen_topics, AreAlike};
 ghost use Rattle.cleaning_laws.specs.Settled.{IsWithin, MayTrim, AnswerAlike};
-ghost use Rattle.cleaning_laws.specs.Cleans.{is_no_clean, without_cleans, AreWithin, MayTrimAll, AnswerAllAlike};
+ghost use Rattle.cleaning_laws.specs.Cleans.{is_no_clean, without_cleans, AreWithin, MayTrimAll, state_after, AnswerAllAlike};
 ghost use Rattle.cleaning_laws.specs.WithMemory.{AnsweredWithMemory};
 ghost use Rattle.cleaning_laws.specs.AnsweredFrames.{AnsweredFrame, frames_of, requests_of, responses_of, sent_for, AreAnsweredWithMemory, AreFramesWithin, AreAnsweredAlike};
 
@@ -45,31 +45,42 @@ pub fn cleaning_keeps_the_logs()
 /// Two brokers that differ only in what they keep of the same logs answer each request within the logs,
 /// but for a Clean, alike, where a Trim is to an offset at which both may start: the states after are again
 /// two such, of logs that may have grown, and the replies are the same, but for those that are read of which
-/// records are kept. No request changes the configuration.
+/// records are kept. On followers the logs stay as they are. No request changes the configuration.
 pub fn brokers_of_the_same_logs_answer_alike()
     ensures alike { (logs : Logs) (s z : State) (q : RequestValue) → AreAlike logs s z
-        → IsWithin s.config.role logs q.body → MayTrim s q.body → MayTrim z q.body
+        → IsWithin s logs q.body → MayTrim s q.body → MayTrim z q.body
         → is_no_clean q ≡ true → AnswerAlike logs s z q }
+    ensures followers_keep_the_logs { (logs : Logs) (s z : State) (q : RequestValue)
+        → AreAlike logs s z → s.config.role ≡ Follower
+        → IsWithin s logs q.body → MayTrim s q.body → MayTrim z q.body
+        → is_no_clean q ≡ true → AreAlike logs (reply s q).1 (reply z q).1 }
     ensures config { (s : State) (q : RequestValue) → (reply s q).1.config ≡ s.config }
 {}
 
 /// Two brokers that are alike, as two new ones are, get two lists of requests within the logs, which are
 /// the same once their Cleans are left out, and of which each Trim is to an offset at which its copy may
 /// start then. Then each other request gets the same reply from both, but for
-/// those that are read of which records are kept, and the brokers after are again alike. So cleaning changes
-/// no such reply, whenever and with whatever bounds it is done.
+/// those that are read of which records are kept, and the brokers after are again alike; followers stay alike
+/// of the same logs. So cleaning changes no such reply, whenever and with whatever bounds it is done.
 pub fn cleaning_changes_no_reply()
     ensures alike { (logs : Logs) (s z : State) (qs ps : List RequestValue) → AreAlike logs s z
-        → AreWithin s.config.role logs qs → MayTrimAll s qs → MayTrimAll z ps
+        → AreWithin s logs qs → MayTrimAll s qs → MayTrimAll z ps
         → without_cleans qs ≡ without_cleans ps → AnswerAllAlike logs s z qs ps }
-    ensures from_the_start { (g : ConfigValue) (qs ps : List RequestValue) → AreWithin g.role no_logs qs
+    ensures followers_keep_the_logs { (logs : Logs) (s z : State) (qs ps : List RequestValue)
+        → AreAlike logs s z → s.config.role ≡ Follower
+        → AreWithin s logs qs → MayTrimAll s qs → MayTrimAll z ps
+        → without_cleans qs ≡ without_cleans ps
+        → AreAlike logs (state_after s qs) (state_after z ps) }
+    ensures from_the_start { (g : ConfigValue) (qs ps : List RequestValue)
+        → AreWithin (new_state g) no_logs qs
         → MayTrimAll (new_state g) qs → MayTrimAll (new_state g) ps
         → without_cleans qs ≡ without_cleans ps
         → AnswerAllAlike no_logs (new_state g) (new_state g) qs ps }
     ensures follower_from_the_start { (g : ConfigValue) (logs : Logs) (qs ps : List RequestValue)
         → g.role ≡ Follower
         → ((name : List ℕ) (p : ℤ) → IsPlainLog (logs name p) × IsLegalFromSome (logs name p))
-        → AreWithin g.role logs qs → MayTrimAll (new_state g) qs → MayTrimAll (new_state g) ps
+        → AreWithin (new_state g) logs qs
+        → MayTrimAll (new_state g) qs → MayTrimAll (new_state g) ps
         → without_cleans qs ≡ without_cleans ps
         → AnswerAllAlike logs (new_state g) (new_state g) qs ps }
 {}
@@ -77,12 +88,19 @@ pub fn cleaning_changes_no_reply()
 /// The same over frames that came in and what went out for them, where no entry's result is a lack of
 /// memory.
 pub fn cleaning_changes_no_answer()
-    ensures { (logs : Logs) (s z after after' : State) (answered others : List AnsweredFrame)
-        → AreAlike logs s z → AreFramesWithin s.config.role logs answered
+    ensures alike { (logs : Logs) (s z after after' : State) (answered others : List AnsweredFrame)
+        → AreAlike logs s z → AreFramesWithin s logs answered
         → AreAnsweredWithMemory s answered after → AreAnsweredWithMemory z others after'
         → MayTrimAll s (requests_of answered) → MayTrimAll z (requests_of others)
         → without_cleans (requests_of answered) ≡ without_cleans (requests_of others)
         → AreAnsweredAlike logs after after' answered others }
+    ensures followers_keep_the_logs { (logs : Logs) (s z after after' : State)
+        (answered others : List AnsweredFrame)
+        → AreAlike logs s z → s.config.role ≡ Follower → AreFramesWithin s logs answered
+        → AreAnsweredWithMemory s answered after → AreAnsweredWithMemory z others after'
+        → MayTrimAll s (requests_of answered) → MayTrimAll z (requests_of others)
+        → without_cleans (requests_of answered) ≡ without_cleans (requests_of others)
+        → AreAlike logs after after' }
 {}
 
 /// Where no entry's result is a lack of memory, what may be replied is the reply itself: to one request,

@@ -46,46 +46,10 @@ in_version version old =
     (cond (int_eq version (api_version (other_version old))) (Ok (other_version old)) (Err BadVersion))
 
 pub key_finds : (api : Api) → api_of_key (api_key api) ≡ Some (oldest api)
-key_finds Produce = refl
-key_finds Fetch = refl
-key_finds ListOffsets = refl
-key_finds Metadata = refl
-key_finds OffsetCommit = refl
-key_finds OffsetFetch = refl
-key_finds FindCoordinator = refl
-key_finds ApiVersions = refl
-key_finds InitProducerId = refl
-key_finds Deliver = refl
-key_finds Clean = refl
-key_finds Export = refl
-key_finds ExportDelta = refl
-key_finds Import = refl
-key_finds ImportDelta = refl
-key_finds Get = refl
-key_finds Cover = refl
-key_finds ForgetGroup = refl
-key_finds Trim = refl
+key_finds api = grind arith
 
 one_of_two : (api : Api) → (api ≡ oldest api) ⊎ (api ≡ other_version (oldest api))
-one_of_two Produce = inl refl
-one_of_two Fetch = inl refl
-one_of_two ListOffsets = inl refl
-one_of_two Metadata = inl refl
-one_of_two OffsetCommit = inl refl
-one_of_two OffsetFetch = inl refl
-one_of_two FindCoordinator = inl refl
-one_of_two ApiVersions = inl refl
-one_of_two InitProducerId = inl refl
-one_of_two Deliver = inl refl
-one_of_two Clean = inl refl
-one_of_two Export = inl refl
-one_of_two ExportDelta = inr refl
-one_of_two Import = inl refl
-one_of_two ImportDelta = inr refl
-one_of_two Get = inl refl
-one_of_two Cover = inl refl
-one_of_two ForgetGroup = inl refl
-one_of_two Trim = inl refl
+one_of_two api = grind arith
 
 other_of_other : (api : Api) → other_version (other_version api) ≡ api
 other_of_other api = grind arith

@@ -30,30 +30,6 @@ use Rattle.request_frames.specs.Cover.{CoverValue, cover_fields, cover_request}
 use Rattle.request_frames.specs.ForgetGroup.{forget_group_fields, forget_group_request}
 use Rattle.request_frames.specs.Trim.{TrimValue, trim_fields, trim_request}
 
--- ---- the fields
-
--- what follows the client id
-abbrev pub fields_of : Api → Fields
-fields_of Produce = produce_fields
-fields_of Fetch = fetch_fields
-fields_of ListOffsets = list_offsets_fields
-fields_of Metadata = metadata_fields
-fields_of OffsetCommit = offset_commit_fields
-fields_of OffsetFetch = offset_fetch_fields
-fields_of FindCoordinator = find_coordinator_fields
-fields_of ApiVersions = api_versions_fields
-fields_of InitProducerId = init_producer_id_fields
-fields_of Deliver = deliver_fields
-fields_of Clean = clean_fields
-fields_of Export = export_fields
-fields_of ExportDelta = export_delta_fields
-fields_of Import = import_fields
-fields_of ImportDelta = import_delta_fields
-fields_of Get = get_fields
-fields_of Cover = cover_fields
-fields_of ForgetGroup = forget_group_fields
-fields_of Trim = trim_fields
-
 -- ---- what requests say
 
 -- api_versions has the version in which it is asked, find_coordinator the group, init_producer_id the transactional id
@@ -82,26 +58,39 @@ pub record RequestValue : Type 0 where
   pub correlation : ℤ
   pub body : BodyValue
 
+-- ---- the table of requests
+
+-- the fields that follow the client id, and what their values say
+pub record Said : Type 0 where
+  pub fields : Fields
+  pub body : Value fields → BodyValue
+
+abbrev pub said_by : Api → Said
+said_by Produce = record { fields = produce_fields; body = λ v. produce (produce_request v) }
+said_by Fetch = record { fields = fetch_fields; body = λ v. fetch (fetch_request v) }
+said_by ListOffsets = record { fields = list_offsets_fields; body = λ v. list_offsets (list_offsets_request v) }
+said_by Metadata = record { fields = metadata_fields; body = λ v. metadata (metadata_request v) }
+said_by OffsetCommit = record { fields = offset_commit_fields; body = λ v. offset_commit (offset_commit_request v) }
+said_by OffsetFetch = record { fields = offset_fetch_fields; body = λ v. offset_fetch (offset_fetch_request v) }
+said_by FindCoordinator = record { fields = find_coordinator_fields; body = λ v. find_coordinator (find_coordinator_request v) }
+said_by ApiVersions = record { fields = api_versions_fields; body = λ v. api_versions (api_versions_request v) }
+said_by InitProducerId = record { fields = init_producer_id_fields; body = λ v. init_producer_id (init_producer_id_request v) }
+said_by Deliver = record { fields = deliver_fields; body = λ v. deliver (deliver_request v) }
+said_by Clean = record { fields = clean_fields; body = λ v. clean (clean_request v) }
+said_by Export = record { fields = export_fields; body = λ v. export (export_request v) }
+said_by ExportDelta = record { fields = export_delta_fields; body = λ v. export_delta (export_delta_request v) }
+said_by Import = record { fields = import_fields; body = λ v. import (import_request v) }
+said_by ImportDelta = record { fields = import_delta_fields; body = λ v. import_delta (import_delta_request v) }
+said_by Get = record { fields = get_fields; body = λ v. get (get_request v) }
+said_by Cover = record { fields = cover_fields; body = λ v. cover (cover_request v) }
+said_by ForgetGroup = record { fields = forget_group_fields; body = λ v. forget_group (forget_group_request v) }
+said_by Trim = record { fields = trim_fields; body = λ v. trim (trim_request v) }
+
+abbrev pub fields_of : Api → Fields
+fields_of api = (said_by api).fields
+
 abbrev pub body_value : (api : Api) → Value (fields_of api) → BodyValue
-body_value Produce v = produce (produce_request v)
-body_value Fetch v = fetch (fetch_request v)
-body_value ListOffsets v = list_offsets (list_offsets_request v)
-body_value Metadata v = metadata (metadata_request v)
-body_value OffsetCommit v = offset_commit (offset_commit_request v)
-body_value OffsetFetch v = offset_fetch (offset_fetch_request v)
-body_value FindCoordinator v = find_coordinator (find_coordinator_request v)
-body_value ApiVersions v = api_versions (api_versions_request v)
-body_value InitProducerId v = init_producer_id (init_producer_id_request v)
-body_value Deliver v = deliver (deliver_request v)
-body_value Clean v = clean (clean_request v)
-body_value Export v = export (export_request v)
-body_value ExportDelta v = export_delta (export_delta_request v)
-body_value Import v = import (import_request v)
-body_value ImportDelta v = import_delta (import_delta_request v)
-body_value Get v = get (get_request v)
-body_value Cover v = cover (cover_request v)
-body_value ForgetGroup v = forget_group (forget_group_request v)
-body_value Trim v = trim (trim_request v)
+body_value api v = (said_by api).body v
 
 -- ---- frames
 

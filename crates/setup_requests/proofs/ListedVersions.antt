@@ -6,7 +6,6 @@ use Rattle.std.specs.List.{AllByRecursion}
 use Rattle.std.specs.Ordering.{int_eq}
 use Rattle.std.proofs.lemmas.Int.{ints}
 use Rattle.request_frames.specs.declared.api.Api.{Api}
-use Rattle.request_frames.specs.declared.api.Api.TheVariants.{Produce, Fetch, ListOffsets, Metadata, OffsetCommit, OffsetFetch, FindCoordinator, ApiVersions, InitProducerId, Deliver, Clean, Export, ExportDelta, Import, ImportDelta, Get, Cover, ForgetGroup, Trim}
 use Rattle.request_frames.specs.Apis.{api_key, api_version, listed_apis, first_own_key, HasApi}
 use Rattle.setup_requests.specs.ApiVersions.{version_range, listed_ranges, lists, AreRising}
 
@@ -27,25 +26,7 @@ found (api ∷ apis) key version all e =
     ]
 
 told : (api : Api) → api_key api <ℤ first_own_key → lists listed_ranges (api_key api) (api_version api) ≡ true
-told Produce low = refl
-told Fetch low = refl
-told ListOffsets low = refl
-told Metadata low = refl
-told OffsetCommit low = refl
-told OffsetFetch low = refl
-told FindCoordinator low = refl
-told ApiVersions low = refl
-told InitProducerId low = refl
-told Deliver low = absurd (omega (arith, ints, low))
-told Clean low = absurd (omega (arith, ints, low))
-told Export low = absurd (omega (arith, ints, low))
-told ExportDelta low = absurd (omega (arith, ints, low))
-told Import low = absurd (omega (arith, ints, low))
-told ImportDelta low = absurd (omega (arith, ints, low))
-told Get low = absurd (omega (arith, ints, low))
-told Cover low = absurd (omega (arith, ints, low))
-told ForgetGroup low = absurd (omega (arith, ints, low))
-told Trim low = absurd (omega (arith, ints, low))
+told api low = grind (arith, ints, low)
 
 all_kafkas : AreKafkas listed_apis
 all_kafkas = (omega arith, (omega arith, (omega arith, (omega arith, (omega arith, (omega arith, (omega arith, (omega arith, (omega arith, tt)))))))))

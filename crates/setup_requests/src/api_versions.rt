@@ -86,7 +86,7 @@ pub fn reply_to_api_versions<A: Allocator + Copy>(
         ++ api_versions_reply correlation request.now.version) }
     ensures unchanged_on_error { OnErr result (out.new.items ≡ out.old.items) }
 {
-    // A law for the proof: the parts are the whole.
+    // Called for its contract alone: the parts make the response.
     api_versions_parts();
     let code = versions_code(request.version);
     respond_with(correlation, &Versions { code }, out)

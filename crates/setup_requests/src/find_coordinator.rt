@@ -81,7 +81,7 @@ pub fn reply_to_find_coordinator<S: BatchStore, A: Allocator + Copy>(
         out.old.items out.new.items state.now) }
     ensures unchanged_on_error { OnErr result (out.new.items ≡ out.old.items) }
 {
-    // A law for the proof: the parts are the whole.
+    // Called for its contract alone: the parts make the response.
     find_coordinator_parts();
     let answer = coordinator(state, request.group);
     let head = find_coordinator_head(answer.code, answer.node_id, answer.host);
