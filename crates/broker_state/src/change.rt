@@ -14,11 +14,11 @@ pub trait Change<S: BatchStore, R>: Sized {
     /// content after.
     ghost changes: { Self → Role → R → Content → Content → Type 0 };
 
-    /// Does it to a log that the broker leads.
-    fn change_log(self, log: &mut LeaderLog<S>) -> R
+    /// Makes it in a log that the broker leads.
+    fn make_in_log(self, log: &mut LeaderLog<S>) -> R
         ensures { changes self Leader result log.old log.new };
 
-    /// Does it to a copy that follows.
-    fn change_copy(self, copy: &mut PartitionLog<S>) -> R
+    /// Makes it in a copy that follows.
+    fn make_in_copy(self, copy: &mut PartitionLog<S>) -> R
         ensures { changes self Follower result copy.old copy.new };
 }

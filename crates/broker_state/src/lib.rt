@@ -17,6 +17,7 @@ mod place;
 mod state;
 mod topic;
 
+pub use append::Append;
 pub use batches::one_batch;
 pub use change::Change;
 pub use codes::append_code;

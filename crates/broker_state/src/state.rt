@@ -8,15 +8,12 @@ ghost use Rattle.broker_state.specs.State.{new_state, group_topic, topic_of, par
 ghost use Rattle.broker_state.specs.Places.{IsPlaceOf, IsPlace};
 ghost use Rattle.broker_state.specs.Checks.{unknown, not_leader};
 ghost use Rattle.broker_state.specs.Changes.{ChangesAt};
-ghost use Rattle.broker_state.specs.Appending.{AppendsAt};
-ghost use Rattle.broker_state.specs.declared.config.Role.TheVariants.{Leader};
 ghost use Rattle.broker_state.specs.Configs.{IsValidConfig, ConfigFault};
 ghost use Rattle.broker_state.specs.ConfigValues.{config_value};
 ghost use Rattle.broker_state.specs.Parts.{topic_contents};
 ghost use Rattle.broker_state.specs.Producers.{GivesProducerId};
 ghost use Rattle.broker_state.specs.Sound.{IsSound};
 
-use crate::append::Append;
 use crate::change::Change;
 use crate::config::{Config, Role};
 use crate::error::ConfigError;
@@ -26,8 +23,7 @@ use crate::new_topics::new_topics;
 use crate::place::Place;
 use crate::topic::{TopicLogs, topic_index};
 use answering::ErrorCode;
-use batch_codec::BatchView;
-use partition_log::{AppendError, Appended, PartitionLog};
+use partition_log::PartitionLog;
 use segment::BatchStore;
 use std::marker::Model;
 
@@ -114,6 +110,7 @@ impl<S: BatchStore> BrokerState<S> {
     pub fn group_place(&self) -> Place
         ensures { IsPlaceOf self.now group_topic (pos 0) result }
     {
+        // Called for its contract alone: the topics are those of the configuration.
         self.know_sound();
         match self.place_of(GROUP_TOPIC, 0) {
             Some(place) => place,
@@ -165,6 +162,7 @@ impl<S: BatchStore> BrokerState<S> {
     pub fn know_sound(&self)
         ensures { IsSound self.now }
     {
+        // A field is read, so that what holds of all of them is known.
         let _ = &self.config;
     }
 
@@ -175,31 +173,13 @@ impl<S: BatchStore> BrokerState<S> {
         self.config.role
     }
 
-    /// Does something to the partition at a place; every other one stays as it is.
+    /// Makes a change in the partition at a place; every other one stays as it is.
     pub fn change_at<R, C: Change<S, R>>(&mut self, place: Place, change: C) -> R
         requires is_place { IsPlace self.old place }
         ensures { (name : List ℕ) (p : ℤ) → IsPlaceOf self.old name p place
             → ChangesAt (C.changes change self.old.config.role result) self.old name p self.new }
     {
-        self.topics[place.topic].change_partition(place.partition, change)
-    }
-
-    /// Appends a batch to the partition at a place, which the broker leads.
-    ///
-    /// # Errors
-    ///
-    /// The first fault of the batch; nothing changes.
-    pub fn append_at<'a>(
-        &mut self,
-        place: Place,
-        batch: &'a BatchView<'a>,
-    ) -> Result<Appended, AppendError>
-        requires is_place { IsPlace self.old place }
-        requires leads { self.old.config.role ≡ Leader }
-        ensures { (name : List ℕ) (p : ℤ) → IsPlaceOf self.old name p place
-            → AppendsAt self.old name p batch.now result self.new }
-    {
-        self.change_at(place, Append { batch })
+        self.topics[place.topic].update_partition(place.partition, change)
     }
 
     /// Gives out the next producer id; the number after it is the next one. `None` where the next one is the

@@ -88,8 +88,8 @@ impl<S: BatchStore> TopicLogs<S> {
         self.partitions[index].copy()
     }
 
-    /// Does something to the partition of an index.
-    pub(crate) fn change_partition<R, C: Change<S, R>>(&mut self, index: usize, change: C) -> R
+    /// Makes a change in the partition of an index.
+    pub(crate) fn update_partition<R, C: Change<S, R>>(&mut self, index: usize, change: C) -> R
         requires { index < length self.old.partitions }
         ensures changes { (role : Role) → HasRole role self.old
             → ChangesIn (C.changes change role result) (topic_contents self.old) (pos index)
@@ -99,7 +99,7 @@ impl<S: BatchStore> TopicLogs<S> {
         ensures contents { HoldsContents (topic_contents self.old)
             → HoldsContents (topic_contents self.new) }
     {
-        self.partitions[index].change(change)
+        self.partitions[index].apply(change)
     }
 
     /// The topic's name.

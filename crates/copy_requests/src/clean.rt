@@ -54,11 +54,11 @@ impl<S: BatchStore> Change<S, Result<CleanReport, AllocError>> for Cleaning {
     ghost changes = { λ bounds role result c after.
         Cleans bounds.upto bounds.tomb_before result c after };
 
-    fn change_log(self, log: &mut LeaderLog<S>) -> Result<CleanReport, AllocError> {
+    fn make_in_log(self, log: &mut LeaderLog<S>) -> Result<CleanReport, AllocError> {
         clean_log(log, self)
     }
 
-    fn change_copy(self, copy: &mut PartitionLog<S>) -> Result<CleanReport, AllocError> {
+    fn make_in_copy(self, copy: &mut PartitionLog<S>) -> Result<CleanReport, AllocError> {
         clean_copy(copy, self)
     }
 }

@@ -65,11 +65,11 @@ impl<S: BatchStore> Change<S, Result<(), ErrorCode>> for Importing<S> {
     ghost changes = { λ importing role result here after.
         Imports role importing.copy result here after };
 
-    fn change_log(self, log: &mut LeaderLog<S>) -> Result<(), ErrorCode> {
+    fn make_in_log(self, log: &mut LeaderLog<S>) -> Result<(), ErrorCode> {
         lead(log, self.copy)
     }
 
-    fn change_copy(self, copy: &mut PartitionLog<S>) -> Result<(), ErrorCode> {
+    fn make_in_copy(self, copy: &mut PartitionLog<S>) -> Result<(), ErrorCode> {
         merge_copy(copy, &self.copy)
     }
 }

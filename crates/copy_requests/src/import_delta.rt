@@ -47,12 +47,12 @@ impl<'d, S: BatchStore> Change<S, Result<(), ErrorCode>> for Patching<'d> {
     ghost changes = { λ patching role result here after. role ≡ Follower
         → Patches patching.delta.now result here after };
 
-    fn change_log(self, _log: &mut LeaderLog<S>) -> Result<(), ErrorCode> {
+    fn make_in_log(self, _log: &mut LeaderLog<S>) -> Result<(), ErrorCode> {
         // Only a follower's copy takes deltas, so what is answered here is never seen.
         Err(ErrorCode::InvalidRequest)
     }
 
-    fn change_copy(self, copy: &mut PartitionLog<S>) -> Result<(), ErrorCode> {
+    fn make_in_copy(self, copy: &mut PartitionLog<S>) -> Result<(), ErrorCode> {
         patch_copy(copy, self.delta)
     }
 }

@@ -49,11 +49,11 @@ impl<S: BatchStore> Change<S, Result<(), ErrorCode>> for Trimming {
 
     ghost changes = { λ trimming role result c after. Trims trimming.start result c after };
 
-    fn change_log(self, log: &mut LeaderLog<S>) -> Result<(), ErrorCode> {
+    fn make_in_log(self, log: &mut LeaderLog<S>) -> Result<(), ErrorCode> {
         trim_log(log, self.start)
     }
 
-    fn change_copy(self, copy: &mut PartitionLog<S>) -> Result<(), ErrorCode> {
+    fn make_in_copy(self, copy: &mut PartitionLog<S>) -> Result<(), ErrorCode> {
         trim_copy(copy, self.start)
     }
 }

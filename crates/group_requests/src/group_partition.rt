@@ -8,7 +8,7 @@ ghost use Rattle.group_requests.specs.Appending.{AppendsToGroups};
 
 use answering::ErrorCode;
 use batch_codec::{Batch, BatchView, encode, one_encoding};
-use broker_state::{BrokerState, append_code};
+use broker_state::{Append, BrokerState, append_code};
 use partition_log::PartitionLog;
 use segment::BatchStore;
 use std::alloc::{AllocError, Allocator};
@@ -29,7 +29,7 @@ fn append_view<S: BatchStore>(
     ensures { AppendsToGroups state.old batch.now result state.new }
 {
     let place = state.group_place();
-    match state.append_at(place, batch) {
+    match state.change_at(place, Append { batch }) {
         Ok(_) => Ok(()),
         Err(fault) => Err(append_code(fault)),
     }
@@ -57,7 +57,7 @@ pub(crate) fn append_to_groups<S: BatchStore>(
     requires writable { Writable batch.now }
     ensures { AppendsToGroups state.old batch.now result state.new }
 {
-    // A law for the proof: a batch has one encoding.
+    // Called for its contract alone: what is encoded is read again as this batch.
     one_encoding();
     match encoded(batch) {
         Ok(bytes) => append_view(state, &BatchView::open(&bytes)),

@@ -10,8 +10,8 @@ index_mut-requires g c =
     let long : vec_len c.self.inside.topics ≡ length c.self.inside.topics.items = search rules in
     subst (λ (n : ℕ). c.args.place.topic < n) (sym long) (topic_below c.self.inside.topics.items (config_value c.self.inside.config) c.args.self.now c.requires.is_place.0 c.requires.is_place.1 c.args.place c.self.view_is c.requires.is_place.2)
 
-pub change_partition-requires : goal.change_partition-requires
-change_partition-requires g c =
+pub update_partition-requires : goal.update_partition-requires
+update_partition-requires g c =
     partition_below c.self.inside.topics.items (config_value c.self.inside.config) c.args.self.now c.requires.is_place.0 c.requires.is_place.1 c.args.place c.self.view_is c.requires.is_place.2 c.index_mut.result.now c.index_mut.ensures.value
 
 pub invariant_of-self : goal.invariant_of-self
@@ -20,10 +20,10 @@ invariant_of-self g c =
     let config = config_value c.self.inside.config in
     let held = holds_at_place topics config c.args.self.now c.requires.is_place.0 c.requires.is_place.1 c.args.place c.self.view_is c.requires.is_place.2 in (
       c.self.invariant.0,
-      topics_stay topics config c.args.self.now c.requires.is_place.0 c.requires.is_place.1 c.args.place c.self.view_is c.requires.is_place.2 c.index_mut.result.now c.change_partition.new.self c.index_mut.ensures.value c.self.invariant.1 c.change_partition.ensures.shape
-          (c.change_partition.ensures.roles config.role (held (HasRole config.role) c.index_mut.result.now c.index_mut.ensures.value c.self.invariant.1.roles)),
-      all_set HoldParts topics c.args.place.topic c.change_partition.new.self c.self.invariant.2
-          (c.change_partition.ensures.contents (held HoldParts c.index_mut.result.now c.index_mut.ensures.value c.self.invariant.2)),
+      topics_stay topics config c.args.self.now c.requires.is_place.0 c.requires.is_place.1 c.args.place c.self.view_is c.requires.is_place.2 c.index_mut.result.now c.update_partition.new.self c.index_mut.ensures.value c.self.invariant.1 c.update_partition.ensures.shape
+          (c.update_partition.ensures.roles config.role (held (HasRole config.role) c.index_mut.result.now c.index_mut.ensures.value c.self.invariant.1.roles)),
+      all_set HoldParts topics c.args.place.topic c.update_partition.new.self c.self.invariant.2
+          (c.update_partition.ensures.contents (held HoldParts c.index_mut.result.now c.index_mut.ensures.value c.self.invariant.2)),
       c.self.invariant.3,
     )
 
@@ -31,7 +31,7 @@ pub returns : goal.returns
 returns g c name p of =
     let topics = c.self.inside.topics.items in
     let config = config_value c.self.inside.config in
-    changed_here topics config c.args.self.now name p c.args.place c.self.view_is of (g.C.Change.changes c.args.change c.args.self.now.config.role c.change_partition.result) c.index_mut.result.now c.change_partition.new.self c.index_mut.ensures.value
-    (c.change_partition.ensures.changes c.args.self.now.config.role
+    changed_here topics config c.args.self.now name p c.args.place c.self.view_is of (g.C.Change.changes c.args.change c.args.self.now.config.role c.update_partition.result) c.index_mut.result.now c.update_partition.new.self c.index_mut.ensures.value
+    (c.update_partition.ensures.changes c.args.self.now.config.role
     (subst (λ role. HasRole role c.index_mut.result.now) (ap (λ s. s.config.role) c.self.view_is)
     (holds_at_place topics config c.args.self.now name p c.args.place c.self.view_is of (HasRole config.role) c.index_mut.result.now c.index_mut.ensures.value c.self.invariant.1.roles)))
