@@ -1,5 +1,5 @@
 -- Two brokers that are alike answer a request within the logs alike, and stay alike.
-use Rattle.std.proofs.Common.{◌≡◌, ℤ, Bool, true, false, not, List, ◌++◌, Option, refl, sym, ap, ◌∙◌}
+use Rattle.std.proofs.Common.{◌≡◌, ℤ, Bool, true, false, not, List, ◌++◌, Option, Some, refl, sym, ap, ◌∙◌}
 use Rattle.std.specs.Prelude.{drop}
 use Rattle.std.specs.Option.{option_or}
 use Rattle.request_frames.specs.Requests.BodyValue.{produce, fetch, list_offsets, metadata, offset_commit, offset_fetch, find_coordinator, api_versions, init_producer_id, deliver, clean, export, export_delta, import, import_delta, get, cover, forget_group, trim}
@@ -10,7 +10,7 @@ use Rattle.answering.specs.declared.codes.ErrorCode.TheVariants.{UnknownTopicOrP
 use Rattle.answering.specs.Lists.{fault_if, first_some}
 use Rattle.answering.specs.Work.{answer_after, answer}
 use Rattle.broker_state.specs.State.{State, is_known}
-use Rattle.copy_requests.specs.Import.{import_work}
+use Rattle.copy_requests.specs.Import.{import_work, import_sent}
 use Rattle.broker_node.specs.Replies.{reply_to}
 use Rattle.cleaning_laws.specs.Logs.{Logs}
 use Rattle.cleaning_laws.specs.Alike.{AreAlike, StayAlike}
@@ -37,16 +37,23 @@ always logs s z n body same = record { states = same.1; replies = λ settled. sa
 abbrev import_checks : State → ImportValue → List (Option ErrorCode)
 import_checks s q = drop 1 ((import_work s q).early ++ (import_work s q).late)
 
--- an image for a partition that isn't there changes nothing
+-- an image for a partition that isn't there is refused
+refused : (s : State) (q : ImportValue) → is_known s q.topic q.partition ≡ false
+    → answer (import_work s q) s ≡ ((import_work s q).failed UnknownTopicOrPartition, s)
+refused s q none =
+    ap (λ (known : Bool). answer_after (option_or (fault_if (not known) UnknownTopicOrPartition) (first_some (import_checks s q))) (import_work s q) s) none
+
+-- and changes nothing
 pub not_imported : (s : State) (q : ImportValue) → is_known s q.topic q.partition ≡ false → (answer (import_work s q) s).1 ≡ s
-not_imported s q none =
-    ap (λ (known : Bool). (answer_after (option_or (fault_if (not known) UnknownTopicOrPartition) (first_some (import_checks s q))) (import_work s q) s).1) none
+not_imported s q none = ap (λ x. x.1) (refused s q none)
 
 unknown_alike : (logs : Logs) (s z : State) (n : ℤ) (q : ImportValue) → is_known s q.topic q.partition ≡ false → AreAlike logs s z → BodyAlike logs s z n (import q)
-unknown_alike logs s z n q none alike = record {
-  states = unchanged logs s z (answer (import_work s q) s).1 (answer (import_work z q) z).1 (stay logs s z alike) (not_imported s q none) (not_imported z q (sym (known_same logs s z q.topic q.partition alike) ∙ none));
-  replies = λ settled. absurd cc;
-}
+unknown_alike logs s z n q none alike =
+    let other_none = sym (known_same logs s z q.topic q.partition alike) ∙ none in
+    record {
+      states = unchanged logs s z (answer (import_work s q) s).1 (answer (import_work z q) z).1 (stay logs s z alike) (not_imported s q none) (not_imported z q other_none);
+      replies = λ settled. ap (λ x. Some (import_sent n x.0)) (refused s q none) ∙ sym (ap (λ x. Some (import_sent n x.0)) (refused z q other_none));
+    }
 
 body_alike : (logs : Logs) (s z : State) (n : ℤ) (body : BodyValue) → AreAlike logs s z → IsWithin s logs body → MayTrim s body → MayTrim z body → is_clean body ≡ false → BodyAlike logs s z n body
 body_alike logs s z n (produce q) alike within may other_may no_clean = always logs s z n (produce q) (produce_alike q logs s z n within.0 alike)

@@ -103,7 +103,6 @@ is_settled (fetch q) = false
 is_settled (export q) = false
 is_settled (export_delta q) = false
 is_settled (clean q) = false
-is_settled (import q) = false
 is_settled (list_offsets topics) = list_all (λ t. list_all is_no_time t.entries) topics
 is_settled _ = true
 
