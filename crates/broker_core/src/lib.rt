@@ -12,7 +12,8 @@ mod replying;
 mod session;
 
 pub use broker_laws::{
-    answered_snoc, answers_function, append_faults, examples, one_content_changes, replies_fit,
+    a_request_changes_only_its_places, answered_snoc, answers_function, any_version_is_answered,
+    append_faults, examples, one_content_changes, producer_ids_are_in_a_row, replies_fit,
 };
 pub use broker_node::{
     Answer, Config, ConfigError, ErrorCode, GROUP_TOPIC, MAX_FETCH_BYTES, MAX_HOST_BYTES,

@@ -76,9 +76,10 @@ pub fn answered_snoc()
         → AreAnswered s (frames ++ frame ∷ []) (out ++ one) after }
 {}
 
-/// What a request changes, wherever memory lacks: no more than its `effect` says, and nothing in a partition
-/// that isn't among its `places`, of which a fetch shows the same then. The configuration stays, and so do
-/// the partitions that the broker has. A follower appends nothing and gives out no id.
+/// Where a request may change something, whether memory suffices or not: only in its `places`. Any other
+/// partition stays, and a fetch shows the same of it. What only reads changes nothing. The configuration
+/// stays, and so do the partitions that the broker has, and the next producer id but where one is given. A
+/// follower appends nothing and gives out no id.
 pub fn a_request_changes_only_its_places()
     ensures config { (s after : State) (q : RequestValue) (out : Option (List ℕ))
         → MayReply s q out after → after.config ≡ s.config }

@@ -13,8 +13,8 @@ pub record TopicPartition : Type 0 where
   pub topic : List ℕ
   pub partition : ℤ
 
--- It only reads, gives out the next producer id, appends to partitions, takes into one what another copy of it has, cleans
--- one, or moves the start of one.
+-- A request only reads, gives out the next producer id, appends to partitions, takes into one what another copy has of it,
+-- cleans one, or moves the start of one.
 pub data Effect : Type 0 where
   reads : Effect
   gives_id : Effect
@@ -31,6 +31,7 @@ produced_to topics = flat_map (λ t. map (λ e. record { topic = t.name; partiti
 abbrev pub group_partition : TopicPartition
 group_partition = record { topic = group_topic; partition = pos 0 }
 
+-- those that aren't named only read
 abbrev pub effect : BodyValue → Effect
 effect (produce q) = appends (produced_to q.topics)
 effect (offset_commit q) = appends (group_partition ∷ [])

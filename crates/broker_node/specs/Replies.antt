@@ -8,6 +8,7 @@ use Rattle.broker_state.specs.State.{State}
 use Rattle.broker_node.specs.Ways.{reply_by_way, RepliesByWay}
 use Rattle.broker_node.specs.Kinds.{kind}
 
+-- the same as below, by the parts of a request
 abbrev pub reply_to : State → ℤ → BodyValue → Option (List ℕ) × State
 reply_to s correlation body = reply_by_way ((kind body).way s correlation)
 
@@ -18,7 +19,7 @@ reply s q = reply_to s q.correlation q.body
 abbrev pub RepliesTo : HowAnswered → State → ℤ → BodyValue → Option (List ℕ) → State → Type 0
 RepliesTo A s correlation body out after = RepliesByWay A ((kind body).way s correlation) out after
 
--- the response, or none, and the state after, where each entry is answered in such a way
+-- the response, or none, and the state after, where each entry is answered in the given way
 abbrev pub Replies : HowAnswered → State → RequestValue → Option (List ℕ) → State → Type 0
 Replies A s q out after = RepliesTo A s q.correlation q.body out after
 

@@ -5,8 +5,8 @@ use Rattle.answering.specs.Work.{Work}
 use Rattle.answering.specs.Plans.{Plan, HowAnswered, reply_by, RepliesBy}
 use Rattle.answering.specs.Once.{reply_once, RepliesOnce}
 
--- In a state `B`. What is answered as one entry is answered in the state that is given, and by a fixed response that state
--- stays.
+-- `B` is the broker's state. `once` and `fixed` have the state in which the request is answered; a fixed response leaves it
+-- as it is.
 pub data Way (B : Type 0) : Type 1 where
   planned : {E R S : Type 0} → Plan E R S B → Way B
   once : {R : Type 0} → (response : R → List ℕ) → Work R B → B → Way B
@@ -18,7 +18,7 @@ reply_by_way (planned p) = reply_by p
 reply_by_way (once response w s) = reply_once response w s
 reply_by_way (fixed response s) = (Some response, s)
 
--- what is sent and the state after, where each entry is answered in such a way
+-- what is sent and the state after, where each entry is answered in the given way
 abbrev pub RepliesByWay : {B : Type 0} → HowAnswered → Way B → Option (List ℕ) → B → Type 0
 RepliesByWay A (planned p) out after = RepliesBy A p out after
 RepliesByWay A (once response w s) out after = RepliesOnce A response w s out after

@@ -94,6 +94,7 @@ impl<S: BatchStore> Cluster<S> {
             Ok(followers) => followers,
             Err(_) => return Err(ClusterError::OutOfMemory),
         };
+        // Called for its contract alone: the law of copies that have seen nothing.
         an_empty_copy_is_a_copy();
         let cluster = Cluster {
             alloc,
@@ -110,6 +111,7 @@ impl<S: BatchStore> Cluster<S> {
     pub(crate) fn know_consistent(&self)
         ensures { IsConsistent self.now }
     {
+        // A field is read, so that what holds of all of them is known.
         let _ = self.images.len();
     }
 

@@ -1,4 +1,4 @@
--- What becomes of the batches that a copy keeps where it is told of others.
+-- Words of private clauses: what becomes of the batches that a copy keeps where it is told of others.
 use Rattle.std.specs.Prelude.{◌≡◌, ℤ, ◌<ℤ◌, List, ◌++◌, Option, Some}
 use Rattle.std.specs.List.{AllByRecursion, cons_option}
 use Rattle.batch_codec.specs.Values.{BatchValue}
