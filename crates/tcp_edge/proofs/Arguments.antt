@@ -12,8 +12,8 @@ use Rattle.clap.specs.declared.error.kind.ErrorKind.{ErrorKind}
 use Rattle.broker_state.specs.Configs.{IsValidConfig}
 use Rattle.broker_state.specs.ConfigValues.{config_value}
 use Rattle.broker_state.specs.State.{ConfigValue}
-use Rattle.tcp_edge.specs.declared.asked.LineFault.{LineFault}
-use Rattle.tcp_edge.specs.declared.asked.LineFault.TheVariants.{Clap, Topic}
+use Rattle.tcp_edge.specs.declared.asked.ArgumentsFault.{ArgumentsFault}
+use Rattle.tcp_edge.specs.declared.asked.ArgumentsFault.TheVariants.{Clap, Topic}
 use Rattle.tcp_edge.specs.declared.asked.Asked.{Asked}
 use Rattle.tcp_edge.specs.declared.asked.Asked.TheVariants.{Table, Session, Serve, Replay, Merge}
 use Rattle.tcp_edge.specs.Asked.{IsAsked, IsConfigFault, IsFaulty, IsHelp, IsMistake, IsOutOfMemory, IsListener, IsOptionsOf, IsStop, IfMerge, IfNamed, IfReplay, IfServe, IfSession, IfTable, IsNoTopic, AsksForOther}
@@ -156,7 +156,7 @@ stop_said app roles arguments kinds error are is stops said =
     subst (λ (ks : Kinds). HasKind ks error) (ap (λ (a : App). fault_of a arguments) is ∙ stops.fault roles are) (said (is_free_kbroker app roles is))
 
 -- or memory ran out
-pub memory_stops : (kinds : Kinds) (fault : LineFault) → IsOutOfMemory fault → IsStop kinds fault
+pub memory_stops : (kinds : Kinds) (fault : ArgumentsFault) → IsOutOfMemory fault → IsStop kinds fault
 memory_stops kinds (Clap error) is = inl is
 memory_stops kinds (Topic why) is = is
 
@@ -174,7 +174,7 @@ no_help_among kinds k help version among = (
   λ is. version (subst (λ (x : ErrorKind). IsAmong x kinds) is among),
 )
 
-pub mistake_stops : (arguments : List Text) (fault : LineFault) → HasMistake arguments
+pub mistake_stops : (arguments : List Text) (fault : ArgumentsFault) → HasMistake arguments
     → ((kinds : Kinds) → Stops arguments kinds → IsStop kinds fault) → IsMistake fault
 mistake_stops arguments (Clap error) has stops =
     elim (stops has.kinds has.stops) [ inl memory ↦ no_memory_help error memory | inr among ↦ no_help_among has.kinds _ has.no_help has.no_version among ]
@@ -186,7 +186,7 @@ one_kind k e (inl memory) = inl memory
 one_kind k e (inr (inl is)) = inr is
 one_kind k e (inr (inr bad)) = absurd bad
 
-pub help_stops : (arguments : List Text) (fault : LineFault) → AsksForHelp arguments
+pub help_stops : (arguments : List Text) (fault : ArgumentsFault) → AsksForHelp arguments
     → ((kinds : Kinds) → Stops arguments kinds → IsStop kinds fault) → IsOutOfMemory fault ⊎ IsHelp fault
 help_stops arguments (Clap error) (inl help) stops =
     elim (one_kind DisplayHelp error (stops _ help)) [ inl memory ↦ inl memory | inr is ↦ inr (inl is) ]
@@ -196,7 +196,7 @@ help_stops arguments (Topic why) (inl help) stops = absurd (stops _ help)
 help_stops arguments (Topic why) (inr version) stops = absurd (stops _ version)
 
 -- so the status is no 2
-pub helped : (fault : LineFault) (status : ℕ) → IsOutOfMemory fault ⊎ IsHelp fault → (IsOutOfMemory fault → status ≡ 3)
+pub helped : (fault : ArgumentsFault) (status : ℕ) → IsOutOfMemory fault ⊎ IsHelp fault → (IsOutOfMemory fault → status ≡ 3)
     → (IsHelp fault → status ≢ 2) → status ≢ 2
 helped fault status (inl memory) three help two = let is : status ≡ 3 = three memory in absurd (omega (arith, is, two))
 helped fault status (inr asked) three help two = help asked two
@@ -205,7 +205,7 @@ pub no_help : (arguments : List Text) → AsksForHelp arguments → ((kinds : Ki
 no_help arguments (inl help) stops = stops _ help
 no_help arguments (inr version) stops = stops _ version
 
-pub session_fault : (name : Text) (rows : List Row) (fault : LineFault) → name ≡ codes "session" → IsConfigFault (topic_words rows) fault
+pub session_fault : (name : Text) (rows : List Row) (fault : ArgumentsFault) → name ≡ codes "session" → IsConfigFault (topic_words rows) fault
     → IsFaulty name rows fault
 session_fault name rows (Clap error) is h = h
 session_fault name rows (Topic why) is h = (
@@ -215,7 +215,7 @@ session_fault name rows (Topic why) is h = (
   h,
 )
 
-pub serve_fault : (name : Text) (rows : List Row) (fault : LineFault) → name ≡ codes "serve" → IsConfigFault (topic_words rows) fault
+pub serve_fault : (name : Text) (rows : List Row) (fault : ArgumentsFault) → name ≡ codes "serve" → IsConfigFault (topic_words rows) fault
     → IsFaulty name rows fault
 serve_fault name rows (Clap error) is h = h
 serve_fault name rows (Topic why) is h = (
@@ -239,7 +239,7 @@ if_table arguments Replay P asks is fact =
 if_table arguments Merge P asks is fact =
     let bad : true ≡ false = ap (bytes_eq (codes "table")) (is (codes "table") [] (finds_table arguments asks)) in cc
 
-pub table_fault : (arguments : List Text) (fault : LineFault) → AsksForTable arguments
+pub table_fault : (arguments : List Text) (fault : ArgumentsFault) → AsksForTable arguments
     → ((name : Text) (rows : List Row) → Finds arguments name rows → IsFaulty name rows fault) → IsOutOfMemory fault
 table_fault arguments (Clap error) asks is = is (codes "table") [] (finds_table arguments asks)
 table_fault arguments (Topic why) asks is = absurd ((is (codes "table") [] (finds_table arguments asks)).0 refl)
@@ -257,7 +257,7 @@ if_merge arguments (Serve options) P asks is fact =
 if_merge arguments Replay P asks is fact =
     let bad : true ≡ false = ap (bytes_eq (codes "merge")) (is (codes "merge") [] (finds_merge arguments asks)) in cc
 
-pub merge_fault : (arguments : List Text) (fault : LineFault) → AsksForMerge arguments
+pub merge_fault : (arguments : List Text) (fault : ArgumentsFault) → AsksForMerge arguments
     → ((name : Text) (rows : List Row) → Finds arguments name rows → IsFaulty name rows fault) → IsOutOfMemory fault
 merge_fault arguments (Clap error) asks is = is (codes "merge") [] (finds_merge arguments asks)
 merge_fault arguments (Topic why) asks is = absurd ((is (codes "merge") [] (finds_merge arguments asks)).1 refl)
@@ -298,25 +298,25 @@ done_by arguments Replay status Help T M table merge serve named done = inr (inr
 done_by arguments Merge status Help T M table merge serve named done = inr (inr (inl (merge done)))
 
 -- only a word in the place of a topic is at fault, or memory is short
-pub topic_or_memory : (name : Text) (rows : List Row) (fault : LineFault) → IsFaulty name rows fault
+pub topic_or_memory : (name : Text) (rows : List Row) (fault : ArgumentsFault) → IsFaulty name rows fault
     → IsOutOfMemory fault ⊎ (IsNoTopic fault × ¬ HasTopics (topic_words rows))
 topic_or_memory name rows (Clap error) is = inl is
 topic_or_memory name rows (Topic why) is = inr (tt, is.3)
 
 -- so the status is 3, or it says that a word is none
-pub refused_left : (fault : LineFault) (status : ℕ) (P H : Type 0) → IsOutOfMemory fault ⊎ (IsNoTopic fault × H)
+pub refused_left : (fault : ArgumentsFault) (status : ℕ) (P H : Type 0) → IsOutOfMemory fault ⊎ (IsNoTopic fault × H)
     → (IsOutOfMemory fault → status ≡ 3) → (status ≡ 3 → P) → (IsNoTopic fault → (2 ≤ status) × (status ≤ 3) × P)
     → (2 ≤ status) × (status ≤ 3) × P
 refused_left fault status P H (inl memory) three nothing topic =
     let is : status ≡ 3 = three memory in (omega (arith, is), omega (arith, is), nothing is)
 refused_left fault status P H (inr word) three nothing topic = topic word.0
 
-pub refused_topic : (fault : LineFault) (status : ℕ) (H : Type 0) → IsOutOfMemory fault ⊎ (IsNoTopic fault × H)
+pub refused_topic : (fault : ArgumentsFault) (status : ℕ) (H : Type 0) → IsOutOfMemory fault ⊎ (IsNoTopic fault × H)
     → (IsOutOfMemory fault → status ≡ 3) → status ≡ 2 → H
 refused_topic fault status H (inl memory) three two = let is : status ≡ 3 = three memory in absurd (omega (arith, is, two))
 refused_topic fault status H (inr word) three two = word.1
 
-pub replay_fault : (rows : List Row) (fault : LineFault) → IsFaulty (codes "replay") rows fault → IsOutOfMemory fault
+pub replay_fault : (rows : List Row) (fault : ArgumentsFault) → IsFaulty (codes "replay") rows fault → IsOutOfMemory fault
 replay_fault rows (Clap error) is = is
 replay_fault rows (Topic why) is = absurd (is.2 refl)
 
@@ -348,7 +348,7 @@ options_found arguments rows Merge options finds is of =
     let bad : true ≡ false = ap (bytes_eq (codes "serve")) (is (codes "serve") rows finds) in cc
 
 -- where memory isn't short, only a topic is at fault
-pub topic_fault : (arguments : List Text) (rows : List Row) (fault : LineFault) → Finds arguments (codes "serve") rows
+pub topic_fault : (arguments : List Text) (rows : List Row) (fault : ArgumentsFault) → Finds arguments (codes "serve") rows
     → ((name : Text) (rows : List Row) → Finds arguments name rows → IsFaulty name rows fault) → ¬ IsOutOfMemory fault
     → ¬ HasTopics (topic_words rows)
 topic_fault arguments rows (Clap error) finds is enough = absurd (enough (is (codes "serve") rows finds))

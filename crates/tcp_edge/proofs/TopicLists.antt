@@ -9,8 +9,8 @@ use Rattle.std.specs.Str.Pattern.{RFindsText, SplitsAroundMatch, LacksTextAt}
 use Rattle.std.specs.Str.Parse.{AllDigits, IsNumeral, digits_value, without_leading_plus}
 use Rattle.clap.specs.Words.{Text}
 use Rattle.broker_state.specs.State.{TopicConfig}
-use Rattle.tcp_edge.specs.declared.asked.LineFault.{LineFault}
-use Rattle.tcp_edge.specs.declared.asked.LineFault.TheVariants.{Clap, Topic}
+use Rattle.tcp_edge.specs.declared.asked.ArgumentsFault.{ArgumentsFault}
+use Rattle.tcp_edge.specs.declared.asked.ArgumentsFault.TheVariants.{Clap, Topic}
 use Rattle.tcp_edge.specs.Asked.{IsConfigFault}
 use Rattle.tcp_edge.specs.CommandLine.{IsTopic, AddsTopic, AreTopics, HasTopics}
 
@@ -50,7 +50,7 @@ topic_of (w ∷ words) zero d (t ∷ ts) lt are = (t ∷ [], (are.0, tt))
 topic_of (w ∷ words) (suc i) d (t ∷ ts) lt are = topic_of words i d ts (omega (arith, lt)) are.1
 
 -- where one word is none, not all are topics
-pub bad_word : (words : List (Bor Text)) (i : ℕ) (d : Bor Text) (fault : LineFault) → i < length words
+pub bad_word : (words : List (Bor Text)) (i : ℕ) (d : Bor Text) (fault : ArgumentsFault) → i < length words
     → IsConfigFault ((get_or words i d).now ∷ []) fault → IsConfigFault (map (λ (w : Bor Text). w.now) words) fault
 bad_word words i d (Clap error) lt is = is
 bad_word words i d (Topic why) lt is = λ has. is (topic_of words i d has.0 lt has.1)

@@ -7,8 +7,8 @@ use Rattle.broker_state.specs.State.{ConfigValue}
 use Rattle.tcp_edge.specs.declared.asked.Asked.{Asked}
 use Rattle.tcp_edge.specs.declared.asked.Asked.TheVariants.{Table, Session, Serve, Replay, Merge}
 use Rattle.tcp_edge.specs.declared.asked.ServeOptions.{ServeOptions}
-use Rattle.tcp_edge.specs.declared.asked.LineFault.{LineFault}
-use Rattle.tcp_edge.specs.declared.asked.LineFault.TheVariants.{Clap, Topic}
+use Rattle.tcp_edge.specs.declared.asked.ArgumentsFault.{ArgumentsFault}
+use Rattle.tcp_edge.specs.declared.asked.ArgumentsFault.TheVariants.{Clap, Topic}
 use Rattle.tcp_edge.specs.CommandLine.{HasTopics, IsConfigOf, IsPort, IsConnections, Finds, Stops, topic_words}
 
 -- a broker that listens: at first its configuration has the port that was asked for
@@ -59,37 +59,37 @@ IfServe (Serve options) P = P
 IfServe asked P = ⊤
 
 -- there was no memory to look at the arguments
-abbrev pub IsOutOfMemory : LineFault → Type 0
+abbrev pub IsOutOfMemory : ArgumentsFault → Type 0
 IsOutOfMemory (Clap error) = kind_of error ≡ kind.OutOfMemory
 IsOutOfMemory (Topic why) = ⊥
 
 -- what clap stopped with: memory ran out, or its error is of one of these kinds
-abbrev pub IsStop : Kinds → LineFault → Type 0
+abbrev pub IsStop : Kinds → ArgumentsFault → Type 0
 IsStop kinds (Clap error) = HasKind kinds error
 IsStop kinds (Topic why) = ⊥
 
 -- neither help nor the version was asked for
-abbrev pub IsMistake : LineFault → Type 0
+abbrev pub IsMistake : ArgumentsFault → Type 0
 IsMistake (Clap error) = (kind_of error ≢ kind.DisplayHelp) × (kind_of error ≢ kind.DisplayVersion)
 IsMistake (Topic why) = ⊤
 
 -- help was asked for, or the version
-abbrev pub IsHelp : LineFault → Type 0
+abbrev pub IsHelp : ArgumentsFault → Type 0
 IsHelp (Clap error) = (kind_of error ≡ kind.DisplayHelp) ⊎ (kind_of error ≡ kind.DisplayVersion)
 IsHelp (Topic why) = ⊥
 
 -- a word in the place of a topic is none
-abbrev pub IsNoTopic : LineFault → Type 0
+abbrev pub IsNoTopic : ArgumentsFault → Type 0
 IsNoTopic (Clap error) = ⊥
 IsNoTopic (Topic why) = ⊤
 
 -- memory ran out, or one of the words in the place of topics is none
-abbrev pub IsConfigFault : List Text → LineFault → Type 0
+abbrev pub IsConfigFault : List Text → ArgumentsFault → Type 0
 IsConfigFault words (Clap error) = kind_of error ≡ kind.OutOfMemory
 IsConfigFault words (Topic why) = ¬ HasTopics words
 
 -- no fault of clap's: memory ran out, or an argument in the place of a topic is none
-abbrev pub IsFaulty : Text → List Row → LineFault → Type 0
+abbrev pub IsFaulty : Text → List Row → ArgumentsFault → Type 0
 IsFaulty name rows (Clap error) = kind_of error ≡ kind.OutOfMemory
 IsFaulty name rows (Topic why) =
     (name ≢ codes "table") × (name ≢ codes "merge") × (name ≢ codes "replay") × ¬ HasTopics (topic_words rows)

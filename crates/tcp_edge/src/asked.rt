@@ -50,7 +50,7 @@ pub(crate) struct ServeOptions {
 
 /// Why a command line asks for nothing.
 #[derive(Drop)]
-pub(crate) enum LineFault {
+pub(crate) enum ArgumentsFault {
     /// What `clap` says of it; requests for help, and out of memory.
     Clap(Error),
     /// The first argument in the place of a topic that is none.
@@ -71,23 +71,23 @@ impl Asked {
     }
 }
 
-impl LineFault {
+impl ArgumentsFault {
     /// Whether there was no memory to look at the arguments.
     pub(crate) fn is_out_of_memory(&self) -> bool
         ensures { MatchBool result (IsOutOfMemory self.now) (¬ IsOutOfMemory self.now) }
     {
         match self {
-            LineFault::Clap(error) => matches!(error.kind(), ErrorKind::OutOfMemory),
-            LineFault::Topic(_) => false,
+            ArgumentsFault::Clap(error) => matches!(error.kind(), ErrorKind::OutOfMemory),
+            ArgumentsFault::Topic(_) => false,
         }
     }
 }
 
-impl From<AllocError> for LineFault {
+impl From<AllocError> for ArgumentsFault {
     ghost from_gives = { λ _ fault. IsOutOfMemory fault };
 
-    fn from(error: AllocError) -> LineFault {
-        LineFault::Clap(Error::from(error))
+    fn from(error: AllocError) -> ArgumentsFault {
+        ArgumentsFault::Clap(Error::from(error))
     }
 }
 
@@ -114,7 +114,7 @@ fn config_of(
     alloc: Global,
     matches: &ArgMatches<'_>,
     port: u16,
-) -> Result<Config<Global>, LineFault>
+) -> Result<Config<Global>, ArgumentsFault>
     ensures config { IfOk result (λ config.
         IsConfigOf (rows_of (found_of matches.now)) port (config_value config)) }
     ensures fault { IfErr result (IsConfigFault (topic_words (rows_of (found_of matches.now)))) }
@@ -145,7 +145,7 @@ fn connections_of(matches: &ArgMatches<'_>) -> u32
 }
 
 /// A broker that listens.
-fn serve_options_of(alloc: Global, matches: &ArgMatches<'_>) -> Result<ServeOptions, LineFault>
+fn serve_options_of(alloc: Global, matches: &ArgMatches<'_>) -> Result<ServeOptions, ArgumentsFault>
     ensures options { IfOk result (IsListener (rows_of (found_of matches.now))) }
     ensures fault { IfErr result (IsConfigFault (topic_words (rows_of (found_of matches.now)))) }
 {
@@ -178,7 +178,7 @@ fn asked_plainly(matches: &ArgMatches<'_>) -> Asked
 
 /// What the matches ask for.
 #[tactic(auto, using(crate::proofs::Arguments::name_found, crate::proofs::Arguments::session_fault, crate::proofs::Arguments::serve_fault))]
-fn asked_by(alloc: Global, matches: &ArgMatches<'_>) -> Result<Asked, LineFault>
+fn asked_by(alloc: Global, matches: &ArgMatches<'_>) -> Result<Asked, ArgumentsFault>
     ensures asked { (name : Text) (rows : List Row)
         → subcommand_rows_of matches.now ≡ Some (name, rows)
         → MatchResult result (IsAsked name rows) (IsFaulty name rows) }
@@ -196,7 +196,7 @@ fn asked_by(alloc: Global, matches: &ArgMatches<'_>) -> Result<Asked, LineFault>
 }
 
 /// Looks the arguments up, of which the first is the program's name.
-pub(crate) fn parse<S: AsStr>(alloc: Global, arguments: &[S]) -> Result<Asked, LineFault>
+pub(crate) fn parse<S: AsStr>(alloc: Global, arguments: &[S]) -> Result<Asked, ArgumentsFault>
     ensures asked { (name : Text) (rows : List Row) → Finds (map S.text arguments.now) name rows
         → MatchResult result (IsAsked name rows) (IsFaulty name rows) }
     ensures named { IfOk result (λ asked.
@@ -206,6 +206,6 @@ pub(crate) fn parse<S: AsStr>(alloc: Global, arguments: &[S]) -> Result<Asked, L
 {
     match command(alloc)?.try_get_matches_from(arguments) {
         Ok(matches) => asked_by(alloc, &matches),
-        Err(error) => Err(LineFault::Clap(error)),
+        Err(error) => Err(ArgumentsFault::Clap(error)),
     }
 }

@@ -13,7 +13,7 @@ ghost use Rattle.subcommands.specs.Merges.{PrintsMerge, ReadsImages, RefusesImag
 ghost use Rattle.subcommands.specs.Refused.{RefusesStream};
 ghost use Rattle.subcommands.specs.Tables.{ReadsLog, PrintsTable};
 
-use crate::asked::{Asked, LineFault, ServeOptions, parse};
+use crate::asked::{ArgumentsFault, Asked, ServeOptions, parse};
 use crate::serving::listen;
 use broker_core::SessionError;
 use clap::Error;
@@ -56,7 +56,7 @@ fn explain<W: Write, E: Write>(error: &Error, out: &mut W, err: &mut E) -> u8
 }
 
 /// Says why a command line asks for nothing, and answers the status.
-fn refuse_line<W: Write, E: Write>(why: &LineFault, out: &mut W, err: &mut E) -> u8
+fn refuse_line<W: Write, E: Write>(why: &ArgumentsFault, out: &mut W, err: &mut E) -> u8
     ensures is_status { (result ≤ 4) × (result ≢ 1) }
     ensures done_complains_of_nothing { result ≡ 0 → err.new ≡ err.old }
     ensures out_of_memory { IsOutOfMemory why.now → result ≡ 3 }
@@ -67,8 +67,8 @@ fn refuse_line<W: Write, E: Write>(why: &LineFault, out: &mut W, err: &mut E) ->
     ensures out_of_memory_prints_nothing { result ≡ 3 → out.new ≡ out.old }
 {
     match why {
-        LineFault::Clap(error) => explain(error, out, err),
-        LineFault::Topic(fault) => refuse_configuration(*fault, err),
+        ArgumentsFault::Clap(error) => explain(error, out, err),
+        ArgumentsFault::Topic(fault) => refuse_configuration(*fault, err),
     }
 }
 

@@ -35,6 +35,7 @@ is one of these. Copies, batches and images are numbered from 0.
   clean COPY UPTO TOMB                   cleans a copy: cleaned RECORDS TOMBSTONES BATCHES
   send COPY                              keeps an image of a copy: image I
   merge COPY IMAGE                       merges an image into a follower: merged
+  trim COPY START                        drops what lies below an offset: trimmed
   table COPY                             prints a line KEY=VALUE for each key, and end
   cover COPY                             prints the ranges of the offsets that were seen, or none
 An ITEM is KEY=VALUE, or KEY to delete the key; %XX is a byte. What is refused prints refused NAME.

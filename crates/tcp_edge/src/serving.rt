@@ -16,7 +16,7 @@ use std::net::{TcpListener, TcpStream};
 use streams::{Sink, Source};
 use subcommands::{DONE, SessionFault, fail_session, refuse_configuration};
 
-/// What a connection's line calls the end of it that is none of its input's.
+/// How a connection's line names what ended it, other than the end of its input.
 fn name_of(why: &SessionError) -> &'static str {
     match why {
         SessionError::Frame { index: _, why: _ } => "Frame",

@@ -5,7 +5,7 @@ ghost use Rattle.broker_state.specs.ConfigValues.{topic_config};
 ghost use Rattle.tcp_edge.specs.Asked.{IsConfigFault};
 ghost use Rattle.tcp_edge.specs.CommandLine.{IsTopic, AddsTopic, AreTopics, HasTopics};
 
-use crate::asked::LineFault;
+use crate::asked::ArgumentsFault;
 use broker_core::{ConfigError, TopicConfig};
 use std::alloc::{AllocError, Global};
 use std::string::String;
@@ -37,19 +37,19 @@ fn add_topic(
     alloc: Global,
     argument: &str,
     topics: &mut Vec<TopicConfig<Global>>,
-) -> Result<(), LineFault>
+) -> Result<(), ArgumentsFault>
     ensures adds { OnOk result (AddsTopic argument.now
         (map topic_config topics.old.items) (map topic_config topics.new.items)) }
     ensures fault { IfErr result (IsConfigFault (argument.now ∷ [])) }
 {
     let (name, partitions) = match read_topic(argument) {
         Ok(read) => read,
-        Err(why) => return Err(LineFault::Topic(why)),
+        Err(why) => return Err(ArgumentsFault::Topic(why)),
     };
     let name = String::from_str(alloc, name)?;
     match topics.push(TopicConfig { name, partitions }) {
         Ok(()) => Ok(()),
-        Err(why) => Err(LineFault::from(AllocError::from(why))),
+        Err(why) => Err(ArgumentsFault::from(AllocError::from(why))),
     }
 }
 
@@ -62,7 +62,7 @@ fn add_topic(
 pub(crate) fn topics_of(
     alloc: Global,
     arguments: &[&str],
-) -> Result<Vec<TopicConfig<Global>>, LineFault>
+) -> Result<Vec<TopicConfig<Global>>, ArgumentsFault>
     ensures reads { IfOk result (λ topics. AreTopics (map (λ word. word.now) arguments.now)
         (map topic_config topics.items)) }
     ensures fault { IfErr result (IsConfigFault (map (λ word. word.now) arguments.now)) }
