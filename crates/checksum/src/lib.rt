@@ -2,6 +2,8 @@
 #![tactic(auto)]
 
 mod crc;
+mod register;
 mod tables;
 
 pub use crc::crc32c;
+pub use register::Crc32c;
