@@ -10,7 +10,7 @@ use Rattle.block_list.specs.Blocks.{joined, starts_of, divided, IsIn}
 
 -- ---- one element more in a block
 
-joined_insert : {X : Type 0} (bs : List (List X)) (k j : ℕ) (x : X) → k < length bs → j ≤ length (get_or bs k [])
+pub joined_insert : {X : Type 0} (bs : List (List X)) (k j : ℕ) (x : X) → k < length bs → j ≤ length (get_or bs k [])
     → joined (set bs k (insert (get_or bs k []) j x)) ≡ insert (joined bs) (length (joined (take k bs)) + j) x
 joined_insert [] k j x lt le = absurd (omega arith)
 joined_insert {X = X} (b ∷ bs) zero j x lt le =

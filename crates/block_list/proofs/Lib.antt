@@ -3,3 +3,4 @@ pub mod Edited
 pub mod PutBack
 pub mod Filled
 pub mod Front
+pub mod Replaced

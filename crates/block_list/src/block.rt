@@ -1,10 +1,11 @@
 //! One block.
 
-ghost use Rattle.std.specs.Prelude.{◌≡◌, ◌<◌, ◌≤◌, [], ◌∷◌, ◌++◌, length, take, drop, IfOk, is_ok, if◌then◌else◌};
-ghost use Rattle.std.specs.List.{insert};
+ghost use Rattle.std.specs.Prelude.{◌≡◌, ◌<◌, ◌≤◌, [], ◌∷◌, ◌++◌, length, take, drop, slice_set, IfOk, is_ok, if◌then◌else◌};
+ghost use Rattle.std.specs.List.{HoldsAt, insert};
 
 use std::alloc::{AllocError, Allocator};
 use std::marker::Model;
+use std::mem;
 
 /// A block with this many elements is full: it is split before one more is inserted.
 pub(crate) const LIMIT: usize = 128;
@@ -82,6 +83,15 @@ impl<T: Drop, A: Allocator + Copy> Block<T, A> {
     {
         self.items.insert(i, x)?;
         Ok(())
+    }
+
+    /// Puts another element in place of one, which it answers. Takes no memory.
+    pub(crate) fn replace(&mut self, i: usize, x: T) -> T
+        requires within { i < length self.old }
+        ensures replaces { self.new ≡ slice_set self.old i x }
+        ensures gives { HoldsAt (λ y. result ≡ y) self.old i }
+    {
+        mem::replace(&mut self.items[i], x)
     }
 
     /// Adds an element at the end.

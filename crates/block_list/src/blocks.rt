@@ -112,6 +112,18 @@ impl<T: Drop, A: Allocator + Copy> Blocks<T, A> {
         Ok(())
     }
 
+    /// Puts another element in place of one, which it answers. Takes no memory.
+    pub(crate) fn replace(&mut self, place: BlockPosition, x: T) -> T
+        requires block { place.block < length self.old }
+        requires within { place.index < length (slice_index_or self.old place.block []) }
+        ensures replaces { self.new ≡ slice_set self.old place.block
+            (slice_set (slice_index_or self.old place.block []) place.index x) }
+        ensures gives { HoldsAt (λ y. result ≡ y)
+            (slice_index_or self.old place.block []) place.index }
+    {
+        self.blocks[place.block].replace(place.index, x)
+    }
+
     /// The last block, if it has room.
     fn last_with_room(&self) -> Option<usize>
         ensures last { IfSome result (λ k. length self.now ≡ k + 1) }

@@ -1,6 +1,6 @@
 //! The list.
 
-ghost use Rattle.std.specs.Prelude.{◌≡◌, ◌<◌, ◌≤◌, [], ◌∷◌, ◌++◌, length, drop, OnOk, OnErr};
+ghost use Rattle.std.specs.Prelude.{◌≡◌, ◌<◌, ◌≤◌, [], ◌∷◌, ◌++◌, length, drop, slice_set, OnOk, OnErr};
 ghost use Rattle.std.specs.List.{HoldsAt, insert};
 ghost use Rattle.block_list.specs.Blocks.{joined};
 
@@ -108,6 +108,16 @@ impl<T: Drop, A: Allocator + Copy> BlockList<T, A> {
         self.blocks.insert(place, x)?;
         self.len = len;
         Ok(())
+    }
+
+    /// Puts another element in place of the one at an index, which it answers. Takes no memory.
+    pub fn replace(&mut self, i: usize, x: T) -> T
+        requires within { i < length self.old }
+        ensures replaces { self.new ≡ slice_set self.old i x }
+        ensures gives { HoldsAt (λ y. result ≡ y) self.old i }
+    {
+        let place = self.blocks.locate(i);
+        self.blocks.replace(place, x)
     }
 
     /// Lets go of the first `count` elements; of all where there are no more. Whole blocks go as they
