@@ -1,7 +1,7 @@
 -- Entries written one after the other.
-use Rattle.std.proofs.Common.{◌≡◌, ℕ, zero, suc, ◌+◌, ◌<◌, ◌≤◌, ℤ, pos, ◌+ℤ◌, List, [], ◌∷◌, ◌++◌, length, map, get_or, take, refl, sym, ap, subst, ◌∙◌, append_assoc, append-nil, arith}
+use Rattle.std.proofs.Common.{◌≡◌, ℕ, ◌+◌, ◌≤◌, ℤ, pos, ◌+ℤ◌, List, [], ◌∷◌, ◌++◌, length, map, refl, sym, ap, subst, ◌∙◌, append_assoc, append-nil, arith}
 use Rattle.std.specs.Prelude.{FitsSigned, ◌≤ℤ◌, Result, Ok, Err, OnOk, is_ok, min, if◌then◌else◌}
-use Rattle.std.specs.List.{AllByRecursion, flat_map, HoldsAt}
+use Rattle.std.specs.List.{AllByRecursion, flat_map}
 use Rattle.std.specs.Int.{w32, w64, cast_signed, cast_unsigned}
 use Rattle.std.proofs.lemmas.Int.{ints, to_z-of_z}
 use Rattle.std.proofs.lemmas.List.{length-map}
@@ -15,7 +15,7 @@ use Rattle.content_laws.proofs.ByOffset.{all_from_at}
 use Rattle.content_laws.proofs.Slots.{bases_rise}
 use Rattle.deltas.proofs.Validity.{covered_within}
 use Rattle.copy_images.specs.declared.layout.TheConstants.{MAX_COUNT}
-use Rattle.copy_images.proofs.Written.{next_written, all_written, count_passed}
+use Rattle.copy_images.proofs.Written.{count_passed}
 use Rattle.deltas.specs.Entries.Entry.{Listed}
 use Rattle.deltas.specs.Deltas.{offsets_of, entry_for}
 use Rattle.delta_bytes.specs.declared.layout.TheConstants.{LISTED}
@@ -90,15 +90,6 @@ pub said_all : (asked : Runs) (bs : List BatchValue) → flat_map (said_bytes as
 said_all asked [] = refl
 said_all asked (b ∷ bs) = ap (λ (y : List ℕ). said_bytes asked b ++ y) (said_all asked bs)
 
--- one more batch
-pub one_said : (asked : Runs) (old out new : List ℕ) (i : ℕ) (bs : List BatchValue) (b x : BatchValue) → i < length bs → out ≡ old ++ flat_map (said_bytes asked) (take i bs)
-    → HoldsAt (λ y. b ≡ y) bs i → new ≡ out ++ said_bytes asked b → new ≡ old ++ flat_map (said_bytes asked) (take (i + 1) bs)
-one_said asked old out new i bs b x low so_far there e =
-    next_written (said_bytes asked) old out new i bs x low so_far (e ∙ ap (λ (y : BatchValue). out ++ said_bytes asked y) (there x))
-
-pub each_said : (asked : Runs) (old out : List ℕ) (i : ℕ) (bs : List BatchValue) → length bs ≤ i → out ≡ old ++ flat_map (said_bytes asked) (take i bs) → out ≡ old ++ flat_map entry_bytes (map (entry_for asked) bs)
-each_said asked old out i bs over so_far = all_written (said_bytes asked) old out i bs over so_far ∙ ap (λ (y : List ℕ). old ++ y) (said_all asked bs)
-
 -- ---- the batches of a copy
 
 -- where a kept batch lies
@@ -115,12 +106,10 @@ placed_each runs (b ∷ bs) canonical keepable seen =
     let high = (covered_within runs (last_offset b) canonical (seen.0 (last_offset b) span (omega (arith, ints)))).1 in
     (record { in_range = (low, high); some = span }, placed_each runs bs canonical keepable.1 seen.1)
 
-pub placed_at : (c : Content) (b : BatchValue) (i : ℕ) → IsContent c → i < length c.kept → HoldsAt (λ y. b ≡ y) c.kept i → IsPlaced b
-placed_at c b i is low there =
-    subst IsPlaced (sym (there b)) (at c.kept i low (placed_each c.cover c.kept is.canonical is.keepable
-    (all_from_at first_offset (λ b. CoversAll c.cover (first_offset b) (last_offset b)) c.start c.kept (bases_rise c is) (λ y e o from to. is.inside (first_offset y) o y e from to))))
-  where
-    at : (bs : List BatchValue) (i : ℕ) → i < length bs → AllByRecursion IsPlaced bs → IsPlaced (get_or bs i b)
-    at [] i lt all = absurd (omega arith)
-    at (x ∷ bs) zero lt all = all.0
-    at (x ∷ bs) (suc i) lt all = at bs i (omega arith) all.1
+pub placed_all : (c : Content) (bs : List BatchValue) → IsContent c → bs ≡ c.kept → AllByRecursion IsPlaced bs
+placed_all c bs is all =
+    subst (AllByRecursion IsPlaced) (sym all) (placed_each c.cover c.kept is.canonical is.keepable
+    (all_from_at first_offset (λ b. CoversAll c.cover (first_offset b) (last_offset b)) c.start c.kept (bases_rise c is) (λ y e o from to. is.inside (first_offset y) o y e from to)))
+
+pub placed_next : (left rest : List BatchValue) (b : BatchValue) → left ≡ b ∷ rest → AllByRecursion IsPlaced left → IsPlaced b × AllByRecursion IsPlaced rest
+placed_next left rest b next all = subst (AllByRecursion IsPlaced) next all

@@ -1,10 +1,9 @@
 -- How many bytes a delta has, counted up to the greatest number that there is.
-use Rattle.std.proofs.Common.{◌≡◌, ℕ, ◌+◌, ◌*◌, ◌<◌, ◌≤◌, ℤ, pos, Bool, true, false, List, [], ◌∷◌, ◌++◌, length, map, get_or, take, refl, sym, ap, ◌∙◌, arith}
+use Rattle.std.proofs.Common.{◌≡◌, ℕ, ◌+◌, ◌*◌, ◌≤◌, ℤ, pos, Bool, true, false, List, [], ◌∷◌, ◌++◌, length, map, refl, sym, ap, ◌∙◌, arith}
 use Rattle.std.specs.Prelude.{min, if◌then◌else◌}
-use Rattle.std.specs.List.{flat_map, HoldsAt}
+use Rattle.std.specs.List.{flat_map}
 use Rattle.std.specs.Int.{w16, w32, w64}
-use Rattle.std.proofs.lemmas.List.{length-append, length-map, take_all, take_more}
-use Rattle.std.proofs.lemmas.Grind.{flat_map-append}
+use Rattle.std.proofs.lemmas.List.{length-append, length-map}
 use Rattle.checksum.specs.Crc.{crc_of}
 use Rattle.batch_codec.specs.Values.{BatchValue}
 use Rattle.batch_codec.specs.Grammar.{fields, signed, batch_encoding}
@@ -62,22 +61,21 @@ said_length asked bs = length (flat_map (said_bytes asked) bs)
 abbrev pub parts_length : Content → Runs → ℕ
 parts_length c asked = 30 + 16 * length c.cover + 16 * length asked
 
-one_more : (asked : Runs) (bs : List BatchValue) (i : ℕ) (b : BatchValue) → i < length bs → said_length asked (take (i + 1) bs) ≡ said_length asked (take i bs) + length (said_bytes asked (get_or bs i b))
-one_more asked bs i b low =
-    let x = get_or bs i b in
-    let split : flat_map (said_bytes asked) (take (i + 1) bs) ≡ flat_map (said_bytes asked) (take i bs) ++ flat_map (said_bytes asked) (x ∷ []) =
-    ap (flat_map (said_bytes asked)) (take_more bs i b low) ∙ flat_map-append (said_bytes asked) (take i bs) (x ∷ []) in
-    let one : length (flat_map (said_bytes asked) (x ∷ [])) ≡ length (said_bytes asked x) + 0 = length-append (said_bytes asked x) [] in
-    omega (arith, ap length split, length-append (flat_map (said_bytes asked) (take i bs)) (flat_map (said_bytes asked) (x ∷ [])), one)
+-- the size so far, and that of the entries for the batches that are left
+abbrev pub Counts : Content → Runs → ℕ → List BatchValue → Type 0
+Counts c asked size left = (size ≤ most) × (min (size + said_length asked left) most ≡ min (parts_length c asked + said_length asked c.kept) most)
 
-pub size_begins : (c : Content) (asked : Runs) (size : ℕ) → size ≡ min (parts_length c asked) most → size ≡ min (parts_length c asked + said_length asked (take 0 c.kept)) most
-size_begins c asked size is = omega (arith, is)
+pub size_begins : (c : Content) (asked : Runs) (size : ℕ) (left : List BatchValue) → size ≡ min (parts_length c asked) most → left ≡ c.kept → Counts c asked size left
+size_begins c asked size left is all =
+    let same : said_length asked left ≡ said_length asked c.kept = ap (said_length asked) all in
+    (omega (arith, is), omega (arith, is, same))
 
-pub size_more : (c : Content) (asked : Runs) (i size new more : ℕ) (b : BatchValue) → i < length c.kept → HoldsAt (λ y. b ≡ y) c.kept i → more ≡ min (length (said_bytes asked b)) most → new ≡ min (size + more) most
-    → size ≡ min (parts_length c asked + said_length asked (take i c.kept)) most → new ≡ min (parts_length c asked + said_length asked (take (i + 1) c.kept)) most
-size_more c asked i size new more b low there counts is before =
-    let len : length (said_bytes asked b) ≡ length (said_bytes asked (get_or c.kept i b)) = ap (λ (y : BatchValue). length (said_bytes asked y)) (there b) in
-    omega (arith, len, counts, is, before, one_more asked c.kept i b low)
+pub size_more : (c : Content) (asked : Runs) (size new more : ℕ) (left rest : List BatchValue) (b : BatchValue) → left ≡ b ∷ rest → more ≡ min (length (said_bytes asked b)) most → new ≡ min (size + more) most
+    → Counts c asked size left → Counts c asked new rest
+size_more c asked size new more left rest b next counts is before =
+    let one : said_length asked left ≡ length (said_bytes asked b) + said_length asked rest =
+    ap (said_length asked) next ∙ length-append (said_bytes asked b) (flat_map (said_bytes asked) rest) in
+    (omega (arith, is), omega (arith, counts, is, one, before.0, before.1))
 
 -- ---- the whole
 
@@ -106,5 +104,7 @@ delta_length c asked =
     let crc_len : length crc ≡ 4 = refl in
     omega (arith, length-append body crc, length-append head (ranges_encoding c.cover ++ others), length-append (ranges_encoding c.cover) others, length-append (ranges_encoding asked) entries, head_len, crc_len, ranges_length c.cover, ranges_length asked, entries_length asked c.kept)
 
-pub size_whole : (c : Content) (asked : Runs) (i size : ℕ) → length c.kept ≤ i → size ≡ min (parts_length c asked + said_length asked (take i c.kept)) most → size ≡ min (length (delta_encoding (delta_of c asked))) most
-size_whole c asked i size over is = is ∙ ap (λ bs. min (parts_length c asked + said_length asked bs) most) (take_all i c.kept over) ∙ ap (λ n. min n most) (sym (delta_length c asked))
+pub size_whole : (c : Content) (asked : Runs) (size : ℕ) (left : List BatchValue) → left ≡ [] → Counts c asked size left → size ≡ min (length (delta_encoding (delta_of c asked))) most
+size_whole c asked size left none counts =
+    let same : said_length asked left ≡ 0 = ap (said_length asked) none in
+    omega (arith, same, counts.0, counts.1, delta_length c asked)

@@ -63,8 +63,9 @@ fn size_with<B: Allocator + Copy, S: BatchStore>(
         18446744073709551615 }
 {
     let mut size = fixed;
-    for i in 0..copy.len() {
-        size = size.saturating_add(entry_size(asked, &copy.at(i)));
+    let mut walk = copy.walk(0);
+    while let Some(batch) = walk.next() {
+        size = size.saturating_add(entry_size(asked, &batch));
     }
     size
 }

@@ -114,8 +114,9 @@ fn put_each<A: Allocator + Copy, B: Allocator + Copy, S: BatchStore>(
     ensures { OnOk result (out.new.items
         ≡ out.old.items ++ flat_map entry_bytes (map (entry_for asked.now.runs) copy.now.kept)) }
 {
-    for i in 0..copy.len() {
-        put_entry(out, asked, &copy.at(i))?;
+    let mut walk = copy.walk(0);
+    while let Some(batch) = walk.next() {
+        put_entry(out, asked, &batch)?;
     }
     Ok(())
 }

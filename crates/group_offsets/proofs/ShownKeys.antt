@@ -1,11 +1,10 @@
 -- A group's keys are found among the group's own records: a record of another group has another key.
-use Rattle.std.proofs.Common.{◌≡◌, ◌<◌, ◌+◌, ℕ, suc, Bool, true, false, cond, not, ◌&&◌, ◌||◌, List, [], ◌∷◌, ◌++◌, map, reverse, take, drop, length, get_or, Option, Some, None, refl, sym, ap, subst, ◌∙◌, true≢false, drop-cons, append_assoc}
+use Rattle.std.proofs.Common.{◌≡◌, ◌<◌, ℕ, suc, Bool, true, false, cond, not, ◌&&◌, ◌||◌, List, [], ◌∷◌, ◌++◌, map, reverse, drop, length, get_or, Option, Some, None, refl, sym, ap, subst, ◌∙◌, true≢false, drop-cons, append_assoc}
 use Rattle.std.specs.Prelude.{is_some, bytes_eq}
 use Rattle.std.specs.List.{list_any, filter_map, cons_option}
 use Rattle.std.specs.Option.{option_map, option_and_then}
-use Rattle.std.proofs.lemmas.List.{append-nil, reverse-append, reverse-reverse, map-append, take_more}
+use Rattle.std.proofs.lemmas.List.{append-nil, reverse-append, reverse-reverse, map-append}
 use Rattle.std.proofs.lemmas.List.Elements.{filter_map-append}
-use Rattle.std.proofs.lemmas.List.Concat.{flat_map-append}
 use Rattle.batch_codec.specs.Values.{RecordValue, BatchValue}
 use Rattle.batch_codec.specs.Offsets.{offset_of}
 use Rattle.content.specs.Records.{LogRecord, log_records, equal_keys}
@@ -102,19 +101,22 @@ module _ (group : List ℕ) where
   batch_entries b [] = refl
   batch_entries b (r ∷ rs) = ap (cons_option (entry_of group r)) (batch_entries b rs)
 
-  pub entries_more : (bs : List BatchValue) (i : ℕ) (b : BatchValue) (old new : List EntryValue) → i < length bs → b ≡ get_or bs i b
-      → new ≡ old ++ entries_of group b.recs → old ≡ log_entries group (log_records (take i bs)) → new ≡ log_entries group (log_records (take (i + 1) bs))
-  entries_more bs i b old new within is step so_far =
+  pub entries_more : (left rest : List BatchValue) (b : BatchValue) (old new all : List EntryValue) → left ≡ b ∷ rest → new ≡ old ++ entries_of group b.recs
+      → old ++ log_entries group (log_records left) ≡ all → new ++ log_entries group (log_records rest) ≡ all
+  entries_more left rest b old new all next step so_far =
       let records : LogRecord → Option EntryValue = λ x. entry_of group x.1 in
       let one : BatchValue → List LogRecord = λ x. map (λ r. (offset_of x r, r)) x.recs in
-      let parts : log_records (take (i + 1) bs) ≡ log_records (take i bs) ++ one b =
-      ap log_records (take_more bs i b within) ∙ flat_map-append one (take i bs) (get_or bs i b ∷ [])
-      ∙ ap (λ (l : List LogRecord). log_records (take i bs) ++ l) (append-nil (one (get_or bs i b)))
-      ∙ ap (λ (x : BatchValue). log_records (take i bs) ++ one x) (sym is) in
-      step
-      ∙ (λ k. so_far k ++ sym (batch_entries b b.recs) k)
-      ∙ sym (filter_map-append records (log_records (take i bs)) (one b))
-      ∙ ap (log_entries group) (sym parts)
+      let parts : log_entries group (log_records (b ∷ rest)) ≡ entries_of group b.recs ++ log_entries group (log_records rest) =
+      filter_map-append records (one b) (log_records rest) ∙ ap (λ (l : List EntryValue). l ++ log_entries group (log_records rest)) (batch_entries b b.recs) in
+      ap (λ (l : List EntryValue). l ++ log_entries group (log_records rest)) step
+      ∙ append_assoc old (entries_of group b.recs) (log_entries group (log_records rest))
+      ∙ ap (λ (l : List EntryValue). old ++ l) (sym parts)
+      ∙ sym (ap (λ (bs : List BatchValue). old ++ log_entries group (log_records bs)) next)
+      ∙ so_far
+
+  pub entries_all : (left : List BatchValue) (old all : List EntryValue) → left ≡ [] → old ++ log_entries group (log_records left) ≡ all → old ≡ all
+  entries_all left old all none so_far =
+      sym (append-nil old) ∙ sym (ap (λ (bs : List BatchValue). old ++ log_entries group (log_records bs)) none) ∙ so_far
 
 -- ---- the second walk
 

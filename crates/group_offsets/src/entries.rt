@@ -84,8 +84,9 @@ pub(crate) fn entries_of<'a, S: BatchStore>(
         map entry_value entries.items ≡ log_entries group.now (log_records log.now.kept)) }
 {
     let mut entries = Vec::new(log.allocator());
-    for i in 0..log.len() {
-        put_batch(&mut entries, &log.at(i), group)?;
+    let mut walk = log.walk(0);
+    while let Some(batch) = walk.next() {
+        put_batch(&mut entries, &batch, group)?;
     }
     Ok(entries)
 }

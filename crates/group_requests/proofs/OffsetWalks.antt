@@ -1,20 +1,23 @@
 -- What a walk back over batches finds of its keys is what the table has of them.
-use Rattle.std.proofs.Common.{◌≡◌, ◌<◌, ◌≤◌, ℕ, ◌+◌, length, Bool, true, false, cond, List, [], ◌∷◌, ◌++◌, take, drop, Option, Some, None, refl, sym, ap, subst, ◌∙◌, true≢false, inl, arith}
+use Rattle.std.proofs.Common.{◌≡◌, ◌<◌, ◌≤◌, ℕ, zero, suc, ◌+◌, ◌-◌, append_assoc, length, Bool, true, false, cond, List, [], ◌∷◌, ◌++◌, take, drop, Option, Some, None, refl, sym, ap, subst, ◌∙◌, true≢false, inl, arith}
 use Rattle.std.specs.Prelude.{ℤ, ◌&&◌, nat_eq, bytes_eq, IfSome, Result, Ok, Err}
 use Rattle.std.specs.Borrow.{Bor}
-use Rattle.std.specs.List.{fold, HoldsAt}
+use Rattle.std.specs.List.{fold, flat_map}
 use Rattle.std.specs.Option.{option_map}
 use Rattle.std.specs.FinMap as finite
 use Rattle.std.specs.Cmp.Lexicographic.{bytes_decides, nat_list_eq_equiv}
 use Rattle.std.specs.Map.{lookup, KeepsOthers}
-use Rattle.std.proofs.lemmas.List.{take-append-drop}
+use Rattle.std.proofs.lemmas.List.{take-append-drop, append-nil}
+use Rattle.std.proofs.lemmas.List.Concat.{flat_map-append}
+use Rattle.std.proofs.lemmas.List.Sums.{fold-append}
 use Rattle.std.proofs.lemmas.Option.{same_Some}
 use Rattle.batch_codec.specs.Values.{RecordValue, BatchValue}
 use Rattle.content.specs.Records.{log_records, equal_keys}
-use Rattle.content.specs.Table.{Table, table_of}
+use Rattle.content.specs.Table.{Table, with_record, with_records, table_of}
 use Rattle.content.specs.Content.{shown_table}
-use Rattle.partition_log.specs.Newest.{value_of, newest, newest_of}
-use Rattle.partition_log.proofs.Newest.{found_in, not_found_in, nothing_found}
+use Rattle.partition_log.specs.Newest.{value_of, newest, newest_of, over, shown_by}
+use Rattle.partition_log.proofs.Latest.{table_of-push}
+use Rattle.partition_log.proofs.Newest.{get_records, nothing_found}
 use Rattle.group_offsets.specs.declared.values.Committed.{Committed}
 use Rattle.group_offsets.specs.declared.error.GroupError.TheVariants.{NameTooLong}
 use Rattle.group_offsets.specs.Keys.{GroupKeyValue, IsName, group_key_bytes}
@@ -27,7 +30,7 @@ use Rattle.group_requests.specs.OffsetFetch.{offset_fetch_fault}
 use Rattle.group_requests.specs.OffsetFetch.Entries.{ShowsAt, ReadsAs, LooksUpAt}
 use Rattle.group_requests.specs.declared.offset_fetch.walk.Latest.{Latest}
 use Rattle.group_requests.specs.declared.offset_fetch.walk.CommitWalk.{CommitWalk}
-use Rattle.group_requests.specs.OffsetFetch.Walks.{Slot, slot_value, filled_with, filled, slot_at, Tells, Knows}
+use Rattle.group_requests.specs.OffsetFetch.Walks.{Slot, slot_value, filled_with, filled, slot_at, stretch_records, Tells, Knows}
 
 -- ---- bytes behind a front
 
@@ -139,10 +142,7 @@ opened i key found (r ∷ rs) = ap (λ (slot : Slot). fold (filled i key) slot r
 
 -- ---- the walk
 
-abbrev shown_by : List ℕ → List BatchValue → Option (List ℕ)
-shown_by key bs = finite.get (table_of (log_records bs)) key
-
--- what a slot says, once all batches from an index on were walked
+-- what a slot says, once all batches from an index on were walked, which starts a stretch
 abbrev pub Says : List BatchValue → ℕ → List ℕ → Slot → Type 0
 Says bs i key None = shown_by key (take i bs) ≡ shown_by key bs
 Says bs i key (Some f) = (i ≤ f.0) × (f.1 ≡ shown_by key bs)
@@ -154,20 +154,45 @@ take_whole (b ∷ bs) = λ i. b ∷ take_whole bs i
 pub says_first : (bs : List BatchValue) (i : ℕ) (key : List ℕ) (slot : Slot) → i ≡ length bs → slot ≡ None → Says bs i key slot
 says_first bs i key slot all none = subst (Says bs i key) (sym none) (ap (λ (n : ℕ). shown_by key (take n bs)) all ∙ ap (shown_by key) (take_whole bs))
 
-apart : (i end n : ℕ) → end ≡ i + 1 → end ≤ n → (nat_eq n i ≡ false) × (i ≤ n)
-apart i end n next le = (grind arith, omega arith)
+-- what a key has, by the batches before a stretch and by the stretch
+table_more : (front middle : List BatchValue) → table_of (log_records (front ++ middle)) ≡ with_records (table_of (log_records front)) (flat_map (λ (b : BatchValue). b.recs) middle)
+table_more front [] = ap (λ (bs : List BatchValue). table_of (log_records bs)) (append-nil front)
+table_more front (b ∷ middle) =
+    ap (λ (bs : List BatchValue). table_of (log_records bs)) (sym (append_assoc front (b ∷ []) middle)) ∙ table_more (front ++ b ∷ []) middle
+    ∙ ap (λ (t : Table). with_records t (flat_map (λ (x : BatchValue). x.recs) middle)) (table_of-push front b)
+    ∙ sym (fold-append with_record (table_of (log_records front)) b.recs (flat_map (λ (x : BatchValue). x.recs) middle))
 
--- a batch more, from the newest end
-pub says_more : (bs : List BatchValue) (b : BatchValue) (i end : ℕ) (key : List ℕ) (was slot : Slot) → i < length bs → end ≡ i + 1 → HoldsAt (λ (x : BatchValue). b ≡ x) bs i
-    → slot ≡ fold (filled i key) was b.recs → Says bs end key was → Says bs i key slot
-says_more bs b i end key (Some f) slot there next is same so_far =
-    let shut = apart i end f.0 next so_far.0 in
-    subst (Says bs i key) (sym (same ∙ closed i key f b.recs shut.0)) (shut.1, so_far.1)
-says_more bs b i end key None slot there next is same so_far = subst (Says bs i key) (sym (same ∙ opened i key None b.recs)) (by (newest_of key b.recs) refl)
+take_parts : (start more : ℕ) (bs : List BatchValue) → take (start + more) bs ≡ take start bs ++ take more (drop start bs)
+take_parts zero more bs = let none : 0 + more ≡ more = omega arith in ap (λ (n : ℕ). take n bs) none
+take_parts (suc start) zero [] = let next : suc start + zero ≡ suc (start + zero) = omega arith in ap (λ (n : ℕ). take {A = BatchValue} n []) next
+take_parts (suc start) (suc more) [] = let next : suc start + suc more ≡ suc (start + suc more) = omega arith in ap (λ (n : ℕ). take {A = BatchValue} n []) next
+take_parts (suc start) more (b ∷ bs) =
+    let next : suc start + more ≡ suc (start + more) = omega arith in
+    ap (λ (n : ℕ). take n (b ∷ bs)) next ∙ ap (λ (xs : List BatchValue). b ∷ xs) (take_parts start more bs)
+
+shown_stretch : (bs : List BatchValue) (start end : ℕ) (key : List ℕ) → start ≤ end → shown_by key (take end bs) ≡ over (newest_of key (stretch_records start end bs)) (shown_by key (take start bs))
+shown_stretch bs start end key le =
+    let middle : List BatchValue = take (end - start) (drop start bs) in
+    let sum : end ≡ start + (end - start) = omega (arith, le) in
+    ap (λ (n : ℕ). shown_by key (take n bs)) sum ∙ ap (shown_by key) (take_parts start (end - start) bs)
+    ∙ ap (λ (t : Table). finite.get t key) (table_more (take start bs) middle)
+    ∙ get_records (table_of (log_records (take start bs))) (shown_by key (take start bs)) key None (flat_map (λ (b : BatchValue). b.recs) middle) refl
+
+apart : (start end n : ℕ) → start < end → end ≤ n → (nat_eq n start ≡ false) × (start ≤ n)
+apart start end n lt le = (grind arith, omega arith)
+
+-- a stretch more, from the newest end
+pub says_more : (bs : List BatchValue) (start end : ℕ) (key : List ℕ) (was slot : Slot) → start < end
+    → slot ≡ fold (filled start key) was (stretch_records start end bs) → Says bs end key was → Says bs start key slot
+says_more bs start end key (Some f) slot lt same so_far =
+    let shut = apart start end f.0 lt so_far.0 in
+    subst (Says bs start key) (sym (same ∙ closed start key f (stretch_records start end bs) shut.0)) (shut.1, so_far.1)
+says_more bs start end key None slot lt same so_far =
+    subst (Says bs start key) (sym (same ∙ opened start key None (stretch_records start end bs))) (by (newest_of key (stretch_records start end bs)) (shown_stretch bs start end key (omega arith)))
   where
-    by : (found : Option (Option (List ℕ))) → newest_of key b.recs ≡ found → Says bs i key (at_batch i found)
-    by None e = not_found_in bs b i end key (newest_of key b.recs) there next is refl e so_far
-    by (Some value) e = (omega arith, found_in bs b i end key (newest_of key b.recs) value there next is refl e so_far)
+    by : (found : Option (Option (List ℕ))) → shown_by key (take end bs) ≡ over found (shown_by key (take start bs)) → Says bs start key (at_batch start found)
+    by None e = sym e ∙ so_far
+    by (Some value) e = (omega arith, sym e ∙ so_far)
 
 pub says_last : (bs : List BatchValue) (end : ℕ) (key : List ℕ) (slot : Slot) (whole : Bool) → (whole ≡ true → end ≡ 0) → Says bs end key slot → Tells whole (table_of (log_records bs)) key slot
 says_last bs end key (Some f) whole at says = says.1
@@ -194,14 +219,26 @@ batch_more i front front' rest r left next all new now start same split step so_
 pub batch_all : (i : ℕ) (key : List ℕ) (left all : List RecordValue) (now start : Option Slot) → left ≡ [] → SeesAll i key left now ≡ SeesAll i key all start → now ≡ SeesAll i key all start
 batch_all i key left all now start none so_far = sees_none i key now ∙ ap (λ (rs : List RecordValue). SeesAll i key rs now) (sym none) ∙ so_far
 
-pub walk_more : (bs : List BatchValue) (b : BatchValue) (i end : ℕ) (front front' rest : List ℕ) (old new : Option Slot) (slot : Slot) → i < length bs → end ≡ i + 1 → HoldsAt (λ (x : BatchValue). b ≡ x) bs i
-    → front' ≡ front → new ≡ SeesAll i (front ++ rest) b.recs old → ((was : Slot) → old ≡ Some was → Says bs end (front ++ rest) was) → new ≡ Some slot → Says bs i (front' ++ rest) slot
-walk_more bs b i end front front' rest old new slot there next is same seen so_far at =
-    subst (λ (f : List ℕ). Says bs i (f ++ rest) slot) (sym same) (by old so_far (sym seen ∙ at))
+-- a batch more of a stretch
+pub stretch_more : (start : ℕ) (key : List ℕ) (front more : List BatchValue) (b : BatchValue) (new now old : Option Slot) → more ≡ front ++ b ∷ []
+    → new ≡ SeesAll start key b.recs now → now ≡ SeesAll start key (flat_map (λ (x : BatchValue). x.recs) front) old → new ≡ SeesAll start key (flat_map (λ (x : BatchValue). x.recs) more) old
+stretch_more start key front more b new now old next step so_far =
+    let records : flat_map (λ (x : BatchValue). x.recs) more ≡ flat_map (λ (x : BatchValue). x.recs) front ++ b.recs =
+    ap (flat_map (λ (x : BatchValue). x.recs)) next ∙ flat_map-append (λ (x : BatchValue). x.recs) front (b ∷ []) ∙ ap (λ (rs : List RecordValue). flat_map (λ (x : BatchValue). x.recs) front ++ rs) (append-nil b.recs) in
+    step ∙ ap (SeesAll start key b.recs) so_far ∙ by old ∙ sym (ap (λ (rs : List RecordValue). SeesAll start key rs old) records)
   where
-    by : (o : Option Slot) → ((was : Slot) → o ≡ Some was → Says bs end (front ++ rest) was) → SeesAll i (front ++ rest) b.recs o ≡ Some slot → Says bs i (front ++ rest) slot
+    by : (o : Option Slot) → SeesAll start key b.recs (SeesAll start key (flat_map (λ (x : BatchValue). x.recs) front) o) ≡ SeesAll start key (flat_map (λ (x : BatchValue). x.recs) front ++ b.recs) o
+    by None = refl
+    by (Some slot) = ap (λ (s : Slot). Some s) (sym (fold-append (filled start key) slot (flat_map (λ (x : BatchValue). x.recs) front) b.recs))
+
+pub walk_more : (bs : List BatchValue) (start end : ℕ) (front front' rest : List ℕ) (old new : Option Slot) (slot : Slot) → start < end
+    → front' ≡ front → new ≡ SeesAll start (front ++ rest) (stretch_records start end bs) old → ((was : Slot) → old ≡ Some was → Says bs end (front ++ rest) was) → new ≡ Some slot → Says bs start (front' ++ rest) slot
+walk_more bs start end front front' rest old new slot lt same seen so_far at =
+    subst (λ (f : List ℕ). Says bs start (f ++ rest) slot) (sym same) (by old so_far (sym seen ∙ at))
+  where
+    by : (o : Option Slot) → ((was : Slot) → o ≡ Some was → Says bs end (front ++ rest) was) → SeesAll start (front ++ rest) (stretch_records start end bs) o ≡ Some slot → Says bs start (front ++ rest) slot
     by None says e = absurd cc
-    by (Some was) says e = says_more bs b i end (front ++ rest) was slot there next is (sym (same_Some _ _ e)) (says was refl)
+    by (Some was) says e = says_more bs start end (front ++ rest) was slot lt (sym (same_Some _ _ e)) (says was refl)
 
 -- a key that is looked for, as the map's entries tell
 pub noted : {K : Type 0} (items : K → List ℕ) (eq : K → K → Bool) → ((x y : K) → eq x y ≡ bytes_eq (items x) (items y)) → (i : ℕ) (front front' rest key q : List ℕ) (r : RecordValue) (old new : List (K × Option Latest)) (was now : Option Latest)

@@ -1,9 +1,9 @@
 -- What a copy keeps lies within the offsets.
-use Rattle.std.proofs.Common.{◌≡◌, ℕ, zero, suc, ◌<◌, ◌^◌, ℤ, pos, [], ◌∷◌, length, get_or, drop, Some, sym, ap, subst, ◌∙◌, arith}
+use Rattle.std.proofs.Common.{◌≡◌, ℕ, zero, suc, ◌+◌, ◌^◌, ℤ, pos, [], ◌∷◌, ◌++◌, drop, Option, Some, None, refl, sym, ap, ◌∙◌, arith}
 use Rattle.std.specs.Prelude.{◌≤ℤ◌, ◌<ℤ◌}
-use Rattle.std.specs.List.{AllByRecursion, HoldsAt}
+use Rattle.std.specs.List.{AllByRecursion}
 use Rattle.std.proofs.lemmas.Int.{ints}
-use Rattle.std.proofs.lemmas.List.{drop_more}
+use Rattle.std.specs.Option.{option_to_list, is_some, MatchOption}
 use Rattle.batch_codec.specs.Values.{BatchValue}
 use Rattle.batch_codec.specs.Offsets.{first_offset, last_offset}
 use Rattle.content.specs.ByOffset.{look_up}
@@ -13,7 +13,6 @@ use Rattle.content_laws.proofs.ByOffset.{look_up-offset, all_from_at}
 use Rattle.content_laws.proofs.Batches.{Batches}
 use Rattle.content_laws.proofs.Slots.{bases_rise, kept_ends}
 use Rattle.partition_log.proofs.Behind.{below_end, end_within}
-use Rattle.partition_log.proofs.Stamps.{in_range_at}
 use Rattle.side_by_side.specs.Steps.{first_batch, HasSpan}
 
 pub kept_in_range : (c : Content) (o : ℤ) (x : BatchValue) → IsContent c → look_up first_offset o c.kept ≡ Some x → IsInRange x
@@ -37,25 +36,40 @@ kept_in_range c o x is there = (omega (arith, ints, low, least, base), omega (ar
     most : end c ≤ℤ pos (2 ^ 62)
     most = end_within c is
 
-pub found_in_range : (c : Content) (x : BatchValue) (i : ℕ) → IsContent c → i < length c.kept → HoldsAt (λ b. x ≡ b) c.kept i → IsInRange x
-found_in_range c x i is there at = in_range_at c.kept x i there at
-    (all_from_at first_offset IsInRange c.start c.kept (bases_rise c is) (λ z e. kept_in_range c (first_offset z) z is e))
-
--- ---- the batch at an index
-
-pub batch_found : (bs : Batches) (x : BatchValue) (i : ℕ) → i < length bs → HoldsAt (λ b. x ≡ b) bs i → Some x ≡ first_batch (drop i bs)
-batch_found bs x i there is = sym (ap first_batch (drop_more bs i x there) ∙ ap Some (sym (is x)))
-
-all_at_index : (P : BatchValue → Type 0) (bs : Batches) (y : BatchValue) (i : ℕ) → i < length bs → AllByRecursion P bs → P (get_or bs i y)
-all_at_index P [] y i there all = absurd (omega (arith, there))
-all_at_index P (b ∷ bs) y zero there all = all.0
-all_at_index P (b ∷ bs) y (suc i) there all = all_at_index P bs y i (omega (arith, there)) all.1
-
-pub found_keepable : (c : Content) (x : BatchValue) (i : ℕ) → IsContent c → i < length c.kept → HoldsAt (λ b. x ≡ b) c.kept i → IsKeepable x
-found_keepable c x i is there at = subst IsKeepable (sym (at x)) (all_at_index IsKeepable c.kept x i there is.keepable)
+-- ---- all that a copy keeps has spans
 
 keepable_span : (x : BatchValue) → IsKeepable x → first_offset x ≤ℤ last_offset x
 keepable_span x keepable = let least : pos 0 ≤ℤ x.head.last_delta = keepable.0.valid.last_delta in omega (arith, ints, least)
 
-pub found_span : (c : Content) (x : BatchValue) (i : ℕ) → IsContent c → i < length c.kept → HoldsAt (λ b. x ≡ b) c.kept i → HasSpan x
-found_span c x i is there at = (found_in_range c x i is there at, keepable_span x (found_keepable c x i is there at))
+have_spans : (bs : Batches) → AllByRecursion IsInRange bs → AllByRecursion IsKeepable bs → AllByRecursion HasSpan bs
+have_spans [] ranges keepable = tt
+have_spans (b ∷ bs) ranges keepable = ((ranges.0, keepable_span b keepable.0), have_spans bs ranges.1 keepable.1)
+
+pub all_have_spans : (c : Content) → IsContent c → AllByRecursion HasSpan c.kept
+all_have_spans c is =
+    have_spans c.kept (all_from_at first_offset IsInRange c.start c.kept (bases_rise c is) (λ z e. kept_in_range c (first_offset z) z is e)) is.keepable
+
+-- ---- the batch that comes next, and those behind it
+
+pub shown : (next : Option BatchValue) (old new : Batches) → MatchOption next ((old ≡ []) × (new ≡ [])) (λ b. old ≡ b ∷ new) → option_to_list next ++ new ≡ old
+shown None old new gives = gives.1 ∙ sym gives.0
+shown (Some b) old new gives = sym gives
+
+pub none_behind : (next : Option BatchValue) (old new : Batches) → MatchOption next ((old ≡ []) × (new ≡ [])) (λ b. old ≡ b ∷ new) → next ≡ None → new ≡ []
+none_behind None old new gives none = gives.1
+none_behind (Some b) old new gives none = absurd (grind (arith, none))
+
+pub some_first : (next : Option BatchValue) (behind shown : Batches) → (next ≡ None → behind ≡ []) → option_to_list next ++ behind ≡ shown → is_some next ≡ is_some (first_batch shown)
+some_first None behind shown none view = ap (λ (bs : Batches). is_some (first_batch bs)) (sym (none refl) ∙ view)
+some_first (Some b) behind shown none view = ap (λ (bs : Batches). is_some (first_batch bs)) view
+
+drop_drop : (i : ℕ) (bs : Batches) → drop 1 (drop i bs) ≡ drop (i + 1) bs
+drop_drop zero bs = refl
+drop_drop (suc i) [] = let more : suc i + 1 ≡ suc (i + 1) = omega arith in sym (ap (λ (n : ℕ). drop {A = BatchValue} n []) more)
+drop_drop (suc i) (b ∷ bs) =
+    let more : suc i + 1 ≡ suc (i + 1) = omega arith in
+    drop_drop i bs ∙ sym (ap (λ (n : ℕ). drop n (b ∷ bs)) more)
+
+pub one_passed : (i : ℕ) (bs now new : Batches) → now ≡ drop i bs → new ≡ drop 1 now → new ≡ drop (i + 1) bs
+one_passed i bs now new is passed =
+    passed ∙ ap (drop 1) is ∙ drop_drop i bs

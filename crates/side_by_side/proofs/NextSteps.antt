@@ -1,6 +1,6 @@
 -- Whether something comes next of batches and entries, and how much of them is passed.
-use Rattle.std.proofs.Common.{◌≡◌, ℕ, ◌+◌, ◌-◌, ◌≤◌, ◌<◌, Bool, true, false, not, [], ◌∷◌, length, drop, Some, refl, sym, ap, arith}
-use Rattle.std.specs.Prelude.{int_lt, nat_lt, is_some, ◌||◌}
+use Rattle.std.proofs.Common.{◌≡◌, ℕ, ◌+◌, ◌≤◌, ◌<◌, Bool, true, false, not, [], ◌∷◌, length, drop, Some, refl, sym, ap, arith}
+use Rattle.std.specs.Prelude.{int_lt, is_some, ◌||◌}
 use Rattle.std.proofs.lemmas.List.{length-drop}
 use Rattle.batch_codec.specs.Values.{BatchValue}
 use Rattle.batch_codec.specs.Offsets.{first_offset}
@@ -19,13 +19,6 @@ not_done x e false false = refl
 
 pub both_left : (x : BatchValue) (e : Entry) → is_done (next_by (Some x) (Some e)) ≡ false
 both_left x e = not_done x e (int_lt (first_offset x) (entry_base e)) (int_lt (entry_base e) (first_offset x))
-
-pub some_at : (bs : Batches) (i n : ℕ) → n ≡ length bs → nat_lt i n ≡ is_some (first_batch (drop i bs))
-some_at bs i n is = by (drop i bs) (length-drop i bs)
-  where
-    by : (us : Batches) → length us ≡ length bs - i → nat_lt i n ≡ is_some (first_batch us)
-    by [] e = grind (arith, is, e)
-    by (u ∷ us) e = grind (arith, is, e)
 
 pub some_left : (xs : Batches) (es : Entries) → (is_some (first_batch xs) || is_some (first_entry es)) ≡ not (is_done (next_of xs es))
 some_left [] [] = refl

@@ -8,7 +8,7 @@ ghost use Rattle.side_by_side.specs.Steps.{first_batch, HasSpan};
 use crate::telling::Telling;
 use batch_codec::BatchView;
 use delta_bytes::entries::EntryView;
-use partition_log::PartitionLog;
+use partition_log::{KeptWalk, PartitionLog};
 use segment::BatchStore;
 use std::marker::Model;
 
@@ -22,20 +22,25 @@ pub fn know_content<S: BatchStore>(copy: &PartitionLog<S>)
 /// The batches that a copy keeps, from one of them on, by rising base offset.
 #[derive(Drop)]
 pub struct KeptBatches<'a, S: BatchStore> {
-    copy: &'a PartitionLog<S>,
-    /// How many of the copy's batches lie behind.
-    passed: usize,
+    /// The batch that comes next, which the walk has passed.
+    first: Option<BatchView<'a>>,
+    walk: KeptWalk<'a, S>,
 }
 
 impl<'a, S: BatchStore> Model for KeptBatches<'a, S> {
-    ghost use Rattle.std.specs.Prelude.{◌≤◌, List, drop, length};
+    ghost use Rattle.std.specs.Prelude.{◌≡◌, List, [], ◌++◌, None, option_to_list};
+    ghost use Rattle.std.specs.List.{AllByRecursion};
     ghost use Rattle.batch_codec.specs.Values.{BatchValue};
+    ghost use Rattle.content.specs.Records.{IsKeepable};
+    ghost use Rattle.side_by_side.specs.Steps.{HasSpan};
 
     ghost Value = { List BatchValue };
 
-    ghost view = { λ k. drop k.passed k.copy.now.kept };
+    ghost view = { λ k. option_to_list k.first ++ k.walk };
 
-    ghost invariant = { λ k. k.passed ≤ length k.copy.now.kept };
+    ghost invariant = { λ k. (k.first ≡ None → k.walk ≡ [])
+        × AllByRecursion HasSpan (option_to_list k.first ++ k.walk)
+        × AllByRecursion IsKeepable (option_to_list k.first ++ k.walk) };
 }
 
 impl<'a, S: BatchStore> KeptBatches<'a, S> {
@@ -44,17 +49,17 @@ impl<'a, S: BatchStore> KeptBatches<'a, S> {
         ensures all { result ≡ copy.now.kept }
         ensures is_content { IsContent copy.now }
     {
-        // For its contract: the content is valid.
-        know_content(copy);
-        KeptBatches { copy, passed: 0 }
+        let mut walk = copy.walk(0);
+        let first = walk.next();
+        KeptBatches { first, walk }
     }
 
     /// Whether a batch is left.
-    #[tactic(auto, using(crate::proofs::NextSteps::some_at))]
+    #[tactic(auto, using(crate::proofs::KeptRange::some_first))]
     pub(crate) fn has_batch(&self) -> bool
         ensures { result ≡ is_some (first_batch self.now) }
     {
-        self.passed < self.copy.len()
+        self.first.is_some()
     }
 
     /// The batch that comes next, if there is one.
@@ -63,17 +68,26 @@ impl<'a, S: BatchStore> KeptBatches<'a, S> {
         ensures span { IfSome result HasSpan }
         ensures keepable { IfSome result IsKeepable }
     {
-        if self.passed < self.copy.len() {
-            return Some(self.copy.at(self.passed));
+        match &self.first {
+            Some(batch) => Some(BatchView::open(batch.bytes())),
+            None => None,
         }
-        None
+    }
+
+    /// Passes a batch, if there is one.
+    fn pass_batch(&mut self)
+        ensures { self.new ≡ drop 1 self.old }
+    {
+        self.first = self.walk.next();
     }
 
     /// Passes that many batches; all where there are no more.
     pub(crate) fn pass_batches(&mut self, count: usize)
         ensures { self.new ≡ drop count self.old }
     {
-        self.passed = self.passed.saturating_add(count).min(self.copy.len());
+        for _passed in 0..count {
+            self.pass_batch();
+        }
     }
 }
 

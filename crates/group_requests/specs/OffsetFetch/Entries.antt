@@ -19,7 +19,7 @@ use Rattle.group_requests.specs.declared.offset_fetch.entry.Fetched.{Fetched}
 use Rattle.group_requests.specs.declared.offset_fetch.entry.Fetching.{Fetching}
 
 -- the walk, if there was memory for it, is one over the broker's group partition
-pub record HasWalked {S A : Type 0} (f : Fetching S A) : Type 0 where
+pub record HasWalked {S A C : Type 0} (f : Fetching S A C) : Type 0 where
   pub knows : IfOk f.walk (Knows (shown_table (group_content f.state.now)))
 
 -- the value that the group partition shows of a partition's key, which has an encoding

@@ -1,25 +1,25 @@
 -- What a walk back over the batches of a partition says of the keys that it looks for. Words of private clauses.
-use Rattle.std.specs.Prelude.{◌≡◌, ℕ, Bool, true, nat_eq, bytes_eq, List, ◌++◌, Option, Some, None, if◌then◌else◌}
-use Rattle.std.specs.List.{fold}
+use Rattle.std.specs.Prelude.{◌≡◌, ℕ, ◌-◌, Bool, true, nat_eq, bytes_eq, List, ◌++◌, take, drop, Option, Some, None, if◌then◌else◌}
+use Rattle.std.specs.List.{fold, flat_map}
 use Rattle.std.specs.Option.{option_map}
 use Rattle.std.specs.FinMap as finite
 use Rattle.std.specs.declared.vec.Vec.{Vec}
 use Rattle.indexmap.specs.IndexMap as index
-use Rattle.batch_codec.specs.Values.{RecordValue}
+use Rattle.batch_codec.specs.Values.{RecordValue, BatchValue}
 use Rattle.content.specs.Records.{equal_keys}
 use Rattle.content.specs.Table.{Table}
 use Rattle.partition_log.specs.Newest.{value_of}
 use Rattle.group_requests.specs.declared.offset_fetch.walk.Latest.{Latest}
 use Rattle.group_requests.specs.declared.offset_fetch.walk.CommitWalk.{CommitWalk}
 
--- what was found of a key: the index of a batch, and the key's latest value in it
+-- what was found of a key: the index at which a stretch of batches starts, and the key's latest value in it
 abbrev pub Slot : Type 0
 Slot = Option (ℕ × Option (List ℕ))
 
 abbrev pub slot_value : Option Latest → Slot
-slot_value slot = option_map (λ f. (f.batch, value_of f.value)) slot
+slot_value slot = option_map (λ f. (f.stretch, value_of f.value)) slot
 
--- whether nothing was found, or only in that batch
+-- whether nothing was found, or only in that stretch
 abbrev pub is_open : ℕ → Slot → Bool
 is_open i None = true
 is_open i (Some f) = nat_eq f.0 i
@@ -27,7 +27,7 @@ is_open i (Some f) = nat_eq f.0 i
 abbrev pub filled_with : ℕ → Option (List ℕ) → Slot → Slot
 filled_with i value slot = if is_open i slot then Some (i, value) else slot
 
--- after a record of a batch
+-- after a record of a stretch
 abbrev pub filled : ℕ → List ℕ → Slot → RecordValue → Slot
 filled i key slot r = if equal_keys r.key (Some key) then filled_with i r.value slot else slot
 
@@ -38,7 +38,11 @@ slot_in slots rest = option_map slot_value (index.get_by (λ key. bytes_eq rest 
 abbrev pub slot_at : {A : Type 0} → CommitWalk A → List ℕ → Option Slot
 slot_at w rest = slot_in w.slots rest
 
--- all keys see the records of a batch
+-- the records of the batches from one index to before another
+abbrev pub stretch_records : ℕ → ℕ → List BatchValue → List RecordValue
+stretch_records start end bs = flat_map (λ (b : BatchValue). b.recs) (take (end - start) (drop start bs))
+
+-- all keys see the records of a stretch
 pub record Fills {A : Type 0} (i : ℕ) (rs : List RecordValue) (old new : CommitWalk A) : Type 0 where
   pub front : new.front.items ≡ old.front.items
   pub slots : (rest : List ℕ) → slot_at new rest ≡ option_map (λ slot. fold (filled i (old.front.items ++ rest)) slot rs) (slot_at old rest)

@@ -1,12 +1,12 @@
 //! A walk over a partition from its newest batch back, which looks for the latest values of some keys.
 
-ghost use Rattle.std.specs.Prelude.{◌≡◌, [], ◌∷◌, OnOk, IfSome};
+ghost use Rattle.std.specs.Prelude.{◌≡◌, ◌≤◌, [], ◌∷◌, length, OnOk, IfSome};
 ghost use Rattle.std.specs.FinMap as finite;
 ghost use Rattle.batch_codec.specs.Views.{record_value};
 ghost use Rattle.content.specs.Content.{shown_table};
 ghost use Rattle.content.specs.Table.{Table};
 ghost use Rattle.partition_log.specs.Newest.{value_of};
-ghost use Rattle.group_requests.specs.OffsetFetch.Walks.{slot_value, filled_with, Fills, HasNone, Knows};
+ghost use Rattle.group_requests.specs.OffsetFetch.Walks.{slot_value, filled_with, stretch_records, Fills, HasNone, Knows};
 
 use batch_codec::{BatchView, RecordView};
 use indexmap::IndexMap;
@@ -15,10 +15,10 @@ use segment::BatchStore;
 use std::alloc::{AllocError, Allocator};
 use std::hash::{BuildHasherDefault, FoldHasher};
 
-/// The latest value of a key, and the index of the batch that has it.
+/// The latest value of a key, and the index at which the stretch of batches starts that has it.
 #[derive(Clone, Copy)]
 pub(crate) struct Latest<'n> {
-    pub(crate) batch: usize,
+    pub(crate) stretch: usize,
     pub(crate) value: Option<&'n [u8]>,
 }
 
@@ -37,10 +37,10 @@ pub(crate) struct CommitWalk<'n, A: Allocator + Copy> {
     is_whole: bool,
 }
 
-/// Takes what was found in a batch for the latest value, unless a newer batch has one. Whether it is the
+/// Takes what was found in a batch for the latest value, unless a newer stretch has one. Whether it is the
 /// first that was found.
 fn fill<'n>(slot: &mut Option<Latest<'n>>, found: Latest<'n>) -> bool
-    ensures { slot_value slot.new ≡ filled_with found.entry.batch (value_of found.entry.value) (slot_value slot.old) }
+    ensures { slot_value slot.new ≡ filled_with found.entry.stretch (value_of found.entry.value) (slot_value slot.old) }
 {
     match *slot {
         None => {
@@ -48,7 +48,7 @@ fn fill<'n>(slot: &mut Option<Latest<'n>>, found: Latest<'n>) -> bool
             true
         }
         Some(newer) => {
-            if newer.batch == found.batch {
+            if newer.stretch == found.stretch {
                 *slot = Some(found);
             }
             false
@@ -84,9 +84,9 @@ impl<'n, A: Allocator + Copy> CommitWalk<'n, A> {
         Ok(())
     }
 
-    /// Looks at a record of the batch at that index.
-    fn note(&mut self, rec: &RecordView<'n>, batch: usize)
-        ensures { Fills batch (record_value rec.now ∷ []) self.old self.new }
+    /// Looks at a record of a batch, whose stretch starts at that index.
+    fn note(&mut self, rec: &RecordView<'n>, stretch: usize)
+        ensures { Fills stretch (record_value rec.now ∷ []) self.old self.new }
     {
         let Some(key) = rec.key else {
             return;
@@ -97,7 +97,7 @@ impl<'n, A: Allocator + Copy> CommitWalk<'n, A> {
         let value = rec.value;
         match self.slots.get_mut(rest) {
             Some(slot) => {
-                if fill(slot, Latest { batch, value }) {
+                if fill(slot, Latest { stretch, value }) {
                     self.left = self.left.saturating_sub(1);
                 }
             }
@@ -105,7 +105,7 @@ impl<'n, A: Allocator + Copy> CommitWalk<'n, A> {
         }
     }
 
-    /// Looks at the records of the batch at that index.
+    /// Looks at the records of a batch, whose stretch starts at that index.
     fn note_batch(&mut self, batch: &BatchView<'n>, index: usize)
         ensures { Fills index batch.now.recs self.old self.new }
     {
@@ -114,14 +114,31 @@ impl<'n, A: Allocator + Copy> CommitWalk<'n, A> {
         }
     }
 
-    /// Walks from the newest batch back, until each key was found.
+    /// Looks at the records of the batches from one index to before another. What is found in any of them
+    /// counts as found at the first, so that a later one among them has the latest value.
+    fn note_stretch<S: BatchStore>(&mut self, log: &'n PartitionLog<S>, start: usize, end: usize)
+        requires rising { start ≤ end }
+        requires within { end ≤ length log.now.kept }
+        ensures { Fills start (stretch_records start end log.now.kept) self.old self.new }
+    {
+        let mut walk = log.walk(start);
+        for _passed in 0..end - start {
+            match walk.next() {
+                Some(batch) => self.note_batch(&batch, start),
+                None => return,
+            }
+        }
+    }
+
+    /// Walks from the newest batch back, by stretches that are walked forward, until each key was found.
     pub(crate) fn run<S: BatchStore>(&mut self, log: &'n PartitionLog<S>)
         ensures { HasNone self.old → Knows (shown_table log.now) self.new }
     {
         let mut end = log.len();
         while end > 0 && self.left > 0 {
-            end -= 1;
-            self.note_batch(&log.at(end), end);
+            let start = log.stretch_start(end - 1);
+            self.note_stretch(log, start, end);
+            end = start;
         }
         self.is_whole = end == 0;
     }

@@ -1,27 +1,25 @@
-use Rattle.std.proofs.Common.{ℕ, ◌≤◌, ◌<◌, length, subst}
-use Rattle.copy_deltas.proofs.Entries.{placed_at}
+use Rattle.copy_deltas.proofs.Entries.{placed_all, placed_next}
 use Rattle.copy_deltas.proofs.Sizes.{size_begins, size_more, size_whole}
 use Rattle.copy_deltas.proofs.size.size_with.Goals as goal
 
-pub loop-i-init : goal.loop-i-init
-loop-i-init g c = size_begins c.args.copy.now c.args.asked.now.runs c.args.fixed c.requires.fixed
+pub loop-batch-init : goal.loop-batch-init
+loop-batch-init g c = (
+  placed_all c.args.copy.now c.walk-walk.result c.walk-walk.ensures.is_content c.walk-walk.ensures.walks,
+  size_begins c.args.copy.now c.args.asked.now.runs c.args.fixed c.walk-walk.result c.requires.fixed c.walk-walk.ensures.walks,
+)
 
 pub entry_size-requires-clause-in_range : goal.entry_size-requires-clause-in_range
-entry_size-requires-clause-in_range g c =
-    let there : c.loop-i.i < length c.args.copy.now.kept = subst (λ (n : ℕ). c.loop-i.i < n) c.len-i-end.ensures c.loop-i-test.true in
-    (placed_at c.args.copy.now c.at.result c.loop-i.i c.at.ensures.is_content there c.at.ensures.is_there).in_range
+entry_size-requires-clause-in_range g c = (placed_next c.loop-batch.walk c.next.new.self c.in-Some.batch c.in-Some.ensures.gives c.loop-batch.invariant.0).0.in_range
 
 pub entry_size-requires-clause-some : goal.entry_size-requires-clause-some
-entry_size-requires-clause-some g c =
-    let there : c.loop-i.i < length c.args.copy.now.kept = subst (λ (n : ℕ). c.loop-i.i < n) c.len-i-end.ensures c.loop-i-test.true in
-    (placed_at c.args.copy.now c.at.result c.loop-i.i c.at.ensures.is_content there c.at.ensures.is_there).some
+entry_size-requires-clause-some g c = (placed_next c.loop-batch.walk c.next.new.self c.in-Some.batch c.in-Some.ensures.gives c.loop-batch.invariant.0).0.some
 
-pub loop-i-preserved : goal.loop-i-preserved
-loop-i-preserved g c =
-    let there : c.loop-i.i < length c.args.copy.now.kept = subst (λ (n : ℕ). c.loop-i.i < n) c.len-i-end.ensures c.loop-i-test.true in
-    size_more c.args.copy.now c.args.asked.now.runs c.loop-i.i c.loop-i.size c.saturating_add-size.result c.entry_size.result c.at.result there c.at.ensures.is_there c.entry_size.ensures c.saturating_add-size.ensures c.loop-i.invariant
+pub loop-batch-preserved : goal.loop-batch-preserved
+loop-batch-preserved g c = (
+  (placed_next c.loop-batch.walk c.next.new.self c.in-Some.batch c.in-Some.ensures.gives c.loop-batch.invariant.0).1,
+  size_more c.args.copy.now c.args.asked.now.runs c.loop-batch.size c.saturating_add-size.result c.entry_size.result c.loop-batch.walk c.next.new.self c.in-Some.batch
+      c.in-Some.ensures.gives c.entry_size.ensures c.saturating_add-size.ensures c.loop-batch.invariant.1,
+)
 
 pub returns : goal.returns
-returns g c =
-    let over : length c.args.copy.now.kept ≤ c.loop-i.i = subst (λ (n : ℕ). n ≤ c.loop-i.i) c.len-i-end.ensures c.loop-i-test.false in
-    size_whole c.args.copy.now c.args.asked.now.runs c.loop-i.i c.loop-i.size over c.loop-i.invariant
+returns g c = size_whole c.args.copy.now c.args.asked.now.runs c.loop-batch.size c.loop-batch.walk c.in_default.ensures.gives.0 c.loop-batch.invariant.1

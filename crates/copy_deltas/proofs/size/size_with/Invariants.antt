@@ -1,8 +1,12 @@
-use Rattle.std.proofs.Common.{◌≡◌, ◌+◌, take}
-use Rattle.std.specs.Prelude.{min}
-use Rattle.copy_deltas.proofs.Entries.{most}
-use Rattle.copy_deltas.proofs.Sizes.{parts_length, said_length}
+use Rattle.std.proofs.Common.{length}
+use Rattle.std.specs.List.{AllByRecursion}
+use Rattle.copy_deltas.proofs.Entries.{IsPlaced}
+use Rattle.copy_deltas.proofs.Sizes.{Counts}
 use Rattle.copy_deltas.proofs.size.size_with.Given as goal
 
-abbrev pub invariant-loop-i : goal.invariant-loop-i
-invariant-loop-i g l = l.size ≡ min (parts_length l.copy l.asked.runs + said_length l.asked.runs (take l.i l.copy.kept)) most
+-- the size so far, and that of the entries for the batches that are left
+abbrev pub invariant-loop-batch : goal.invariant-loop-batch
+invariant-loop-batch g l = AllByRecursion IsPlaced l.walk × Counts l.copy l.asked.runs l.size l.walk
+
+abbrev pub decreases-loop-batch : goal.decreases-loop-batch
+decreases-loop-batch g l = length l.walk

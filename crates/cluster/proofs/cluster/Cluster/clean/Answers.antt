@@ -1,8 +1,11 @@
-use Rattle.std.proofs.Common.{◌+◌, arith}
+use Rattle.std.proofs.Common.{◌+◌, refl, arith, rules}
 use Rattle.std.specs.Int.{w64}
 use Rattle.std.proofs.lemmas.Int.{to_z-of_z}
-use Rattle.cluster.proofs.CleanSteps.{clean_same, zero_is}
+use Rattle.cluster.proofs.CleanSteps.{clean_same, no_copy, zero_is}
 use Rattle.cluster.proofs.cluster.Cluster.clean.Goals as goal
+
+pub returns-then-len-copy : goal.returns-then-len-copy
+returns-then-len-copy g c = (no_copy c.args.self.now c.args.copy c.len.result (search rules) c.if-len-copy.true, refl)
 
 pub returns-in-None : goal.returns-in-None
 returns-in-None g c = clean_same _ _ c.args.copy 0 c.args.upto c.args.tomb_before _ _ _ (zero_is c.args.copy c.in-None.ensures)

@@ -3,21 +3,18 @@ use Rattle.group_requests.specs.OffsetFetch.Walks.{slot_at}
 use Rattle.group_requests.proofs.OffsetWalks.{walk_more, says_last}
 use Rattle.group_requests.proofs.offset_fetch.walk.CommitWalk.run.Goals as goal
 
-below : (end n : ℕ) → 0 < end → end ≤ n → ((end - 1) < n) × (end ≡ (end - 1) + 1) × ((end - 1) ≤ n)
-below end n some le = (omega arith, omega arith, omega arith)
-
 is_first : (end : ℕ) → nat_eq end 0 ≡ true → end ≡ 0
 is_first end e = grind arith
 
 pub loop-end-preserved : goal.loop-end-preserved
 loop-end-preserved g c =
     let old = c.loop-end.self in
-    let new = c.note_batch.new.self in
+    let new = c.note_stretch.new.self in
     let bs = c.args.log.now.kept in
-    let at = below c.loop-end.end (length bs) c.loop-end-test.true c.loop-end.invariant.0 in (
-      at.2,
-      λ none rest slot there. walk_more bs c.at.result (c.loop-end.end - 1) c.loop-end.end old.front.items new.front.items rest (slot_at old rest) (slot_at new rest) slot at.0 at.1 c.at.ensures.is_there
-          c.note_batch.ensures.front (c.note_batch.ensures.slots rest) (λ was found. c.loop-end.invariant.1 none rest was found) there,
+    let lt : c.stretch_start-start.result < c.loop-end.end = omega (arith, c.loop-end-test.true, c.stretch_start-start.ensures) in (
+      omega (arith, lt, c.loop-end.invariant.0),
+      λ none rest slot there. walk_more bs c.stretch_start-start.result c.loop-end.end old.front.items new.front.items rest (slot_at old rest) (slot_at new rest) slot lt
+          c.note_stretch.ensures.front (c.note_stretch.ensures.slots rest) (λ was found. c.loop-end.invariant.1 none rest was found) there,
     )
 
 pub returns : goal.returns
