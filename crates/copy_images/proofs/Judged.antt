@@ -6,6 +6,8 @@ use Rattle.std.specs.Int.{w64, cast_signed, cast_unsigned}
 use Rattle.std.proofs.lemmas.Int.{ints, to_z-of_z}
 use Rattle.std.proofs.lemmas.List.{length-append, take_rest, drop_at}
 use Rattle.std.proofs.lemmas.Grind.{flat_map-append}
+use Rattle.checksum.specs.Crc.{feed_bytes}
+use Rattle.checksum.proofs.CrcWords.{fed_on}
 use Rattle.batch_codec.specs.Values.{BatchValue}
 use Rattle.batch_codec.specs.Grammar.{Writable, StartsWith, batch_encoding}
 use Rattle.batch_codec.specs.Offsets.{first_offset, last_offset, HasKeys, SpansRise}
@@ -38,6 +40,22 @@ not_next from bytes batch may same asked denied b next =
 
 pub starts_within : (from : ℤ) (b : BatchValue) (rest bytes : List ℕ) → IsNext from b rest → bytes ≡ batch_encoding b → length bytes ≤ length rest
 starts_within from b rest bytes next is = omega (arith, ap length is, ap length next.starts.encoded, length-append (batch_encoding b) next.starts.rest)
+
+-- what comes behind the next batch, as code has it
+pub behind_next : (from : ℤ) (b : BatchValue) (rest : List ℕ) (n : ℕ) (next : IsNext from b rest) → n ≡ length (batch_encoding b) → take (length rest - n) (drop n rest) ≡ next.starts.rest
+behind_next from b rest n next size = take_rest rest n ∙ ap (drop n) next.starts.encoded ∙ drop_at (batch_encoding b) next.starts.rest n (sym size)
+
+-- ---- a register, which takes in one batch more, and has taken in all
+
+pub fed_one : (from : ℤ) (b : BatchValue) (rest : List ℕ) (n v w : ℕ) → IsNext from b rest → n ≡ length (batch_encoding b) → w ≡ feed_bytes v (batch_encoding b) → feed_bytes w (take (length rest - n) (drop n rest)) ≡ feed_bytes v rest
+fed_one from b rest n v w next size fed =
+    (λ i. feed_bytes (fed i) (behind_next from b rest n next size i))
+    ∙ sym (fed_on v (batch_encoding b) next.starts.rest)
+    ∙ ap (feed_bytes v) (sym next.starts.encoded)
+
+pub fed_all : (bytes rest : List ℕ) (v w : ℕ) → feed_bytes w rest ≡ feed_bytes v bytes → rest ≡ [] → w ≡ feed_bytes v bytes
+unfolding feed_bytes
+fed_all bytes rest v w so_far none = ap (feed_bytes w) (sym none) ∙ so_far
 
 -- ---- spans against ranges
 
@@ -171,7 +189,7 @@ judged_one ranges bytes index from rest left b n canonical j next holds size =
     let delta : pos 0 ≤ℤ b.head.last_delta = next.starts.writable.valid.last_delta in
     let next_here : IsNext (end_of_batches j.batches) b rest = subst (λ (o : ℤ). IsNext o b rest) j.ends next in
     let all : CoversAll ranges (first_offset b) (last_offset b) = has_all_covers ranges (first_offset b) (last_offset b) (decided ranges bytes index from rest left b j next ∙ holds) in
-    let behind : take (length rest - n) (drop n rest) ≡ next.starts.rest = take_rest rest n ∙ ap (drop n) next.starts.encoded ∙ drop_at (batch_encoding b) next.starts.rest n (sym size) in
+    let behind : take (length rest - n) (drop n rest) ≡ next.starts.rest = behind_next from b rest n next size in
     let is : rest ≡ batch_encoding b ++ take (length rest - n) (drop n rest) = next.starts.encoded ∙ ap (λ (x : List ℕ). batch_encoding b ++ x) (sym behind) in
     record {
       batches = j.batches ++ b ∷ [];

@@ -1,21 +1,24 @@
 -- The parts of an image, read from bytes that have the mark, a version and the crc.
-use Rattle.std.proofs.Common.{get_or, ◌≡◌, ℕ, zero, suc, ◌+◌, ◌-◌, ◌*◌, ◌≤◌, ◌<◌, ℤ, pos, Bool, true, false, ◌⊎◌, inl, inr, List, [], ◌∷◌, ◌++◌, length, take, drop, refl, sym, ap, subst, ◌∙◌, append_assoc, append-nil, arith}
+use Rattle.std.proofs.Common.{get_or, ◌≡◌, ℕ, zero, suc, ◌+◌, ◌-◌, ◌*◌, ◌≤◌, ◌<◌, lit≤, ℤ, pos, Bool, true, false, ◌⊎◌, inl, inr, List, [], ◌∷◌, ◌++◌, length, take, drop, refl, sym, ap, subst, ◌∙◌, append_assoc, append-nil, arith}
 use Rattle.std.specs.Prelude.{negsuc, ◌/◌, ◌<ℤ◌, ◌↔◌, IsTrue, FitsSigned, unsigned_abs, if◌then◌else◌}
 use Rattle.std.specs.List.{AllByRecursion, flat_map}
 use Rattle.std.specs.Int.{Width, w16, w32, w64, cast_signed, cast_unsigned, FitsUnsignedBits}
 use Rattle.std.specs.Simd.{first_chunks}
 use Rattle.std.proofs.Math.Facts.{sfits_to_z}
 use Rattle.std.proofs.lemmas.Int.{ints, of_z-to_z, to_z-of_z}
-use Rattle.std.proofs.lemmas.List.{length-append, length-take, length-drop, length-map, take-append-drop, take_at, take_rest, drop-drop}
-use Rattle.checksum.specs.Crc.{crc_of}
+use Rattle.std.proofs.lemmas.List.{length-append, length-take, length-drop, length-map, take-append-drop, take_at, take_rest, drop-drop, drop-take}
+use Rattle.std.proofs.lemmas.Bool.{cond_both}
+use Rattle.checksum.specs.Crc.{crc_of, feed_bytes}
+use Rattle.checksum.proofs.CrcWords.{fed_on}
 use Rattle.batch_codec.specs.Grammar.{fields, signed}
 use Rattle.batch_codec.specs.Fields.{unsigned_at, signed_at}
 use Rattle.batch_codec.proofs.Steps.{IsBytes-drop, IsBytes-take}
 use Rattle.batch_codec.proofs.Fixed.{IsWide, wide16, wide32, wide64, fields_back, unsigned-below}
 use Rattle.copy_images.specs.declared.layout.TheConstants.{MARK, VERSION, FIRST_VERSION, MAX_COUNT}
+use Rattle.cover_ranges.specs.Runs.{Runs}
 use Rattle.copy_images.specs.Images.{head_of, first_head, range_encoding, front_of, with_crc}
-use Rattle.copy_images.specs.Refusals.{IsLogStart, HasStart, version_in, IsOwnCrc, HasCrc, has_start, start_in, body_in, range_count, FitsInt64, HasFront}
-use Rattle.copy_images.specs.Judging.{range_at, ranges_of}
+use Rattle.copy_images.specs.Refusals.{IsLogStart, HasSize, version_in, IsOwnCrc, HasCrc, has_start, start_in, body_in, range_count, FitsInt64, HasFront}
+use Rattle.copy_images.specs.Judging.{covered, range_at, ranges_of}
 
 abbrev pub IsBytes : List ℕ → Type 0
 IsBytes bytes = (i : ℕ) → get_or bytes i 0 < 256
@@ -197,10 +200,10 @@ pub below_zero : (field : ℤ) → FitsSigned w32 field → (FitsUnsignedBits 64
 below_zero (pos k) fits none = absurd (none (subst (FitsUnsignedBits 64) (sym (to_z-of_z w32 (pos k) fits)) (omega (arith, fits.sfits))))
 below_zero (negsuc k) fits none = omega (arith, ints)
 
-pub started : (bytes : List ℕ) (start : ℤ) (may : Bool) → HasCrc bytes → start ≡ start_in bytes → FitsSigned w64 start → (IsTrue may ↔ IsLogStart (cast_signed w64 (cast_unsigned w64 start))) → may ≡ true → HasStart bytes
-started bytes start may has is fits asked true_here =
+pub started : (bytes : List ℕ) (start : ℤ) (may : Bool) → start ≡ start_in bytes → FitsSigned w64 start → (IsTrue may ↔ IsLogStart (cast_signed w64 (cast_unsigned w64 start))) → may ≡ true → IsLogStart (start_in bytes)
+started bytes start may is fits asked true_here =
     let same : cast_signed w64 (cast_unsigned w64 start) ≡ start_in bytes = to_z-of_z w64 start fits ∙ is in
-    (has, subst IsLogStart same (asked.0 true_here))
+    subst IsLogStart same (asked.0 true_here)
 
 pub front_found : (bytes body : List ℕ) (n : ℕ) (parts : List (List ℕ)) (field count : ℤ) → IsBytes bytes → body ≡ body_in bytes → field ≡ signed_at w32 0 body → FitsSigned w32 field → FitsUnsignedBits 64 (cast_signed w32 (cast_unsigned w32 field)) → n ≡ unsigned_abs (cast_signed w32 (cast_unsigned w32 field))
     → 8 + 16 * n ≤ length body → parts ≡ first_chunks 16 (length (take ((4 + 16 * n) - 4) (drop 4 body)) / 16) (take ((4 + 16 * n) - 4) (drop 4 body)) → count ≡ signed_at w32 (4 + 16 * n) body → FitsSigned w32 count
@@ -211,3 +214,36 @@ front_found bytes body n parts field count fits is read field_fits whole number 
     subst (λ (x : List ℕ). HasFront x (ranges_of parts) (cast_signed w32 (cast_unsigned w32 count)) (take (length body - ((4 + 16 * n) + 4)) (drop ((4 + 16 * n) + 4) body))) is
     (body_back body n (cast_signed w32 (cast_unsigned w32 count)) parts (take (length body - ((4 + 16 * n) + 4)) (drop ((4 + 16 * n) + 4) body)) (subst IsBytes (sym is) (body_bytes bytes fits)) (sym read ∙ counted.0) counted.1 long
     (chunks_are body n parts long chunks) (to_z-of_z w32 count count_fits ∙ count_is) rest_is)
+
+-- the bytes that the crc covers end with what follows the counts and the ranges
+pub covered_ends : (bytes : List ℕ) (ranges : Runs) (count : ℤ) (rest : List ℕ) → HasSize bytes → HasFront (body_in bytes) ranges count rest → (front : List ℕ) × (covered bytes ≡ front ++ rest)
+covered_ends bytes ranges count rest size front = by (has_start bytes) front.encoded
+  where
+    by : (there : Bool) → body_from there bytes ≡ front_of ranges count ++ rest → (front : List ℕ) × (covered bytes ≡ front ++ rest)
+    by there is =
+        let at : ℕ = if there then 14 else 6 in
+        let end : ℕ = length bytes - 4 in
+        let low : at ≤ 14 = cond_both there 14 6 (λ (n : ℕ). n ≤ 14) (λ _. lit≤ tt) (λ _. lit≤ tt) in
+        let whole : at + (end - at) ≡ end = omega (arith, size, low) in
+        let behind : drop at (covered bytes) ≡ body_from there bytes = ap (λ (n : ℕ). drop at (take n bytes)) (sym whole) ∙ drop-take at (end - at) bytes in (
+          take at (covered bytes) ++ front_of ranges count,
+          sym (take-append-drop at (covered bytes)) ∙ ap (λ (x : List ℕ). take at (covered bytes) ++ x) (behind ∙ is) ∙ sym (append_assoc (take at (covered bytes)) (front_of ranges count) rest),
+        )
+
+pub ends_within : (bytes all : List ℕ) (ranges : Runs) (count : ℤ) (rest : List ℕ) → HasSize bytes → HasFront (body_in bytes) ranges count rest → all ≡ covered bytes → length rest ≤ length all
+ends_within bytes all ranges count rest size front is =
+    let parts = covered_ends bytes ranges count rest size front in
+    omega (arith, ap length is, ap length parts.1, length-append parts.0 rest)
+
+-- a register that took in what stands before that, and then that
+pub covered_fed : (bytes all : List ℕ) (ranges : Runs) (count : ℤ) (rest : List ℕ) (v w x : ℕ) → HasSize bytes → HasFront (body_in bytes) ranges count rest → all ≡ covered bytes
+    → w ≡ feed_bytes v (take (length all - length rest) all) → x ≡ feed_bytes w rest → x ≡ feed_bytes v (covered bytes)
+covered_fed bytes all ranges count rest v w x size front is first last =
+    let parts = covered_ends bytes ranges count rest size front in
+    let whole : all ≡ parts.0 ++ rest = is ∙ parts.1 in
+    let len : length all - length rest ≡ length parts.0 = omega (arith, ap length whole, length-append parts.0 rest) in
+    let before : take (length all - length rest) all ≡ parts.0 = (λ i. take (len i) (whole i)) ∙ take_at parts.0 rest (length parts.0) refl in
+    last
+    ∙ ap (λ (y : ℕ). feed_bytes y rest) (first ∙ ap (feed_bytes v) before)
+    ∙ sym (fed_on v parts.0 rest)
+    ∙ ap (feed_bytes v) (sym parts.1)

@@ -14,7 +14,7 @@ use Rattle.copy_images.specs.declared.layout.TheConstants.{MAX_COUNT}
 use Rattle.copy_images.specs.declared.error.ImageError.{ImageError}
 use Rattle.copy_images.specs.declared.error.ImageError.TheVariants.{Short, BadMark, BadVersion, BadCrc, BadCover, BadBatch, Outside, Extra, OutOfMemory}
 use Rattle.copy_images.specs.Images.{front_of, body_of, IsImage}
-use Rattle.copy_images.specs.Refusals.{HasStart, start_in, body_in, IsCoverFrom, HasFront, HasBatches, Refuses}
+use Rattle.copy_images.specs.Refusals.{IsLogStart, HasStart, start_in, body_in, IsCoverFrom, HasFront, HasBatches, Refuses}
 use Rattle.copy_images.specs.Judging.{HasKept, HoldsBatches, BatchesFault, AreJudged, IsBuilt}
 use Rattle.copy_images.proofs.Contents.{kept_content}
 use Rattle.copy_images.proofs.Parts.{IsBytes, IsFramed, frame_back}
@@ -74,9 +74,9 @@ module _ (bytes : List ℕ) (ranges : Runs) (start : ℤ) (may : Bool) (fits : F
   pub no_cover : may ≡ false → ¬ IsCoverFrom (start_in bytes) ranges
   no_cover here = subst (λ (z : ℤ). ¬ IsCoverFrom z ranges) passed (MatchBool-at_false _ _ here asked)
 
-pub are_judged : (bytes : List ℕ) (ranges : Runs) (count : ℤ) (all : List ℕ) (start : ℤ) → start ≡ start_in bytes → HasStart bytes → IsCoverFrom (start_in bytes) ranges → HoldsBatches ranges count all → AreJudged start ranges count all
+pub are_judged : (bytes : List ℕ) (ranges : Runs) (count : ℤ) (all : List ℕ) (start : ℤ) → start ≡ start_in bytes → IsLogStart (start_in bytes) → IsCoverFrom (start_in bytes) ranges → HoldsBatches ranges count all → AreJudged start ranges count all
 are_judged bytes ranges count all start same has cover batches =
-    subst (λ (z : ℤ). AreJudged z ranges count all) (sym same) (record { start = has.1; cover = cover; batches = batches })
+    subst (λ (z : ℤ). AreJudged z ranges count all) (sym same) (record { start = has; cover = cover; batches = batches })
 
 -- a content of which the bytes are an image, where it is built of the bytes between the head and the crc
 module _ (bytes : List ℕ) (ranges : Runs) (count : ℤ) (all : List ℕ) (fits : IsBytes bytes) (start : HasStart bytes) (front : HasFront (body_in bytes) ranges count all) where

@@ -1,6 +1,6 @@
 -- An image written part by part.
-use Rattle.std.proofs.Common.{◌≡◌, ℕ, ◌+◌, ◌<◌, ◌≤◌, ℤ, pos, List, [], ◌∷◌, ◌++◌, length, get_or, take, sym, ap, subst, ◌∙◌, append_assoc, append-nil, arith}
-use Rattle.std.specs.List.{flat_map, HoldsAt}
+use Rattle.std.proofs.Common.{◌≡◌, ℕ, ◌+◌, ◌-◌, ◌<◌, ◌≤◌, ℤ, pos, List, [], ◌∷◌, ◌++◌, length, get_or, take, drop, sym, ap, subst, ◌∙◌, append_assoc, append-nil, arith}
+use Rattle.std.specs.List.{flat_map}
 use Rattle.std.specs.Prelude.{FitsSigned, Result, Ok, Err, OnOk, is_ok, if◌then◌else◌}
 use Rattle.std.specs.Int.{w16, w32, w64, to_be_bytes, cast_signed, cast_unsigned}
 use Rattle.std.proofs.lemmas.Int.{to_z-of_z}
@@ -27,11 +27,20 @@ next_written enc old out new i xs x low so_far e =
 pub all_written : {X : Type 0} (enc : X → List ℕ) (old out : List ℕ) (i : ℕ) (xs : List X) → length xs ≤ i → out ≡ old ++ flat_map enc (take i xs) → out ≡ old ++ flat_map enc xs
 all_written enc old out i xs over so_far = so_far ∙ ap (λ ys. old ++ flat_map enc ys) (take_all i xs over)
 
--- one more batch, whose bytes are those of the batch there
-pub batch_written : (old out new bytes : List ℕ) (i : ℕ) (bs : List BatchValue) (b : BatchValue) → i < length bs → out ≡ old ++ flat_map batch_encoding (take i bs)
-    → HoldsAt (λ b. bytes ≡ batch_encoding b) bs i → new ≡ out ++ bytes → new ≡ old ++ flat_map batch_encoding (take (i + 1) bs)
-batch_written old out new bytes i bs b low so_far there e =
-    next_written batch_encoding old out new i bs b low so_far (e ∙ ap (λ (y : List ℕ). out ++ y) (there b))
+-- what is written so far, and what is left: one element more, and all
+pub next_put : {X : Type 0} (enc : X → List ℕ) (out new : List ℕ) (left rest : List X) (x : X) (all : List ℕ) → left ≡ x ∷ rest → new ≡ out ++ enc x
+    → out ++ flat_map enc left ≡ all → new ++ flat_map enc rest ≡ all
+next_put {X = X} enc out new left rest x all next put so_far =
+    ap (λ (y : List ℕ). y ++ flat_map enc rest) put ∙ append_assoc out (enc x) (flat_map enc rest) ∙ sym (ap (λ (xs : List X). out ++ flat_map enc xs) next) ∙ so_far
+
+pub all_put : {X : Type 0} (enc : X → List ℕ) (out : List ℕ) (left : List X) (all : List ℕ) → left ≡ [] → out ++ flat_map enc left ≡ all → out ≡ all
+all_put {X = X} enc out left all none so_far = sym (append-nil out) ∙ sym (ap (λ (xs : List X). out ++ flat_map enc xs) none) ∙ so_far
+
+-- the batches from the first to before the last index are all
+pub all_bytes : (out new : List ℕ) (bs : List BatchValue) (n : ℕ) → n ≡ length bs → new ≡ out ++ flat_map batch_encoding (take (n - 0) (drop 0 bs)) → new ≡ out ++ flat_map batch_encoding bs
+all_bytes out new bs n is put =
+    let whole : n - 0 ≡ n = omega arith in
+    put ∙ ap (λ (k : ℕ). out ++ flat_map batch_encoding (take k bs)) whole ∙ ap (λ (xs : List BatchValue). out ++ flat_map batch_encoding xs) (take_all n bs (omega (arith, is)))
 
 -- one more range
 pub range_written : (old out new : List ℕ) (i : ℕ) (ranges : Runs) (range : ℤ × ℤ) → i < length ranges → out ≡ old ++ flat_map range_encoding (take i ranges)

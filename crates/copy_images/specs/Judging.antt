@@ -1,5 +1,5 @@
 -- Words of private clauses: the parts of an image as they are judged and kept.
-use Rattle.std.specs.Prelude.{◌≡◌, ℕ, ◌<◌, ℤ, pos, ◌<ℤ◌, Bool, false, ◌&&◌, int_lt, int_le, List, [], ◌∷◌, ◌++◌, length, map, if◌then◌else◌}
+use Rattle.std.specs.Prelude.{◌≡◌, ℕ, ◌-◌, ◌<◌, ℤ, pos, ◌<ℤ◌, Bool, false, ◌&&◌, int_lt, int_le, List, [], ◌∷◌, ◌++◌, length, map, take, if◌then◌else◌}
 use Rattle.std.specs.List.{AllByRecursion, flat_map}
 use Rattle.std.specs.Int.{w64}
 use Rattle.batch_codec.specs.Values.{BatchValue}
@@ -10,9 +10,14 @@ use Rattle.cover_ranges.specs.Runs.{Runs, CoversAll}
 use Rattle.content.specs.Records.{IsKeepable}
 use Rattle.content.specs.Content.{Content, IsContent}
 use Rattle.segment.specs.BatchLists.{IsBatchList}
+use Rattle.copy_images.specs.declared.layout.TheConstants.{CRC_SIZE}
 use Rattle.copy_images.specs.declared.error.ImageError.{ImageError}
 use Rattle.copy_images.specs.declared.error.ImageError.TheVariants.{BadBatch, Outside, Extra}
 use Rattle.copy_images.specs.Refusals.{IsLogStart, IsCoverFrom, IsNext, end_of_batches}
+
+-- the bytes that the crc covers
+abbrev pub covered : List ℕ → List ℕ
+covered bytes = take (length bytes - CRC_SIZE) bytes
 
 -- ---- ranges
 

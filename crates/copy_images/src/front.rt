@@ -1,8 +1,9 @@
 //! What comes before the batches of an image.
 
 ghost use Rattle.std.specs.Prelude.{◌≡◌, IsTrue, IfOk, IfErr, OnOk, ◌↔◌};
-ghost use Rattle.copy_images.specs.Refusals.{HasSize, HasCrc, IsLogStart, HasStart, has_start, start_in, body_in, HasFront, Refuses};
-ghost use Rattle.copy_images.specs.Judging.{ranges_of};
+ghost use Rattle.checksum.specs.Crc.{crc_of};
+ghost use Rattle.copy_images.specs.Refusals.{HasSize, HasVersion, IsOwnCrc, IsLogStart, has_start, start_in, body_in, HasFront, Refuses};
+ghost use Rattle.copy_images.specs.Judging.{covered, ranges_of};
 
 use crate::error::ImageError;
 use crate::layout::{
@@ -11,7 +12,6 @@ use crate::layout::{
 };
 use crate::ranges::RangeBytes;
 use batch_codec::numbers::{be_i16_at, be_i32_at, be_i64_at, be_u32_at};
-use checksum::crc32c;
 use cover_ranges::OFFSETS_END;
 
 /// The parts of an image, borrowed from its bytes.
@@ -27,9 +27,9 @@ pub(crate) struct ImageParts<'a> {
     pub batches: &'a [u8],
 }
 
-/// Judges the size, the mark, the version and the crc.
-pub(crate) fn check_frame(bytes: &[u8]) -> Result<(), ImageError>
-    ensures passes { OnOk result (HasCrc bytes.now) }
+/// Judges the size, the mark and the version.
+pub(crate) fn check_head(bytes: &[u8]) -> Result<(), ImageError>
+    ensures passes { OnOk result (HasVersion bytes.now) }
     ensures refuses { IfErr result (Refuses bytes.now) }
 {
     if bytes.len() < LEAST_SIZE {
@@ -42,11 +42,29 @@ pub(crate) fn check_frame(bytes: &[u8]) -> Result<(), ImageError>
     if version != VERSION && version != FIRST_VERSION {
         return Err(ImageError::BadVersion);
     }
-    let end = bytes.len() - CRC_SIZE;
-    if be_u32_at(bytes, end) != crc32c(&bytes[..end]) {
-        return Err(ImageError::BadCrc);
-    }
     Ok(())
+}
+
+/// The bytes that the crc of an image covers.
+pub(crate) fn covered(bytes: &[u8]) -> &[u8]
+    requires { HasSize bytes.now }
+    ensures { result.now ≡ covered bytes.now }
+{
+    &bytes[..bytes.len() - CRC_SIZE]
+}
+
+/// Judges the crc. That of the bytes that it covers was computed.
+pub(crate) fn check_crc(bytes: &[u8], computed: u32) -> Result<(), ImageError>
+    requires version { HasVersion bytes.now }
+    requires computed { computed ≡ crc_of (covered bytes.now) }
+    ensures passes { OnOk result (IsOwnCrc bytes.now) }
+    ensures refuses { IfErr result (Refuses bytes.now) }
+{
+    if be_u32_at(bytes, bytes.len() - CRC_SIZE) == computed {
+        Ok(())
+    } else {
+        Err(ImageError::BadCrc)
+    }
 }
 
 /// Whether an image has a log start: in version 0 it has none.
@@ -89,14 +107,14 @@ pub fn is_log_start(start: i64) -> bool
     0 <= start && start <= OFFSETS_END
 }
 
-/// Cuts an image into its parts.
+/// Cuts an image into its parts. A fault of theirs is the first where the crc is right.
 pub(crate) fn parts_of(bytes: &[u8]) -> Result<ImageParts<'_>, ImageError>
-    requires { HasCrc bytes.now }
-    ensures starts { OnOk result (HasStart bytes.now) }
+    requires { HasVersion bytes.now }
+    ensures starts { OnOk result (IsLogStart (start_in bytes.now)) }
     ensures start { IfOk result (λ parts. parts.start ≡ start_in bytes.now) }
     ensures finds { IfOk result (λ parts.
         HasFront (body_in bytes.now) (ranges_of parts.ranges.now) parts.count parts.batches.now) }
-    ensures refuses { IfErr result (Refuses bytes.now) }
+    ensures refuses { IsOwnCrc bytes.now → IfErr result (Refuses bytes.now) }
 {
     let start = start_of(bytes);
     if !is_log_start(start) {

@@ -6,7 +6,7 @@
 //!
 //! ```
 //! let image = write_image(alloc, &copy)?;
-//! let same = read_image::<VecStore<_>>(alloc, &image)?;
+//! let same = read_image::<ProgramStore<_>>(alloc, &image)?;
 //! ```
 #![tactic(auto)]
 

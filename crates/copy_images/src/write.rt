@@ -23,8 +23,11 @@ fn size_of<S: BatchStore>(copy: &PartitionLog<S>) -> usize
     ensures { result ≡ min (length (image_of copy.now)) 18446744073709551615 }
 {
     let mut size = fixed_size(copy.cover().ranges().len());
-    for i in 0..copy.len() {
-        size = size.saturating_add(copy.bytes_of(i).len());
+    let mut start = 0;
+    while start < copy.len() {
+        let (bytes, end) = copy.piece(start, copy.len());
+        size = size.saturating_add(bytes.len());
+        start = end;
     }
     size
 }
@@ -37,20 +40,6 @@ fn put_head<A: Allocator + Copy>(out: &mut Vec<u8, A>, start: i64) -> Result<(),
     out.extend_from_slice(&MARK.to_be_bytes())?;
     out.extend_from_slice(&VERSION.to_be_bytes())?;
     out.extend_from_slice(&start.to_be_bytes())
-}
-
-/// Appends the bytes of the kept batches.
-fn put_batches<A: Allocator + Copy, S: BatchStore>(
-    out: &mut Vec<u8, A>,
-    copy: &PartitionLog<S>,
-) -> Result<(), AllocError>
-    ensures { OnOk result
-        (out.new.items ≡ out.old.items ++ flat_map batch_encoding copy.now.kept) }
-{
-    for i in 0..copy.len() {
-        out.extend_from_slice(copy.bytes_of(i))?;
-    }
-    Ok(())
 }
 
 /// Appends what comes between the head and the batches.
@@ -82,7 +71,7 @@ fn put_image<A: Allocator + Copy, S: BatchStore>(
 {
     put_head(out, copy.start())?;
     put_front(out, copy.cover().ranges(), range_count, batch_count)?;
-    put_batches(out, copy)?;
+    copy.put_bytes(0..copy.len(), out)?;
     put_crc(out)
 }
 

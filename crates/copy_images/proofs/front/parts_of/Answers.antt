@@ -10,13 +10,13 @@ use Rattle.copy_images.proofs.front.parts_of.Goals as goal
 pub returns-clause-starts : goal.returns-clause-starts
 returns-clause-starts c =
     let fits : FitsSigned w64 c.start_of-start.result = search rules in
-    started c.args.bytes.now c.start_of-start.result c.is_log_start.result c.requires c.start_of-start.ensures fits c.is_log_start.ensures c.if-not-is_log_start.false
+    started c.args.bytes.now c.start_of-start.result c.is_log_start.result c.start_of-start.ensures fits c.is_log_start.ensures c.if-not-is_log_start.false
 
 pub returns-in_default-clause-refuses : goal.returns-in_default-clause-refuses
-returns-in_default-clause-refuses c =
+returns-in_default-clause-refuses c own =
     let fits : FitsSigned w64 c.start_of-start.result = search rules in
     let count_fits : FitsSigned w32 c.be_i32_at.result = search rules in
-    let has : HasStart c.args.bytes.now = started c.args.bytes.now c.start_of-start.result c.is_log_start.result c.requires c.start_of-start.ensures fits c.is_log_start.ensures c.if-not-is_log_start.false in
+    let has : HasStart c.args.bytes.now = ((c.requires, own), started c.args.bytes.now c.start_of-start.result c.is_log_start.result c.start_of-start.ensures fits c.is_log_start.ensures c.if-not-is_log_start.false) in
     let body = c.body_of-body.ensures in
     let place : COUNT_SIZE ≤ length (body_in c.args.bytes.now) = subst (λ (x : List ℕ). COUNT_SIZE ≤ length x) body c.if-body-lt-COUNT_SIZE.false in
     let less : c.be_i32_at.result <ℤ pos 0 = below_zero c.be_i32_at.result count_fits c.in_default.ensures in

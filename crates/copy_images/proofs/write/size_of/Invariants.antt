@@ -1,7 +1,10 @@
-use Rattle.std.proofs.Common.{◌≡◌, ◌+◌, ◌*◌, length, take}
-use Rattle.std.specs.Prelude.{min}
-use Rattle.copy_images.proofs.Sizes.{batch_bytes}
+use Rattle.std.proofs.Common.{◌+◌, ◌*◌, ◌-◌, length}
+use Rattle.copy_images.proofs.Sizes.{batch_bytes, Counts}
 use Rattle.copy_images.proofs.write.size_of.Given as goal
 
-abbrev pub invariant-loop-i : goal.invariant-loop-i
-invariant-loop-i g l = l.size ≡ min (26 + 16 * length l.copy.cover + batch_bytes (take l.i l.copy.kept)) 18446744073709551615
+-- the size so far, and that of the batches that are left
+abbrev pub invariant-loop-start : goal.invariant-loop-start
+invariant-loop-start g l = Counts l.size l.start l.copy.kept (26 + 16 * length l.copy.cover + batch_bytes l.copy.kept)
+
+abbrev pub decreases-loop-start : goal.decreases-loop-start
+decreases-loop-start g l = length l.copy.kept - l.start
