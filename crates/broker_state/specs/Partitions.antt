@@ -10,6 +10,6 @@ pub record PartitionValue : Type 0 where
   pub role : Role
   pub content : Content
 
-abbrev pub held_value : {S A : Type 0} → Held S A → PartitionValue
+abbrev pub held_value : {S A C : Type 0} → Held S A C → PartitionValue
 held_value (held.Leader log) = record { role = Leader; content = log }
 held_value (held.Follower copy) = record { role = Follower; content = copy }

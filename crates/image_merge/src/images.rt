@@ -10,7 +10,7 @@ use crate::error::MergeFault;
 use copy_images::{ImageError, read_image, write_image};
 use copy_merge::{MergeError, merge_into};
 use partition_log::PartitionLog;
-use segment::{BatchStore, VecStore};
+use segment::{BatchStore, ProgramStore};
 use std::alloc::Allocator;
 
 /// How many bytes a size takes, an int32.
@@ -136,5 +136,5 @@ pub fn merge_images<A: Allocator + Copy>(alloc: A, input: &[u8]) -> Result<Vec<u
     // A refusal is the first fault; out of memory comes only where the first image is one.
     ensures refuses { IfErr result (RefusesPair input.now) }
 {
-    merge_pair::<VecStore<A>>(alloc, input)
+    merge_pair::<ProgramStore<A>>(alloc, input)
 }

@@ -8,7 +8,9 @@ use std::io::ErrorKind;
 use std::net::{Ipv4Addr, TcpListener};
 use std::process::ExitCode;
 use std::{env, io};
-use tcp_edge::{FAILED, FAULTY, NO_MEMORY, run_line, run_serve, serve_port};
+use tcp_edge::{
+    Connection, FAILED, FAULTY, NO_MEMORY, Replies, Requests, run_line, run_serve, serve_port,
+};
 
 /// The arguments of the command line, the program's name first.
 fn arguments(rt: &HostRuntime) -> io::Result<Vec<String>> {
@@ -66,19 +68,33 @@ fn listen(rt: &HostRuntime, port: u16, arguments: &[String]) -> u8
     )
 }
 
+/// Does on the standard streams what the arguments ask for, and answers the status. What is printed
+/// leaves in large pieces, and before the next read.
+fn run_on_streams(rt: &HostRuntime, arguments: &[String]) -> u8
+    ensures { result ≤ 4 }
+{
+    let connection = Connection::new(rt.alloc(), rt.stdin(), rt.stdout());
+    let status = run_line(
+        rt.alloc(),
+        arguments,
+        &mut Requests(&connection),
+        &mut Replies(&connection),
+        &mut rt.stderr(),
+    );
+    if connection.finish() || status == FAILED {
+        return status;
+    }
+    let _ = eprintln!(rt; "kbroker: write failed");
+    FAILED
+}
+
 /// Does what the arguments ask for, and answers the status.
 fn run(rt: &HostRuntime, arguments: &[String]) -> u8
     ensures { result ≤ 4 }
 {
     match serve_port(rt.alloc(), arguments) {
         Ok(Some(port)) => listen(rt, port, arguments),
-        Ok(None) => run_line(
-            rt.alloc(),
-            arguments,
-            &mut rt.stdin(),
-            &mut rt.stdout(),
-            &mut rt.stderr(),
-        ),
+        Ok(None) => run_on_streams(rt, arguments),
         Err(_) => no_memory(rt),
     }
 }

@@ -5,7 +5,7 @@ ghost use Rattle.subcommands.specs.Status.{replay_status};
 
 use crate::status::{DONE, replay_status};
 use script_replay::replay;
-use segment::VecStore;
+use segment::ProgramStore;
 use std::alloc::Allocator;
 use std::io::{Read, Write};
 
@@ -21,7 +21,7 @@ pub fn run_replay<A: Allocator + Copy, R: Read, W: Write, E: Write>(
     ensures is_status { (result ≤ 4) × (result ≢ 2) }
     ensures done_complains_of_nothing { result ≡ 0 → err.new ≡ err.old }
 {
-    match replay::<VecStore<A>, R, W>(alloc, reader, out) {
+    match replay::<ProgramStore<A>, R, W>(alloc, reader, out) {
         Ok(()) => DONE,
         Err(why) => {
             let _ = writeln!(err, "kbroker: {why}");

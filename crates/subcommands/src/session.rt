@@ -10,7 +10,7 @@ ghost use Rattle.subcommands.specs.Status.{session_status};
 use crate::error::SessionFault;
 use crate::status::{DONE, FAULTY, NO_MEMORY, fail_session};
 use broker_core::{Config, ConfigError, Node, SessionError, serve};
-use segment::{BatchStore, VecStore};
+use segment::{BatchStore, ProgramStore};
 use std::alloc::Allocator;
 use std::io::{Read, Write};
 use streams::{Sink, Source};
@@ -104,7 +104,7 @@ pub fn run_session<A: Allocator + Copy, R: Read, W: Write, E: Write>(
     ensures faulty_prints_nothing { result ≡ 2 → out.new ≡ out.old }
     ensures faulty_reads_nothing { result ≡ 2 → reader.new ≡ reader.old }
 {
-    let mut node: Node<VecStore<A>> = match Node::new(alloc, config) {
+    let mut node: Node<ProgramStore<A>> = match Node::new(alloc, config) {
         Ok(node) => node,
         Err(why) => return refuse_configuration(why, err),
     };

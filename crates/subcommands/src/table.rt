@@ -16,7 +16,7 @@ use crate::error::{Refusal, TableError};
 use crate::pending::{FillFailed, Pending};
 use batch_codec::{BatchError, view};
 use partition_log::{DeliverError, PartitionLog};
-use segment::{BatchStore, VecStore};
+use segment::{BatchStore, ProgramStore};
 use std::alloc::Allocator;
 use std::io::{Read, Write};
 use table_lines::{BUFFER_SIZE, write_lines};
@@ -219,6 +219,6 @@ pub fn run_table<A: Allocator + Copy, R: Read, W: Write>(
     ensures out_of_memory_prints_nothing { IsErrOf result TableError.OutOfMemory →
         writer.new ≡ writer.old }
 {
-    let log = read_log::<VecStore<A>, R>(alloc, reader)?;
+    let log = read_log::<ProgramStore<A>, R>(alloc, reader)?;
     print_log(alloc, &log, writer)
 }

@@ -10,6 +10,7 @@ mod serving;
 mod topics;
 
 pub use command_line::{run_line, run_serve, serve_port};
+pub use connection::{Connection, Replies, Requests};
 pub use subcommands::{
     DONE, FAILED, FAULTY, ImagesError, NO_MEMORY, REFUSED, Refusal, SessionFault, TableError,
     answer_frames, line_ends_once, merge_stream, run_merge, run_replay, run_session, run_table,

@@ -9,7 +9,7 @@ ghost use Rattle.tcp_edge.specs.CommandLine.{at_port};
 use crate::asked::ServeOptions;
 use crate::connection::{Connection, Replies, Requests};
 use broker_core::{Config, ConfigError, Ended, Node, SessionError, serve};
-use segment::VecStore;
+use segment::ProgramStore;
 use std::alloc::Global;
 use std::io::{Result as IoResult, Write};
 use std::net::{TcpListener, TcpStream};
@@ -42,15 +42,15 @@ fn report<W: Write>(
 /// Answers the frames of a connection.
 fn serve_stream(
     alloc: Global,
-    node: &mut Node<VecStore<Global>>,
+    node: &mut Node<ProgramStore<Global>>,
     stream: &TcpStream,
 ) -> Result<Ended, SessionError> {
     let _ = stream.set_nodelay(true);
-    let connection = Connection::new(alloc, stream);
+    let connection = Connection::new(alloc, stream, stream);
     let mut source = Source::new(Requests(&connection));
     let mut sink = Sink::new(Replies(&connection));
     let answered = serve(alloc, node, &mut source, &mut sink);
-    if connection.send().is_err() || connection.write_failed() {
+    if !connection.finish() {
         return Err(SessionError::Write);
     }
     answered
@@ -59,7 +59,7 @@ fn serve_stream(
 /// Serves so many connections, and prints a line for each.
 fn serve_connections<W: Write>(
     alloc: Global,
-    node: &mut Node<VecStore<Global>>,
+    node: &mut Node<ProgramStore<Global>>,
     listener: &TcpListener,
     connections: u32,
     out: &mut W,
@@ -81,7 +81,7 @@ fn node_at(
     alloc: Global,
     config: Config<Global>,
     port: u16,
-) -> Result<Node<VecStore<Global>>, ConfigError>
+) -> Result<Node<ProgramStore<Global>>, ConfigError>
     ensures is_new { IfOk result (λ node. node ≡ new_state (at_port (config_value config) port)) }
     ensures refuses { IfErr result (ConfigFault (at_port (config_value config) port)) }
 {
