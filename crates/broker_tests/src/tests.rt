@@ -1,5 +1,6 @@
 //! The tests, and what they share, a file for each.
 
+mod both_stores;
 mod brokers;
 mod command_lines;
 mod copying;

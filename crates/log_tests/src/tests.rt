@@ -15,6 +15,8 @@ mod producer;
 mod producers;
 mod reads;
 mod set_base_tests;
+mod sparse_index;
 mod store;
+mod thousand;
 mod varint_tests;
 mod view_tests;

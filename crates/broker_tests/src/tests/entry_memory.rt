@@ -7,7 +7,7 @@ use crate::tests::exchanges::STORE_REQUEST;
 use crate::tests::request_memory::is_answered;
 use broker_core::{GROUP_TOPIC, Node, Role};
 use refusing_alloc::Refusing;
-use segment::{BatchStore, VecStore};
+use segment::{BatchStore, ProgramStore};
 use std::alloc::Allocator;
 
 /// What stands in the output before.
@@ -159,7 +159,7 @@ fn came_in<S: BatchStore>(heap: S::Alloc, case: &Case) -> Option<u32> {
 /// The same where this allocation fails, and whether it is asked for.
 fn came_without<A: Allocator + Copy>(inner: A, refused: u64, case: &Case) -> (Option<u32>, bool) {
     let heap = Refusing::new(inner, refused);
-    let bit = came_in::<VecStore<_>>(&heap, case);
+    let bit = came_in::<ProgramStore<_>>(&heap, case);
     (bit, heap.calls() >= refused)
 }
 

@@ -10,7 +10,7 @@ use crate::tests::sessions::session;
 use broker_core::{Answer, Node};
 use refusing_alloc::Refusing;
 use request_frames::parse;
-use segment::{BatchStore, VecStore};
+use segment::{BatchStore, ProgramStore};
 use std::alloc::Allocator;
 use std::test::Fail;
 
@@ -36,6 +36,9 @@ const WRONG: u32 = 1000;
 
 /// More allocations than all calls ask for.
 const MOST: u64 = 200;
+
+/// How many allocations fail that a segment of batches does without: of its two lists of marked batches.
+const OF_THE_MARKS: u64 = 2;
 
 /// The call that lacks memory where a request isn't answered, the request and its response.
 static REQUESTS: [(u32, &[u8], &[u8]); 4] = [
@@ -148,7 +151,7 @@ fn lacking_without<A: Allocator + Copy>(
     replies: &[u8],
 ) -> (u32, bool) {
     let heap = Refusing::new(inner, refused);
-    let lacking = lacking::<VecStore<_>>(&heap, input, replies);
+    let lacking = lacking::<ProgramStore<_>>(&heap, input, replies);
     (lacking, heap.calls() >= refused)
 }
 
@@ -157,20 +160,24 @@ fn one_allocation_fails(rt: HostRuntime) -> Result<(), Fail> {
     let input = repeated(rt.alloc(), b"", LIST, 2)?;
     let replies = repeated(rt.alloc(), b"", LISTED_AT_1, 2)?;
     let mut last = CONFIG;
+    let mut without = 0_u64;
     let mut is_asked = true;
     for refused in 1..MOST {
         if is_asked {
             let (lacking, asked) = lacking_without(rt.alloc(), refused, &input, &replies);
-            // the same call as before or the next, and none where the allocation isn't asked for
-            let is_next = lacking == last || lacking == last.saturating_mul(2);
+            // the same call as before or the next, and none where the allocation isn't asked for, or isn't
+            // needed
+            let is_next = lacking == 0 || lacking == last || lacking == last.saturating_mul(2);
             assert!(rt;
                 if asked { is_next } else { lacking == 0 },
                 "{refused}: {lacking}, {last}"
             );
             is_asked = asked;
-            last = if asked { lacking } else { last };
+            without = without.saturating_add(u64::from(asked && lacking == 0));
+            last = if lacking == 0 { last } else { lacking };
         }
     }
     assert!(rt; last == SESSION && !is_asked, "{last}");
+    assert_eq!(rt; without, OF_THE_MARKS);
     Ok(())
 }

@@ -3,7 +3,7 @@
 
 use crate::tests::brokers::{has_logs, new_node, prints, refused_producer};
 use broker_core::Role;
-use segment::{BatchStore, VecStore};
+use segment::{BatchStore, ProgramStore};
 use std::test::Fail;
 
 /// A role, how many bytes the host has, how many topics have which name, and the answer: no refusal, or
@@ -48,7 +48,7 @@ fn is_judged<S: BatchStore>(alloc: S::Alloc, row: &(u32, i64, &'static str)) -> 
 fn first_producers(rt: HostRuntime) -> Result<(), Fail> {
     for row in &PRODUCERS {
         assert!(rt;
-            is_judged::<VecStore<_>>(rt.alloc(), row),
+            is_judged::<ProgramStore<_>>(rt.alloc(), row),
             "{}, {}",
             row.0,
             row.1
@@ -61,7 +61,7 @@ fn first_producers(rt: HostRuntime) -> Result<(), Fail> {
 fn hosts_and_logs(rt: HostRuntime) -> Result<(), Fail> {
     for row in &ROWS {
         assert!(rt;
-            is_right::<VecStore<_>>(rt.alloc(), row),
+            is_right::<ProgramStore<_>>(rt.alloc(), row),
             "{} bytes, {}",
             row.1,
             row.3

@@ -9,7 +9,7 @@ use crate::tests::exchanges::{
 use broker_core::{GROUP_TOPIC, Node, Role};
 use refusing_alloc::Refusing;
 use request_frames::parse;
-use segment::{BatchStore, VecStore};
+use segment::{BatchStore, ProgramStore};
 use std::alloc::{AllocError, Allocator};
 
 /// What a broker is asked, in this order, and the ends of partition 0 of `t`, of `u` and of the topic of groups then.
@@ -208,7 +208,7 @@ fn lacking<S: BatchStore, B: Allocator + Copy>(heap: S::Alloc, alloc: B, run: &R
 /// The same where this allocation fails, and whether it is asked for.
 fn lacking_without<A: Allocator + Copy>(inner: A, refused: u64, run: &Run) -> (Option<u32>, bool) {
     let heap = Refusing::new(inner, refused);
-    let bits = lacking::<VecStore<_>, _>(&heap, inner, run);
+    let bits = lacking::<ProgramStore<_>, _>(&heap, inner, run);
     (bits, heap.calls() >= refused)
 }
 

@@ -104,12 +104,24 @@ fn replays<A: Allocator + Copy>(alloc: A, refused: u64, least: usize) -> Came {
     }
 }
 
-/// How many allocations fail for the index of producers alone, which a leader's log does without: an index of
-/// one producer takes four, at `produce-as`, and four again at `clean`, which makes it anew.
-const OF_THE_INDEX: u64 = 8;
+/// How many allocations fail for the index of producers alone, which a copy does without: an index of one
+/// producer takes four, at `produce-as`, four more at `merge`, which makes that of the copy merged into, and
+/// four at `clean`, which makes the leader's anew.
+const OF_THE_INDEX: u64 = 12;
+
+/// How many allocations fail that a segment of batches does without: of its two lists of marked batches.
+const OF_THE_MARKS: u64 = 2;
+
+/// How many segments the script makes: one at the first `produce` and one at `deliver`; at `merge` one of the
+/// image's batches, one of those that come in, and one of what both become; and one at `clean`.
+const SEGMENTS: u64 = 6;
+
+/// How many segments a merge makes: one of each image, one of the batches that come in, and one of what both
+/// become.
+const MERGED_SEGMENTS: u64 = 4;
 
 #[test]
-fn a_script_does_without_the_index_alone(rt: HostRuntime) -> Result<(), Fail> {
+fn a_script_does_without_its_indices_alone(rt: HostRuntime) -> Result<(), Fail> {
     let mut came = Came::Wrong;
     let mut printed = 0;
     let mut without = 0_u64;
@@ -125,16 +137,16 @@ fn a_script_does_without_the_index_alone(rt: HostRuntime) -> Result<(), Fail> {
     }
     // A line was printed before the last allocation that is needed.
     assert!(rt; came == Came::AtOnce && printed > 0, "{came:?}, {printed}");
-    assert_eq!(rt; without, OF_THE_INDEX);
+    assert_eq!(rt; without, OF_THE_INDEX + SEGMENTS * OF_THE_MARKS);
     Ok(())
 }
 
 /// Whether a merge is printed, or nothing but that memory was wanting.
-fn is_merge_told(status: u8, out: &[u8], err: &[u8], is_asked: bool) -> bool {
-    if is_asked {
-        status == 3 && out.is_empty() && err == "kbroker: out of memory\n".as_bytes()
-    } else {
-        status == 0 && out == MERGED.as_slice() && err.is_empty()
+fn is_merge_told(status: u8, out: &[u8], err: &[u8]) -> bool {
+    match status {
+        0 => out == MERGED.as_slice() && err.is_empty(),
+        3 => out.is_empty() && err == "kbroker: out of memory\n".as_bytes(),
+        _ => false,
     }
 }
 
@@ -146,7 +158,7 @@ fn merges<A: Allocator + Copy>(alloc: A, refused: u64) -> Came {
     let mut err = Vec::new(alloc);
     let status = run_merge(&heap, &mut input, &mut out, &mut err);
     let is_asked = heap.calls() >= refused;
-    if is_merge_told(status, &out, &err, is_asked) {
+    if is_merge_told(status, &out, &err) {
         came_of(status, out.len(), is_asked)
     } else {
         Came::Wrong
@@ -156,13 +168,17 @@ fn merges<A: Allocator + Copy>(alloc: A, refused: u64) -> Came {
 #[test]
 fn a_merge_is_printed_once_there_is_memory(rt: HostRuntime) -> Result<(), Fail> {
     let mut came = Came::Wrong;
+    let mut without = 0_u64;
     for refused in 1..MOST {
         came = merges(rt.alloc(), refused);
         assert!(rt; came != Came::Wrong, "allocation {refused} fails");
-        if came == Came::AtOnce {
-            break;
+        match came {
+            Came::Without => without = without.saturating_add(1),
+            Came::AtOnce => break,
+            _ => {}
         }
     }
     assert_eq!(rt; came, Came::AtOnce);
+    assert_eq!(rt; without, MERGED_SEGMENTS * OF_THE_MARKS);
     Ok(())
 }

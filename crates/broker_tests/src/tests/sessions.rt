@@ -6,7 +6,7 @@ use crate::tests::frames::{LIST, LISTED, LISTED_AT_1, PRODUCE, STORED, repeated}
 use crate::tests::pieces::{Halting, NONE, Pieces, WAYS, reader_of, writer_of};
 use broker_core::{Ended, Node, SessionError, serve};
 use refusing_alloc::Refusing;
-use segment::{BatchStore, VecStore};
+use segment::{BatchStore, ProgramStore};
 use std::alloc::Allocator;
 use std::io::ErrorKind;
 use std::test::Fail;
@@ -109,7 +109,7 @@ fn cut_and_failing_readers(rt: HostRuntime) -> Result<(), Fail> {
     let replies = repeated(rt.alloc(), STORED, LISTED_AT_1, 1)?;
     for row in &ROWS {
         assert!(rt;
-            is_row::<VecStore<_>>(rt.alloc(), &input, &replies, row),
+            is_row::<ProgramStore<_>>(rt.alloc(), &input, &replies, row),
             "{}",
             row.0
         );
@@ -146,7 +146,7 @@ fn writers_that_fail(rt: HostRuntime) -> Result<(), Fail> {
     for room in 0..=replies.len() {
         for (way, error) in &WAYS {
             assert!(rt;
-                is_cut::<VecStore<_>>(rt.alloc(), &input, &replies, room, *error),
+                is_cut::<ProgramStore<_>>(rt.alloc(), &input, &replies, room, *error),
                 "{room}, {way}"
             );
         }
@@ -177,7 +177,7 @@ fn calls_of<S: BatchStore>(
 fn many_requests_in_few_allocations(rt: HostRuntime) -> Result<(), Fail> {
     let input = repeated(rt.alloc(), b"", LIST, 3000)?;
     let replies = repeated(rt.alloc(), b"", LISTED, 3000)?;
-    let (is_answered, calls) = calls_of::<VecStore<_>>(rt.alloc(), &input, &replies, 3000);
+    let (is_answered, calls) = calls_of::<ProgramStore<_>>(rt.alloc(), &input, &replies, 3000);
     assert!(rt; is_answered && calls < 40, "{calls} allocations");
     Ok(())
 }

@@ -1,4 +1,5 @@
-//! A table under each allocation failing in turn: nothing is printed, and a run with memory prints it.
+//! A table under each allocation failing in turn: nothing is printed, and a run with memory prints it, or one that
+//! does without it.
 use refusing_alloc::Refusing;
 use sample_batches::THREE;
 use std::alloc::Allocator;
@@ -7,6 +8,9 @@ use tcp_edge::{TableError, run_table, run_table_subcommand};
 
 /// More allocations than any run below asks for.
 const MOST: u64 = 100;
+
+/// How many allocations fail that a segment of batches does without: of its two lists of marked batches.
+const OF_THE_MARKS: u64 = 2;
 
 /// What a table answers with memory or without, and what it prints.
 fn answer_of(has_memory: bool) -> (Result<(), TableError>, &'static str) {
@@ -17,55 +21,75 @@ fn answer_of(has_memory: bool) -> (Result<(), TableError>, &'static str) {
     }
 }
 
-/// Runs a table in memory of which this allocation fails: whether it is printed, or is refused where the
-/// allocation is asked for, and whether it isn't asked for.
-fn is_answered<A: Allocator + Copy>(alloc: A, refused: u64) -> (bool, bool) {
+/// What came of a run.
+#[derive(Clone, Copy, Debug, PartialEq, Eq)]
+enum Came {
+    /// The table is printed.
+    Printed,
+    /// Memory was wanting, and nothing is printed.
+    Lacked,
+    /// Something else.
+    Wrong,
+}
+
+/// What came of it where there is an answer, and this is printed.
+fn came_of(answer: Result<(), TableError>, out: &[u8]) -> Came {
+    for (has_memory, came) in [(true, Came::Printed), (false, Came::Lacked)] {
+        let (wanted, lines) = answer_of(has_memory);
+        if answer == wanted && out == lines.as_bytes() {
+            return came;
+        }
+    }
+    Came::Wrong
+}
+
+/// Runs a table in memory of which this allocation fails: what came of it, and whether it is asked for.
+fn runs<A: Allocator + Copy>(alloc: A, refused: u64) -> (Came, bool) {
     let heap = Refusing::new(alloc, refused);
     let mut input: &[u8] = &THREE;
     let mut out = Vec::new(alloc);
     let answer = run_table(&heap, &mut input, &mut out);
-    let has_memory = heap.calls() < refused;
-    let (wanted, lines) = answer_of(has_memory);
-    (
-        answer == wanted && out.as_slice() == lines.as_bytes(),
-        has_memory,
-    )
+    (came_of(answer, &out), heap.calls() >= refused)
 }
 
-/// Whether a status, and what comes on standard output and on standard error, are those of a table with
-/// memory or without.
-fn is_status(status: u8, out: &[u8], err: &[u8], has_memory: bool) -> bool {
-    if has_memory {
-        status == 0 && out == b"b=2\n".as_slice() && err.is_empty()
-    } else {
-        status == 3 && out.is_empty() && err == "kbroker: out of memory\n".as_bytes()
+/// Whether a status, and what comes on standard output and on standard error, are those of a table that is printed,
+/// or that lacked memory.
+fn is_status(status: u8, out: &[u8], err: &[u8], came: Came) -> bool {
+    match came {
+        Came::Printed => status == 0 && out == b"b=2\n".as_slice() && err.is_empty(),
+        Came::Lacked => {
+            status == 3 && out.is_empty() && err == "kbroker: out of memory\n".as_bytes()
+        }
+        Came::Wrong => false,
     }
 }
 
 /// Whether the call that has a status and says why does the same.
-fn is_told<A: Allocator + Copy>(alloc: A, refused: u64, has_memory: bool) -> bool {
+fn is_told<A: Allocator + Copy>(alloc: A, refused: u64, came: Came) -> bool {
     let heap = Refusing::new(alloc, refused);
     let mut input: &[u8] = &THREE;
     let mut out = Vec::new(alloc);
     let mut err = Vec::new(alloc);
     let status = run_table_subcommand(&heap, &mut input, &mut out, &mut err);
-    is_status(status, &out, &err, has_memory)
+    is_status(status, &out, &err, came)
 }
 
 #[test]
 fn a_small_table_is_printed_once_there_is_memory(rt: HostRuntime) -> Result<(), Fail> {
-    let mut passed = false;
+    let mut is_asked = true;
+    let mut without = 0_u64;
     for refused in 1..MOST {
-        let (is_right, has_memory) = is_answered(rt.alloc(), refused);
-        passed = has_memory;
-        assert!(rt;
-            is_right && is_told(rt.alloc(), refused, passed),
-            "allocation {refused} fails"
-        );
-        if passed {
-            break;
+        if is_asked {
+            let (came, asked) = runs(rt.alloc(), refused);
+            assert!(rt;
+                (asked || came == Came::Printed) && is_told(rt.alloc(), refused, came),
+                "allocation {refused} fails"
+            );
+            is_asked = asked;
+            without = without.saturating_add(u64::from(asked && came == Came::Printed));
         }
     }
-    assert!(rt; passed);
+    assert!(rt; !is_asked);
+    assert_eq!(rt; without, OF_THE_MARKS);
     Ok(())
 }

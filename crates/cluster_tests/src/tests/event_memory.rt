@@ -2,14 +2,14 @@
 //! A call counts it where it lacks memory.
 
 use crate::tests::events::{Answer, end_of};
-use crate::tests::memory::{MOST, count};
+use crate::tests::memory::{MOST, OF_THE_MARKS, count};
 use crate::tests::outside::{EMPTY, SECOND_OF_TWO, TWO};
 use cluster::{Cluster, ClusterError, Event, EventError, Outcome};
 use copy_images::write_image;
 use partition_log::{CleanReport, Delivered, PartitionLog};
 use refusing_alloc::Refusing;
 use sample_batches::{NINE, THREE, nine_at};
-use segment::{BatchStore, VecStore};
+use segment::{BatchStore, SegStore};
 use std::alloc::{AllocError, Global};
 use std::test::Fail;
 
@@ -29,6 +29,9 @@ enum Told {
     /// A copy's start moves to an offset.
     Trim(usize, i64),
 }
+
+/// How many segments are begun in all.
+const SEGMENTS: u64 = 9;
 
 /// Events that happen one after the other, and their answers.
 static STEPS: [(Told, Answer); 9] = [
@@ -301,29 +304,33 @@ fn new_does_all<S: BatchStore>(
     }
 }
 
-/// The number of the first allocation at whose failure not all happens as it should, or no call lacks memory; the number
-/// at which a call lacks memory though none failed; 1 where none is asked for, and [`MOST`] where each run asks for
-/// more. `None` where all is right.
-fn wrong_allocation(alloc: Global, events: (&[Event<Global>], &[Event<Global>])) -> Option<u64> {
+/// How many allocations the calls do without, where each fails in turn; an error with the number of one at whose
+/// failure not all happens as it should, with [`MOST`] where each run asks for more.
+fn done_without(alloc: Global, events: (&[Event<Global>], &[Event<Global>])) -> Result<u64, u64> {
+    let mut without = 0;
     for number in 1..MOST {
         let heap = Refusing::new(alloc, number);
         let mut lacked = 0;
-        let done = new_does_all::<VecStore<_>>(&heap, alloc, events, &mut lacked);
-        // each allocation that fails is that of a call
-        if !done || (lacked > 0) != (number <= heap.calls()) {
-            return Some(number);
+        let done = new_does_all::<SegStore<_>>(&heap, alloc, events, &mut lacked);
+        let fails = number <= heap.calls();
+        if !done || (lacked > 0 && !fails) {
+            return Err(number);
+        }
+        if !fails {
+            return Ok(without);
         }
         if lacked == 0 {
-            return if number > 1 { None } else { Some(number) };
+            count(&mut without);
         }
     }
-    Some(MOST)
+    Err(MOST)
 }
 
 #[test]
 fn events_happen_later(rt: HostRuntime) -> Result<(), Fail> {
     let steps = events_of(rt.alloc(), &STEPS)?;
     let list = events_of(rt.alloc(), &LIST)?;
-    assert_eq!(rt; wrong_allocation(rt.alloc(), (&steps, &list)), None);
+    let without = done_without(rt.alloc(), (&steps, &list));
+    assert_eq!(rt; without, Ok(SEGMENTS * OF_THE_MARKS));
     Ok(())
 }

@@ -4,7 +4,7 @@ use batch_codec::BatchError;
 use cluster::{Cluster, ClusterError, Event, EventError, Outcome};
 use partition_log::AppendError;
 use sample_batches::{NO_KEY, sent};
-use segment::{BatchStore, VecStore};
+use segment::{BatchStore, ProgramStore};
 use std::test::Fail;
 
 /// What comes of an event.
@@ -41,7 +41,7 @@ fn is_made<S: BatchStore>(alloc: S::Alloc, copies: usize) -> bool {
 #[test]
 fn clusters_have_one_to_eight_copies(rt: HostRuntime) -> Result<(), Fail> {
     for copies in [0, 1, 2, 3, 4, 5, 6, 7, 8, 9, usize::MAX] {
-        assert!(rt; is_made::<VecStore<_>>(rt.alloc(), copies), "{copies}");
+        assert!(rt; is_made::<ProgramStore<_>>(rt.alloc(), copies), "{copies}");
     }
     Ok(())
 }
@@ -164,5 +164,8 @@ fn wrong_answer_of_new<S: BatchStore>(alloc: S::Alloc, rows: &[Sent]) -> &'stati
 
 #[test]
 fn batches_that_are_sent(rt: HostRuntime) {
-    assert_eq!(rt; wrong_answer_of_new::<VecStore<_>>(rt.alloc(), &SENT), "");
+    assert_eq!(rt;
+        wrong_answer_of_new::<ProgramStore<_>>(rt.alloc(), &SENT),
+        ""
+    );
 }

@@ -6,7 +6,7 @@ use batch_codec::view;
 use copy_images::{read_image, write_image};
 use partition_log::{AppendError, Appended, CleanReport, LeaderLog, PartitionLog};
 use sample_batches::{A_IS_1, one, sent};
-use segment::{BatchStore, VecStore};
+use segment::{BatchStore, ProgramStore};
 
 /// Whether a log answers a batch so.
 fn answers<S: BatchStore>(
@@ -99,8 +99,8 @@ fn image_knows<S: BatchStore>(alloc: S::Alloc, image: &[u8]) -> [bool; 5] {
 
 #[test]
 fn a_producer_is_known_from_an_image(rt: HostRuntime) {
-    let knows = match image_of_six::<VecStore<_>>(rt.alloc()) {
-        Some(image) => image_knows::<VecStore<_>>(rt.alloc(), &image),
+    let knows = match image_of_six::<ProgramStore<_>>(rt.alloc()) {
+        Some(image) => image_knows::<ProgramStore<_>>(rt.alloc(), &image),
         None => [false; 5],
     };
     assert_eq!(rt; knows, [true; 5]);
@@ -116,7 +116,7 @@ fn is_full<S: BatchStore>(copy: PartitionLog<S>) -> bool {
 
 #[test]
 fn an_image_of_all_offsets(rt: HostRuntime) {
-    let is_full = match read_image::<VecStore<_>>(rt.alloc(), &ALL_OFFSETS) {
+    let is_full = match read_image::<ProgramStore<_>>(rt.alloc(), &ALL_OFFSETS) {
         Ok(copy) => is_full(copy),
         Err(_) => false,
     };
@@ -133,7 +133,7 @@ fn is_handed_back<S: BatchStore>(copy: PartitionLog<S>, image: &[u8]) -> bool {
 
 #[test]
 fn an_image_with_a_gap(rt: HostRuntime) {
-    let is_handed_back = match read_image::<VecStore<_>>(rt.alloc(), &ONE_OFFSET) {
+    let is_handed_back = match read_image::<ProgramStore<_>>(rt.alloc(), &ONE_OFFSET) {
         Ok(copy) => is_handed_back(copy, &ONE_OFFSET),
         Err(_) => false,
     };

@@ -1,12 +1,12 @@
 //! Deltas of a copy, byte for byte, and with each allocation failing in turn.
 
-use crate::tests::memory::MOST;
+use crate::tests::memory::{MOST, OF_THE_MARKS, count};
 use crate::tests::outside::{B_IS_2, LISTED, SENT};
 use copy_deltas::write_delta;
 use copy_images::read_image;
 use cover_ranges::Cover;
 use refusing_alloc::Refusing;
-use segment::{BatchStore, VecStore};
+use segment::{BatchStore, SegStore};
 use std::alloc::{AllocError, Allocator};
 
 /// The offsets 0 and 1, or none.
@@ -28,24 +28,29 @@ fn is_made<S: BatchStore>(heap: S::Alloc, asks: bool, delta: &[u8]) -> Result<bo
     Ok(made.as_slice() == delta)
 }
 
-/// The number of the allocation whose failure isn't answered by a lack of memory, or [`MOST`]; `None` where
-/// all is right.
-fn wrong_allocation<A: Allocator + Copy>(alloc: A, asks: bool, delta: &[u8]) -> Option<u64> {
+/// How many allocations the making of a delta does without, where each fails in turn; an error with the number of one
+/// at whose failure it is wrong, with [`MOST`] where each run asks for more.
+fn done_without<A: Allocator + Copy>(alloc: A, asks: bool, delta: &[u8]) -> Result<u64, u64> {
+    let mut without = 0;
     for number in 1..MOST {
         let heap = Refusing::new(alloc, number);
-        let is_right = is_made::<VecStore<_>>(&heap, asks, delta) == Ok(true);
-        if heap.calls() < number {
-            return if is_right { None } else { Some(number) };
+        let made = is_made::<SegStore<_>>(&heap, asks, delta);
+        let fails = number <= heap.calls();
+        if made == Ok(false) || (made.is_err() && !fails) {
+            return Err(number);
         }
-        if is_right {
-            return Some(number);
+        if !fails {
+            return Ok(without);
+        }
+        if made.is_ok() {
+            count(&mut without);
         }
     }
-    Some(MOST)
+    Err(MOST)
 }
 
 #[test]
 fn deltas_are_made(rt: HostRuntime) {
-    assert_eq!(rt; wrong_allocation(rt.alloc(), true, &LISTED), None);
-    assert_eq!(rt; wrong_allocation(rt.alloc(), false, &SENT), None);
+    assert_eq!(rt; done_without(rt.alloc(), true, &LISTED), Ok(OF_THE_MARKS));
+    assert_eq!(rt; done_without(rt.alloc(), false, &SENT), Ok(OF_THE_MARKS));
 }

@@ -8,12 +8,18 @@ use copy_images::{ImageError, read_image, write_image};
 use copy_merge::{MergeError, merge, merge_into};
 use partition_log::PartitionLog;
 use refusing_alloc::Refusing;
-use segment::{BatchStore, VecStore};
+use segment::{BatchStore, SegStore};
 use std::alloc::Allocator;
 use std::test::Fail;
 
 /// More allocations than any run below asks for.
 pub(crate) const MOST: u64 = 500;
+
+/// How many allocations fail that a segment of batches does without: of its two lists of marked batches.
+pub(crate) const OF_THE_MARKS: u64 = 2;
+
+/// How many segments are begun in all.
+const SEGMENTS: u64 = 10;
 
 /// Counts one call more that lacked memory.
 pub(crate) fn count(lacked: &mut u64) {
@@ -127,28 +133,31 @@ fn does_with_both<S: BatchStore>(heap: S::Alloc, lacked: &mut u64) -> bool {
     }
 }
 
-/// The number of the first allocation at whose failure not all is as it should be, or no call lacks memory; the number
-/// at which a call lacks memory though none failed; 1 where none is asked for, and [`MOST`] where each run asks for
-/// more. `None` where all is right.
-fn wrong_allocation<A: Allocator + Copy>(alloc: A) -> Option<u64> {
+/// How many allocations the calls do without, where each fails in turn; an error with the number of one at whose
+/// failure not all is as it should be, with [`MOST`] where each run asks for more.
+fn done_without<A: Allocator + Copy>(alloc: A) -> Result<u64, u64> {
+    let mut without = 0;
     for number in 1..MOST {
         let heap = Refusing::new(alloc, number);
         let mut lacked = 0;
-        let done = does_with_both::<VecStore<_>>(&heap, &mut lacked);
-        // each allocation that fails is that of a call
-        if !done || (lacked > 0) != (number <= heap.calls()) {
-            return Some(number);
+        let done = does_with_both::<SegStore<_>>(&heap, &mut lacked);
+        let fails = number <= heap.calls();
+        if !done || (lacked > 0 && !fails) {
+            return Err(number);
+        }
+        if !fails {
+            return Ok(without);
         }
         if lacked == 0 {
-            return if number > 1 { None } else { Some(number) };
+            count(&mut without);
         }
     }
-    Some(MOST)
+    Err(MOST)
 }
 
 #[test]
 fn calls_succeed_later(rt: HostRuntime) {
-    assert_eq!(rt; wrong_allocation(rt.alloc()), None);
+    assert_eq!(rt; done_without(rt.alloc()), Ok(SEGMENTS * OF_THE_MARKS));
 }
 
 #[test]

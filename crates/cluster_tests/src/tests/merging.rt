@@ -6,7 +6,7 @@ use copy_images::read_image;
 use copy_merge::{MergeError, merge, merge_into};
 use partition_log::PartitionLog;
 use sample_batches::{nine_at, one, three_at};
-use segment::{BatchStore, VecStore};
+use segment::{BatchStore, ProgramStore};
 
 /// What two copies are, their images, and that of their merge.
 type Row = (&'static str, &'static [u8], &'static [u8], &'static [u8]);
@@ -64,7 +64,7 @@ fn is_right<S: BatchStore>(alloc: S::Alloc, &(_, left, right, image): &Row) -> b
 fn copies_that_merge(rt: HostRuntime) {
     let mut wrong = None;
     for row in &MERGES {
-        if !is_right::<VecStore<_>>(rt.alloc(), row) {
+        if !is_right::<ProgramStore<_>>(rt.alloc(), row) {
             wrong = Some(row.0);
         }
     }
@@ -128,7 +128,7 @@ fn of_two_logs<S: BatchStore>(alloc: S::Alloc) -> [(&'static str, bool); 6] {
 
 #[test]
 fn copies_that_disagree(rt: HostRuntime) {
-    for (name, is_right) in of_two_logs::<VecStore<_>>(rt.alloc()) {
+    for (name, is_right) in of_two_logs::<ProgramStore<_>>(rt.alloc()) {
         assert!(rt; is_right, "{name}");
     }
 }

@@ -12,7 +12,7 @@ use copy_deltas::{PatchError, apply_delta};
 use copy_images::read_image;
 use partition_log::PartitionLog;
 use refusing_alloc::Refusing;
-use segment::{BatchStore, VecStore};
+use segment::{BatchStore, ProgramStore};
 use std::alloc::Allocator;
 use std::test::Fail;
 
@@ -40,7 +40,7 @@ fn is_taken<S: BatchStore>(alloc: S::Alloc, &(_, before, delta, after): &Row) ->
 fn deltas_are_taken(rt: HostRuntime) {
     let mut wrong = None;
     for row in &TAKEN {
-        if !is_taken::<VecStore<_>>(rt.alloc(), row) {
+        if !is_taken::<ProgramStore<_>>(rt.alloc(), row) {
             wrong = Some(row.0);
         }
     }
@@ -76,7 +76,7 @@ fn is_refused<S: BatchStore>(alloc: S::Alloc, bytes: &[u8], why: PatchError) -> 
 fn deltas_are_refused(rt: HostRuntime) {
     let mut wrong = None;
     for (bytes, why) in &REFUSED {
-        if !is_refused::<VecStore<_>>(rt.alloc(), bytes, *why) {
+        if !is_refused::<ProgramStore<_>>(rt.alloc(), bytes, *why) {
             wrong = Some(*why);
         }
     }
@@ -93,7 +93,7 @@ fn reads_and_refuses<S: BatchStore>(heap: S::Alloc, bytes: Option<&[u8]>) {
 /// How many allocations that asks for.
 fn calls<A: Allocator + Copy>(alloc: A, bytes: Option<&[u8]>) -> u64 {
     let heap = Refusing::new(alloc, MOST);
-    reads_and_refuses::<VecStore<_>>(&heap, bytes);
+    reads_and_refuses::<ProgramStore<_>>(&heap, bytes);
     heap.calls()
 }
 
@@ -151,7 +151,7 @@ fn lacking<A: Allocator + Copy>(alloc: A) -> Option<u64> {
     for number in 1..MOST {
         let heap = Refusing::new(alloc, number);
         let mut has_lacked = false;
-        if !takes_later::<VecStore<_>>(&heap, &mut has_lacked) {
+        if !takes_later::<ProgramStore<_>>(&heap, &mut has_lacked) {
             return None;
         }
         if heap.calls() < number {

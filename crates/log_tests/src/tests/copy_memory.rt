@@ -3,7 +3,7 @@ use batch_codec::view;
 use partition_log::{CleanReport, DeliverError, Delivered, PartitionLog};
 use refusing_alloc::Refusing;
 use sample_batches::{NINE, THREE, one};
-use segment::{BatchStore, VecStore};
+use segment::{BatchStore, SegStore, VecStore};
 use std::test::Fail;
 
 /// More allocations than any run below asks for.
@@ -86,7 +86,9 @@ fn a_copy_is_as_before_an_allocation_that_fails(rt: HostRuntime) -> Result<(), F
     for refused in 1..MOST {
         let heap = Refusing::new(rt.alloc(), refused);
         assert!(rt; is_as_before::<VecStore<_>>(&heap), "{refused}");
-        passed = heap.calls() < refused;
+        let other = Refusing::new(rt.alloc(), refused);
+        assert!(rt; is_as_before::<SegStore<_>>(&other), "{refused}, segments");
+        passed = heap.calls() < refused && other.calls() < refused;
         if passed {
             break;
         }

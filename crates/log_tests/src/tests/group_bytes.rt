@@ -6,7 +6,7 @@ use group_offsets::{
     read_value,
 };
 use partition_log::PartitionLog;
-use segment::{BatchStore, VecStore};
+use segment::{BatchStore, ProgramStore};
 use std::alloc::Allocator;
 
 /// A group, a topic and a partition, and the bytes of the key.
@@ -156,7 +156,7 @@ fn shows<S: BatchStore>(copy: &mut PartitionLog<S>) -> bool {
 
 #[test]
 fn a_copy_of_commits(rt: HostRuntime) {
-    let is_shown = match committed::<VecStore<_>>(rt.alloc()) {
+    let is_shown = match committed::<ProgramStore<_>>(rt.alloc()) {
         Some(mut copy) => shows(&mut copy),
         None => false,
     };
@@ -183,7 +183,7 @@ fn refusals<S: BatchStore>(copy: &PartitionLog<S>, name: &[u8]) -> [Option<Group
 
 #[test]
 fn names_that_are_too_long(rt: HostRuntime) {
-    let copy = PartitionLog::<VecStore<_>>::new(rt.alloc());
+    let copy = PartitionLog::<ProgramStore<_>>::new(rt.alloc());
     let longest = &LONG[..32_767];
     assert_eq!(rt; refusals(&copy, &LONG), [Some(GroupError::NameTooLong); 8]);
     assert_eq!(rt; refusals(&copy, longest), [None; 8]);

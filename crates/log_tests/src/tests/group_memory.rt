@@ -7,7 +7,7 @@ use group_offsets::{
 };
 use partition_log::PartitionLog;
 use refusing_alloc::Refusing;
-use segment::{BatchStore, VecStore};
+use segment::{BatchStore, ProgramStore};
 use std::alloc::Allocator;
 
 /// More allocations than any run below asks for.
@@ -120,7 +120,7 @@ fn lacking_without<A: Allocator + Copy>(
     number: usize,
 ) -> (Option<bool>, bool) {
     let heap = Refusing::new(inner, refused);
-    let lacks = lacking::<VecStore<_>, _>(&heap, inner, number);
+    let lacks = lacking::<ProgramStore<_>, _>(&heap, inner, number);
     (lacks, heap.calls() >= refused)
 }
 

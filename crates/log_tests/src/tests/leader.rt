@@ -2,7 +2,7 @@
 use crate::tests::answers::{answer, is_added};
 use partition_log::{AppendError, LeaderLog, PartitionLog};
 use sample_batches::{EMPTIED, one};
-use segment::{BatchStore, VecStore};
+use segment::{BatchStore, ProgramStore};
 
 /// A copy that lacks the offset 0, handed back; `None` where a leader's log is made of it.
 fn handed_back<S: BatchStore>(alloc: S::Alloc) -> Option<PartitionLog<S>> {
@@ -31,7 +31,7 @@ fn leads<S: BatchStore>(copy: PartitionLog<S>) -> bool {
 #[test]
 fn a_copy_with_a_gap_is_handed_back(rt: HostRuntime) {
     // whether the copy leads once it is filled
-    let leads_later = match handed_back::<VecStore<_>>(rt.alloc()) {
+    let leads_later = match handed_back::<ProgramStore<_>>(rt.alloc()) {
         Some(mut copy) => is_filled(&mut copy) && leads(copy),
         None => false,
     };

@@ -1,10 +1,10 @@
-//! A leader's log of many producers: what it answers to each, with an index of producers and without, and
-//! with each allocation failing in turn.
+//! A leader's log of many producers: what it answers to each, by the index of producers that it has and by one
+//! made anew, and with each allocation failing in turn.
 use crate::tests::answers::{Answer, answer, is_added};
 use partition_log::{AppendError, CleanReport, LeaderLog, PartitionLog};
 use refusing_alloc::Refusing;
 use sample_batches::sent;
-use segment::{BatchStore, VecStore};
+use segment::{BatchStore, SegStore, VecStore};
 use std::alloc::Allocator;
 
 /// How many producers there are.
@@ -99,8 +99,8 @@ static ROWS: [Row; 12] = [
     ("what 7 sent last", 7, 0, 3, Ok((60, true))),
 ];
 
-/// What the log of a copy answers that has no index of producers.
-fn answer_without<S: BatchStore>(copy: &PartitionLog<S>, bytes: &[u8]) -> Option<Answer> {
+/// What the log of a clone answers, whose index of producers was made anew.
+fn answer_of_clone<S: BatchStore>(copy: &PartitionLog<S>, bytes: &[u8]) -> Option<Answer> {
     let clone = copy.try_clone().ok()?;
     match LeaderLog::from_copy(clone) {
         Ok(mut log) => answer(&mut log, bytes),
@@ -108,13 +108,13 @@ fn answer_without<S: BatchStore>(copy: &PartitionLog<S>, bytes: &[u8]) -> Option
     }
 }
 
-/// The name of the first batch of these that the log answers in another way, with its index or without; empty
+/// The name of the first batch of these that the log answers in another way, itself or its clone; empty
 /// where there is none.
 fn wrong_row<S: BatchStore>(log: &mut LeaderLog<S>, rows: &[Row]) -> &'static str {
     let mut wrong = "";
     for (name, producer, epoch, sequence, wanted) in rows {
         let bytes = sent(*producer, *epoch, *sequence);
-        let answers = [answer_without(log.copy(), &bytes), answer(log, &bytes)];
+        let answers = [answer_of_clone(log.copy(), &bytes), answer(log, &bytes)];
         if wrong.is_empty() && answers != [Some(*wanted); 2] {
             wrong = *name;
         }
@@ -149,6 +149,7 @@ fn wrong_of_new<S: BatchStore>(heap: S::Alloc, lacked: &mut u64, rows: &[Row]) -
 #[test]
 fn each_producer_has_its_window(rt: HostRuntime) {
     assert_eq!(rt; wrong_of_new::<VecStore<_>>(rt.alloc(), &mut 0, &ROWS), "");
+    assert_eq!(rt; wrong_of_new::<SegStore<_>>(rt.alloc(), &mut 0, &ROWS), "");
 }
 
 /// Whether the log's start moves to offset 45, so that 15 batches are left.
@@ -168,7 +169,7 @@ fn is_filled<S: BatchStore>(heap: S::Alloc, trims: bool) -> bool {
 /// How many allocations that asks for; `None` where anything is wrong.
 fn asked_by_log<A: Allocator + Copy>(alloc: A, trims: bool) -> Option<u64> {
     let heap = Refusing::new(alloc, 0);
-    if is_filled::<VecStore<_>>(&heap, trims) {
+    if is_filled::<SegStore<_>>(&heap, trims) {
         Some(heap.calls())
     } else {
         None
@@ -182,34 +183,84 @@ fn a_trim_asks_for_no_memory(rt: HostRuntime) {
     assert_eq!(rt; asked_by_log(rt.alloc(), true), asked);
 }
 
-/// Whether a new copy takes the batches and is cleaned.
-fn copy_is_cleaned<S: BatchStore>(heap: S::Alloc) -> bool {
+/// Delivers the batch that has this offset. Where memory lacks, which is counted, the copy is as before, and
+/// it is delivered again.
+fn is_delivered<S: BatchStore>(copy: &mut PartitionLog<S>, offset: i32, lacked: &mut u64) -> bool {
+    let bytes = in_turn(offset);
+    if is_added(copy, &bytes) {
+        return true;
+    }
+    *lacked = lacked.saturating_add(1);
+    copy.end() == i64::from(offset) && is_added(copy, &bytes)
+}
+
+/// Whether a new copy takes the batches and is cleaned, again where memory lacked, which is counted.
+fn copy_is_cleaned<S: BatchStore>(heap: S::Alloc, lacked: &mut u64) -> bool {
     let mut copy = PartitionLog::<S>::new(heap);
     let mut all = true;
     for offset in 0..END {
-        all = all && is_added(&mut copy, &in_turn(offset));
+        all = all && is_delivered(&mut copy, offset, lacked);
     }
-    all && has_all(&copy) && copy.clean(60, 0) == Ok(ALL_BUT_ONE)
+    if !all || !has_all(&copy) {
+        return false;
+    }
+    match copy.clean(60, 0) {
+        Ok(report) => report == ALL_BUT_ONE,
+        Err(_) => {
+            *lacked = lacked.saturating_add(1);
+            has_all(&copy) && copy.clean(60, 0) == Ok(ALL_BUT_ONE)
+        }
+    }
 }
 
-/// How many allocations a new copy asks for that takes the batches and is cleaned; `None` where anything is wrong, or it
-/// asks for none.
-fn asked_by_copy<A: Allocator + Copy>(alloc: A) -> Option<u64> {
-    let heap = Refusing::new(alloc, 0);
-    if copy_is_cleaned::<VecStore<_>>(&heap) && heap.calls() > 0 {
-        Some(heap.calls())
-    } else {
-        None
+/// How the copies and logs below keep their batches.
+#[derive(Clone, Copy)]
+enum Kept {
+    /// Each in memory of its own.
+    Apart,
+    /// End to end, in segments.
+    EndToEnd,
+}
+
+/// Whether a new copy is cleaned in this heap.
+fn copy_is_cleaned_in<A: Allocator + Copy>(kept: Kept, heap: A, lacked: &mut u64) -> bool {
+    match kept {
+        Kept::Apart => copy_is_cleaned::<VecStore<A>>(heap, lacked),
+        Kept::EndToEnd => copy_is_cleaned::<SegStore<A>>(heap, lacked),
     }
+}
+
+/// Whether a new log is cleaned in this heap.
+fn log_is_cleaned_in<A: Allocator + Copy>(kept: Kept, heap: A, lacked: &mut u64) -> bool {
+    match kept {
+        Kept::Apart => wrong_of_new::<VecStore<A>>(heap, lacked, &[]).is_empty(),
+        Kept::EndToEnd => wrong_of_new::<SegStore<A>>(heap, lacked, &[]).is_empty(),
+    }
+}
+
+/// How often a call of a copy lacks memory, and how many allocations a run asks for where none fails, with each
+/// failing in turn; `None` where anything is wrong.
+fn lacked_by_copy<A: Allocator + Copy>(alloc: A, kept: Kept) -> Option<(u64, u64)> {
+    let mut lacked = 0;
+    for refused in 1..MOST {
+        let heap = Refusing::new(alloc, refused);
+        if !copy_is_cleaned_in(kept, &heap, &mut lacked) {
+            return None;
+        }
+        if heap.calls() < refused {
+            return Some((lacked, heap.calls()));
+        }
+    }
+    None
 }
 
 /// How often a call of a log lacks memory, with each allocation failing in turn, until a run doesn't ask for the one
 /// that would fail; `None` where anything is wrong.
-fn lacked_by_log<A: Allocator + Copy>(alloc: A) -> Option<u64> {
+fn lacked_by_log<A: Allocator + Copy>(alloc: A, kept: Kept) -> Option<u64> {
     let mut lacked = 0;
     for refused in 1..MOST {
         let heap = Refusing::new(alloc, refused);
-        if !wrong_of_new::<VecStore<_>>(&heap, &mut lacked, &[]).is_empty() {
+        if !log_is_cleaned_in(kept, &heap, &mut lacked) {
             return None;
         }
         if heap.calls() < refused {
@@ -219,13 +270,18 @@ fn lacked_by_log<A: Allocator + Copy>(alloc: A) -> Option<u64> {
     None
 }
 
-/// A call lacks memory where an allocation fails that the copy alone asks for too, and nowhere else: the
-/// others are the index's, which is left out.
+/// A leader's log lacks memory as often as a follower's copy, and neither where an allocation fails that is
+/// left out: of the index, and of the marks in a segment.
 #[test]
 fn a_log_lacks_memory_where_its_copy_does(rt: HostRuntime) {
-    let asked = asked_by_copy(rt.alloc());
-    assert!(rt; asked.is_some());
-    assert_eq!(rt; lacked_by_log(rt.alloc()), asked);
+    for kept in [Kept::Apart, Kept::EndToEnd] {
+        let copy = lacked_by_copy(rt.alloc(), kept);
+        assert!(rt; copy.is_some_and(|(lacked, asked)| 0 < lacked && lacked < asked));
+        assert_eq!(rt;
+            lacked_by_log(rt.alloc(), kept),
+            copy.map(|(lacked, _)| lacked)
+        );
+    }
 }
 
 /// So many producers that a walk over all their batches, for each of them, takes minutes.
@@ -238,13 +294,13 @@ fn first_of(producer: i32) -> [u8; 70] {
     bytes
 }
 
-/// A copy with the first batch of each of many producers.
-fn copy_of_many<S: BatchStore>(heap: S::Alloc) -> PartitionLog<S> {
-    let mut copy = PartitionLog::new(heap);
-    for producer in 0..MANY {
-        is_added(&mut copy, &first_of(producer));
+/// Delivers the first batch of each of some producers, and tells whether each was taken.
+fn are_delivered<S: BatchStore>(copy: &mut PartitionLog<S>, producers: i32) -> bool {
+    let mut all = true;
+    for producer in 0..producers {
+        all = all && is_added(copy, &first_of(producer));
     }
-    copy
+    all
 }
 
 /// Whether each of many producers' first batches is a repeat.
@@ -257,21 +313,49 @@ fn are_known<S: BatchStore>(log: &mut LeaderLog<S>) -> bool {
     all
 }
 
-/// Whether the leader of such a copy, which has no index of producers at first, appends a batch of another
-/// producer, and then knows all of them.
+/// Whether the leader of a copy with the batches of many producers appends a batch of another one, and then
+/// knows all of them.
 fn knows_many<S: BatchStore>(heap: S::Alloc) -> bool {
-    match LeaderLog::from_copy(copy_of_many::<S>(heap)) {
+    let mut copy = PartitionLog::<S>::new(heap);
+    let all = are_delivered(&mut copy, MANY);
+    match LeaderLog::from_copy(copy) {
         Ok(mut log) => {
             let appended = Some(Ok((i64::from(MANY), false)));
-            answer(&mut log, &first_of(MANY)) == appended && are_known(&mut log)
+            all && answer(&mut log, &first_of(MANY)) == appended && are_known(&mut log)
         }
         Err(_) => false,
     }
+}
+
+/// Whether a new copy takes the first batch of each of a few producers.
+fn takes_a_few<S: BatchStore>(heap: S::Alloc) -> bool {
+    let mut copy = PartitionLog::<S>::new(heap);
+    are_delivered(&mut copy, PRODUCERS)
+}
+
+/// The first allocation that a copy asks for its index of producers alone: refused, all batches are taken
+/// nevertheless; 0 where there is none.
+fn asked_by_index<A: Allocator + Copy>(alloc: A) -> u64 {
+    for refused in 1..MOST {
+        let heap = Refusing::new(alloc, refused);
+        if takes_a_few::<SegStore<_>>(&heap) && refused <= heap.calls() {
+            return refused;
+        }
+    }
+    0
+}
+
+/// Whether a leader knows many producers, of a copy whose index of them lacked memory, so that it has none.
+fn knows_many_without<A: Allocator + Copy>(alloc: A, refused: u64) -> bool {
+    let heap = Refusing::new(alloc, refused);
+    knows_many::<SegStore<_>>(&heap)
 }
 
 /// Where there is no index of producers, the next append makes it: without it this takes longer than a test
 /// may.
 #[test]
 fn an_append_makes_the_index_again(rt: HostRuntime) {
-    assert!(rt; knows_many::<VecStore<_>>(rt.alloc()));
+    let refused = asked_by_index(rt.alloc());
+    assert!(rt; 0 < refused);
+    assert!(rt; knows_many_without(rt.alloc(), refused));
 }

@@ -3,7 +3,7 @@
 use crate::tests::answers::is_added;
 use partition_log::{OutOfRange, PartitionLog};
 use sample_batches::one;
-use segment::{BatchStore, VecStore};
+use segment::{BatchStore, SegStore, VecStore};
 
 /// Whether a copy that has seen nothing answers so.
 fn is_empty<S: BatchStore>(log: &PartitionLog<S>) -> bool {
@@ -105,6 +105,10 @@ fn answers_of_new<S: BatchStore>(alloc: S::Alloc) -> ([bool; 3], Option<Fetch>, 
 fn a_copy_with_gaps(rt: HostRuntime) {
     assert_eq!(rt;
         answers_of_new::<VecStore<_>>(rt.alloc()),
+        ([true; 3], None, None)
+    );
+    assert_eq!(rt;
+        answers_of_new::<SegStore<_>>(rt.alloc()),
         ([true; 3], None, None)
     );
 }

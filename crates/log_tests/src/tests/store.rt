@@ -9,7 +9,7 @@ ghost use Rattle.segment.specs.BatchLists.{IsBatchList};
 use batch_codec::{Batch, BatchView, set_base, view};
 use refusing_alloc::Refusing;
 use sample_batches::{EMPTIED, NINE, THREE, nine_at};
-use segment::{BatchStore, VecStore, can_insert};
+use segment::{BatchStore, SegStore, VecStore, can_insert};
 use std::alloc::{AllocError, Allocator};
 
 /// The greatest offset.
@@ -18,8 +18,9 @@ const GREATEST: i64 = 0x3fff_ffff_ffff_ffff;
 /// More allocations than any run below asks for.
 const MOST: u64 = 500;
 
-/// More batches than one block of a store takes.
-const MANY: u16 = 140;
+/// More batches than one block of a store takes, and than the byte store keeps in one segment that it inserts
+/// into: of 70 bytes each, more than 16,384.
+const MANY: u16 = 240;
 
 /// Inserts a batch, and tells whether it might be inserted, and is at the index that was answered.
 fn insert<S: BatchStore>(store: &mut S, batch: &BatchView<'_>) -> Result<bool, AllocError> {
@@ -213,6 +214,7 @@ fn answers_of_new<S: BatchStore>(alloc: S::Alloc) -> (Option<&'static str>, bool
 #[test]
 fn batches_go_in_order_and_are_found(rt: HostRuntime) {
     assert_eq!(rt; answers_of_new::<VecStore<_>>(rt.alloc()), (None, true));
+    assert_eq!(rt; answers_of_new::<SegStore<_>>(rt.alloc()), (None, true));
 }
 
 /// Inserts a batch at another base offset, and tells whether there was memory.
@@ -401,15 +403,56 @@ fn succeeds_later<S: BatchStore, B: Allocator + Copy>(
     }
 }
 
-/// Makes the calls, each allocation failing in turn, until a run doesn't ask for the one that would fail, and
-/// tells whether the stores were right each time, and one failed at all.
-fn each_succeeds_later(rt: &HostRuntime, order: Option<Order>) -> bool {
+/// Makes the calls with a list of batches in memory of their own, this allocation failing, and tells whether the
+/// lists were right each time, and the allocation is asked for.
+fn with_batches<A: Allocator + Copy>(alloc: A, refused: u64, order: Option<Order>) -> (bool, bool) {
+    let heap = Refusing::new(alloc, refused);
+    let is_right = succeeds_later::<VecStore<_>, _>(&heap, alloc, order);
+    (is_right, heap.calls() >= refused)
+}
+
+/// The same with a list of batches end to end in segments.
+fn with_segments<A: Allocator + Copy>(
+    alloc: A,
+    refused: u64,
+    order: Option<Order>,
+) -> (bool, bool) {
+    let heap = Refusing::new(alloc, refused);
+    let is_right = succeeds_later::<SegStore<_>, _>(&heap, alloc, order);
+    (is_right, heap.calls() >= refused)
+}
+
+/// How a list keeps its batches.
+#[derive(Clone, Copy)]
+enum Kept {
+    /// Each in memory of its own.
+    Apart,
+    /// End to end, in segments.
+    EndToEnd,
+}
+
+/// The same with a list that keeps them so.
+fn with_list<A: Allocator + Copy>(
+    alloc: A,
+    kept: Kept,
+    refused: u64,
+    order: Option<Order>,
+) -> (bool, bool) {
+    match kept {
+        Kept::Apart => with_batches(alloc, refused, order),
+        Kept::EndToEnd => with_segments(alloc, refused, order),
+    }
+}
+
+/// Makes the calls with a list, each allocation failing in turn, until it doesn't ask for the one that would fail,
+/// and tells whether all lists were right each time, and an allocation failed at all.
+fn each_succeeds_later<A: Allocator + Copy>(alloc: A, kept: Kept, order: Option<Order>) -> bool {
     for refused in 1..MOST {
-        let heap = Refusing::new(rt.alloc(), refused);
-        if !succeeds_later::<VecStore<_>, _>(&heap, rt.alloc(), order) {
+        let (is_right, is_asked) = with_list(alloc, kept, refused, order);
+        if !is_right {
             return false;
         }
-        if heap.calls() < refused {
+        if !is_asked {
             return refused > 1;
         }
     }
@@ -418,8 +461,10 @@ fn each_succeeds_later(rt: &HostRuntime, order: Option<Order>) -> bool {
 
 #[test]
 fn a_list_is_as_before_an_allocation_that_fails(rt: HostRuntime) {
-    assert!(rt; each_succeeds_later(&rt, None), "a few");
-    for order in [Order::Rising, Order::Falling, Order::FromTheMiddle] {
-        assert!(rt; each_succeeds_later(&rt, Some(order)), "many");
+    for kept in [Kept::Apart, Kept::EndToEnd] {
+        assert!(rt; each_succeeds_later(rt.alloc(), kept, None), "a few");
+        for order in [Order::Rising, Order::Falling, Order::FromTheMiddle] {
+            assert!(rt; each_succeeds_later(rt.alloc(), kept, Some(order)), "many");
+        }
     }
 }
