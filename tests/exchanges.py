@@ -76,6 +76,8 @@ class Exchange:
     have left them."""
 
     groups, metadata_texts = GROUPS, METADATA  # of which each commit has one
+    limits = [0, 69, 70, 150, 400, 1 << 20, -1]  # of which each Fetch, and each of its entries, has one
+    keys = KEYS
 
     roles = (True, False, False)
 
@@ -116,11 +118,17 @@ class Exchange:
         return found
 
     def step(self, side):
-        kind = self.numbers.one_of(KINDS[side[0].leads])
+        kind = self.numbers.one_of(self.kinds(side[0].leads))
         if kind == VERSIONS and self.numbers.below(3):
             self.ask(side, self.other_versions())
         else:
-            self.send(side, kind, DRAWS[kind](self, side[0]))
+            self.send(side, kind, self.drawn_values(kind, side[0]))
+
+    def kinds(self, leads):
+        return KINDS[leads]
+
+    def drawn_values(self, kind, node):
+        return DRAWS[kind](self, node)
 
     def other_versions(self):
         """An ApiVersions request of another version, with nothing that is read behind its correlation id."""
@@ -152,9 +160,8 @@ class Exchange:
 
     def fetch(self, node):
         numbers = self.numbers
-        limits = [0, 69, 70, 150, 400, 1 << 20, -1]
-        entries = self.topics(lambda name, index: [self.offset(node, name, index), numbers.one_of(limits)])
-        return [-1, 500, 1, numbers.one_of(limits), 0, entries]
+        entries = self.topics(lambda name, index: [self.offset(node, name, index), numbers.one_of(self.limits)])
+        return [-1, 500, 1, numbers.one_of(self.limits), 0, entries]
 
     def listoffsets(self, node):
         times = [-1, -2, -1, -2, -3, 0, 5, 10, 15, 20, 30, 40, 41]
@@ -244,7 +251,7 @@ class Exchange:
         return [*where, numbers.one_of(images) if images else b""]
 
     def get(self, node):
-        return [*place(self.numbers), self.numbers.one_of([*KEYS, b"k"])]
+        return [*place(self.numbers), self.numbers.one_of([*self.keys, b"k"])]
 
     def cover(self, node):
         return [*place(self.numbers)]
