@@ -333,21 +333,19 @@ def ranges_that_are_asked(count):
 
 
 def entries_of_a_delta(count):
-    """Lists of batches, and batches, between a copy that has all and one that has none."""
+    """Batches that a copy takes, and gives to another one; and lists of them."""
     ranges = [(0, count - 1)]
-    held = [at(n) for n in range(count)]
-    listed_ones = delta(ranges, ranges, [listing(n, [n]) for n in range(count)])
-    sent = delta(ranges, [], [b"\1" + it for it in held])
-    all_of_it = image(ranges, held)
+    sent = delta(ranges, [], [b"\1" + at(n) for n in range(count)])
+    lists = delta(ranges, ranges, [listing(n, [n]) for n in range(count)])
     return row(
         "--role follower t:2",
         [
-            imported("t:0", all_of_it),
-            compared("t:0", ranges, listed_ones),
+            patched("t:0", sent),
+            compared("t:0", ranges, lists),
             compared("t:0", [], sent),
             patched("t:1", sent),
-            patched("t:1", listed_ones),
-            exported("t:1", all_of_it),
+            patched("t:1", lists),
+            compared("t:1", [], sent),
         ],
     )
 
