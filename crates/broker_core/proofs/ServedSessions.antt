@@ -2,15 +2,14 @@
 use Rattle.std.proofs.Common.{◌≡◌, inl, inr, ℕ, ◌+◌, ◌^◌, ◌<◌, ◌≤◌, false, arith, List, [], ◌∷◌, ◌++◌, length, sym, ap, subst, ◌∙◌, append_assoc, append-nil, Result, Ok, Err, IfErr}
 use Rattle.std.specs.Io.KnownBytes.{Consumes}
 use Rattle.std.proofs.KnownBytes.{Consumes-nil, Consumes-trans, Consumes-kept, Appends-trans}
-use Rattle.std.proofs.lemmas.Int.{clamps}
-use Rattle.streams.specs.State.{SourceState, SinkState, counted}
+use Rattle.streams.specs.State.{SourceState, SinkState, ReadsOnce, ReadsMore, ReadsEnd}
 use Rattle.frame_fields.specs.Frames.{stream, IsIncomplete}
 use Rattle.broker_core.specs.declared.session.SessionError.{SessionError}
 use Rattle.broker_core.specs.declared.session.SessionError.TheVariants.{Frame, Read, Write, OutOfMemory}
 use Rattle.broker_state.specs.State.{State}
 use Rattle.broker_node.specs.Streams.{IsAnswered}
 use Rattle.broker_core.specs.Sessions.{Session, EndsAs, StopsAs}
-use Rattle.broker_core.specs.SessionSteps.{ReadsOnce, ReadsMore, ReadsEnd, StopsReading, AnswersFront, StopsNext, StopsWithin, Serves}
+use Rattle.broker_core.specs.SessionSteps.{StopsReading, AnswersFront, StopsNext, StopsWithin, Serves}
 use Rattle.broker_core.proofs.ServedFrames.{cut_append, one_cut, front_none, front_then}
 
 -- ---- one read
@@ -52,12 +51,12 @@ more_held s after source mid source' sink sink' held held' count reads p more =
 -- ---- how many reads are made
 
 -- after the reads that were counted, and one more
-pub few_reads : (first now next reads : ℕ) → now ≡ counted first reads → reads < 2 ^ 32 → next ≤ now + 1 → next ≤ first + 2 ^ 32
-few_reads first now next reads before few one = omega (arith, clamps, before, few, one)
+pub few_reads : (first now next reads : ℕ) → now ≡ first + reads → reads < 2 ^ 32 → next ≤ now + 1 → next ≤ first + 2 ^ 32
+few_reads first now next reads before few one = omega (arith, before, few, one)
 
 -- after all of them
-pub all_reads : (first now reads : ℕ) → now ≡ counted first reads → reads ≡ 2 ^ 32 → now ≤ first + 2 ^ 32
-all_reads first now reads before all = omega (arith, clamps, before, all)
+pub all_reads : (first now reads : ℕ) → now ≡ first + reads → reads ≡ 2 ^ 32 → now ≤ first + 2 ^ 32
+all_reads first now reads before all = omega (arith, before, all)
 
 -- ---- how a session goes on
 
@@ -68,11 +67,11 @@ nothing_served s source sink = record {
   front = front_none s sink [] 0;
   incomplete = inl (omega arith);
   few = omega arith;
-  counts = omega (arith, clamps);
+  counts = omega arith;
 }
 
-counted_once : (first now next reads : ℕ) → now ≡ counted first reads → next ≡ counted now 1 → next ≡ counted first (reads + 1)
-counted_once first now next reads before one = omega (arith, clamps, before, one)
+counted_once : (first now next reads : ℕ) → now ≡ first + reads → next ≡ now + 1 → next ≡ first + (reads + 1)
+counted_once first now next reads before one = omega (arith, before, one)
 
 pub read_served : (s m after : State) (source mid source' : SourceState) (sink mid_sink sink' : SinkState) (held held' rest : List ℕ) (count index reads : ℕ)
     → Serves s m source mid sink mid_sink held count reads → ReadsMore mid source' held held' → ReadsOnce mid source'
@@ -133,7 +132,7 @@ reading_stops s after source mid source' sink sink' held count reads (Frame inde
 pub read_out : (s after : State) (source source' : SourceState) (sink sink' : SinkState) (held : List ℕ) (count reads : ℕ)
     → Serves s after source source' sink sink' held count reads → reads ≡ 2 ^ 32 → StopsAs s source source' sink sink' after Read
 read_out s after source source' sink sink' held count reads p all =
-    (session_of s after source source' sink sink' p.input held count p.leaves p.front, p.incomplete, inr (p.counts ∙ ap (counted source.reads) all))
+    (session_of s after source source' sink sink' p.input held count p.leaves p.front, p.incomplete, inr (p.counts ∙ ap (λ (n : ℕ). source.reads + n) all))
 
 stops_at : (s before after : State) (source source' : SourceState) (sink mid_sink sink' : SinkState) (input held : List ℕ) (index : ℕ) (e : SessionError)
     → Consumes source.left source'.left input → AnswersFront s before sink mid_sink input held 0 index → StopsNext before after mid_sink sink' held index e

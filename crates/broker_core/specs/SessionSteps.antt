@@ -1,7 +1,7 @@
 -- A session step by step: what one read did, and what became of the frames that are held. Words of private clauses.
-use Rattle.std.specs.Prelude.{◌≡◌, ℕ, ◌+◌, ◌<◌, ◌^◌, true, false, List, [], length, ⊤}
-use Rattle.std.specs.Io.KnownBytes.{Consumes, Keeps, Appends, IsAtEnd}
-use Rattle.streams.specs.State.{SourceState, SinkState, counted, MovesPiece, LosesRest}
+use Rattle.std.specs.Prelude.{◌≡◌, ℕ, ◌+◌, ◌<◌, ◌^◌, true, false, List, length, ⊤}
+use Rattle.std.specs.Io.KnownBytes.{Consumes, Keeps, Appends}
+use Rattle.streams.specs.State.{SourceState, SinkState, LosesRest}
 use Rattle.frame_fields.specs.Frames.{IsIncomplete, IsFirstFrame, SizeFault}
 use Rattle.request_frames.specs.Requests.{IsRefused}
 use Rattle.broker_core.specs.declared.session.SessionError.{SessionError}
@@ -11,19 +11,6 @@ use Rattle.broker_node.specs.Streams.{IsAnswered, Answered, RefusesNext}
 use Rattle.broker_core.specs.Sessions.{HasNoBadSize}
 
 -- ---- reads
-
--- one read was made, and it didn't fail
-abbrev pub ReadsOnce : (source source' : SourceState) → Type 0
-ReadsOnce source source' = (source'.reads ≡ counted source.reads 1) × (source'.failed ≡ false)
-
--- Some bytes left the source, and stand behind those that were held; or it is at its end, and what is held stays.
-abbrev pub ReadsMore : (source source' : SourceState) (held held' : List ℕ) → Type 0
-ReadsMore source source' held held' =
-    ((count : ℕ) × MovesPiece source.left source'.left held held' count) × (length held < length held')
-
-abbrev pub ReadsEnd : (source source' : SourceState) (held held' : List ℕ) → Type 0
-ReadsEnd source source' held held' =
-    Consumes source.left source'.left [] × IsAtEnd source'.left × (held' ≡ held)
 
 -- why no read was made, or the one that was made gave nothing
 abbrev pub StopsReading : (source source' : SourceState) → SessionError → Type 0
@@ -91,4 +78,4 @@ pub record Serves (s after : State) (source source' : SourceState) (sink sink' :
   pub front : AnswersFront s after sink sink' input held 0 count
   pub incomplete : IsIncomplete held
   pub few : count < 2 ^ 63
-  pub counts : source'.reads ≡ counted source.reads reads
+  pub counts : source'.reads ≡ source.reads + reads

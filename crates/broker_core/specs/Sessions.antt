@@ -1,8 +1,8 @@
 -- What a session does: how it ends at the end of its input, and how it stops before. Kafka's documentation, "Protocol
 -- Guide", section "Network". That a broker stops at the first frame that it refuses is this project's own.
-use Rattle.std.specs.Prelude.{◌≡◌, ◌⊎◌, ℕ, ◌<◌, ◌^◌, true, false, List, [], ◌∷◌, ◌++◌, length}
+use Rattle.std.specs.Prelude.{◌≡◌, ◌⊎◌, ℕ, ◌<◌, true, false, List, [], ◌∷◌, ◌++◌, length}
 use Rattle.std.specs.Io.KnownBytes.{Consumes, Appends, IsAtEnd}
-use Rattle.streams.specs.State.{SourceState, SinkState, counted}
+use Rattle.streams.specs.State.{SourceState, SinkState, IsReadOut}
 use Rattle.frame_fields.specs.Frames.{IsFrames, IsFirstFrame, IsIncomplete}
 use Rattle.broker_core.specs.declared.session.Ended.{Ended}
 use Rattle.broker_core.specs.declared.session.SessionError.{SessionError}
@@ -32,10 +32,6 @@ pub record EndsAs (s : State) (source source' : SourceState) (sink sink' : SinkS
   pub incomplete : IsIncomplete session.rest
   pub frames : ended.frames ≡ length session.frames
   pub rest : ended.rest ≡ length session.rest
-
--- the source has failed, or 2^32 reads of it were made
-abbrev pub IsReadOut : (source source' : SourceState) → Type 0
-IsReadOut source source' = (source'.failed ≡ true) ⊎ (source'.reads ≡ counted source.reads (2 ^ 32))
 
 -- what is left is an incomplete frame, or begins with a whole one: its size, if it is there, is none that is refused
 abbrev pub HasNoBadSize : (rest : List ℕ) → Type 0

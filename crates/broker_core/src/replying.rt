@@ -1,8 +1,6 @@
 //! The complete frames among the bytes that a session holds, answered in turn.
 
-ghost use Rattle.std.specs.Prelude.{◌≡◌, ◌+◌, ◌^◌, ◌<◌, true, length, MatchBool, MatchOption, IfOk, IfErr, OnOk, OnErr};
-ghost use Rattle.std.specs.Io.KnownBytes.{Appends};
-ghost use Rattle.streams.specs.State.{LosesRest};
+ghost use Rattle.std.specs.Prelude.{◌≡◌, ◌+◌, ◌^◌, ◌<◌, length, MatchBool, MatchOption, IfOk, IfErr, OnOk, OnErr};
 ghost use Rattle.frame_fields.specs.Frames.{IsIncomplete, IsFirstFrame};
 ghost use Rattle.broker_node.specs.Streams.{IsAnswered};
 ghost use Rattle.broker_core.specs.SessionSteps.{StopsTaking, StopsReplying, AnswersFront, StopsNext, StopsWithin};
@@ -15,23 +13,7 @@ use request_frames::parse;
 use segment::BatchStore;
 use std::alloc::Allocator;
 use std::io::Write;
-use streams::{Failed, Sink};
-
-/// Writes a reply, if there is one. A sink of which a write has failed before isn't written again.
-fn send<W: Write>(sink: &mut Sink<W>, reply: &[u8]) -> Result<(), Failed>
-    ensures takes { OnOk result (Appends sink.old.taken sink.new.taken reply.now) }
-    ensures loses { OnErr result (LosesRest sink.old.taken sink.new.taken reply.now) }
-    ensures fine { OnOk result (sink.new.failed ≡ sink.old.failed) }
-    ensures failed { OnErr result (sink.new.failed ≡ true) }
-{
-    if reply.is_empty() {
-        return Ok(());
-    }
-    if sink.failed() {
-        return Err(Failed);
-    }
-    sink.write_all(reply)
-}
+use streams::Sink;
 
 /// Takes the first frame, which has the number `index`, if it is complete.
 fn next_frame<A: Allocator + Copy>(
@@ -95,7 +77,7 @@ fn answer_next<S: BatchStore, W: Write, A: Allocator + Copy>(
         return Ok(false);
     };
     reply_to(node, frame.as_slice(), index, out)?;
-    let Ok(()) = send(sink, out) else {
+    let Ok(()) = sink.send(out) else {
         return Err(SessionError::Write);
     };
     Ok(true)

@@ -11,7 +11,7 @@ use frame_fields::FrameError;
 use segment::BatchStore;
 use std::alloc::Allocator;
 use std::io::{Read, Write};
-use streams::{Sink, Source};
+use streams::{MOST_READS, Sink, Source};
 use thiserror::Error;
 
 /// How a session ended whose input came to its end.
@@ -40,9 +40,6 @@ pub enum SessionError {
     #[error("out of memory")]
     OutOfMemory,
 }
-
-/// The most reads of one session.
-const MOST_READS: u64 = 4_294_967_296;
 
 /// A session goes no further once so many frames were answered, so that their number can't overflow
 /// while those that are held are answered. No input reaches it.

@@ -9,6 +9,7 @@ mod entry_memory;
 mod exchanges;
 mod failing_streams;
 mod frames;
+mod long_outputs;
 mod memory;
 mod new_brokers;
 mod one;

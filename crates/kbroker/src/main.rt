@@ -8,6 +8,7 @@ use std::io::ErrorKind;
 use std::net::{Ipv4Addr, TcpListener};
 use std::process::ExitCode;
 use std::{env, io};
+use streams::{Sink, Source};
 use tcp_edge::{
     Connection, FAILED, FAULTY, NO_MEMORY, Replies, Requests, run_line, run_serve, serve_port,
 };
@@ -74,11 +75,13 @@ fn run_on_streams(rt: &HostRuntime, arguments: &[String]) -> u8
     ensures { result ≤ 4 }
 {
     let connection = Connection::new(rt.alloc(), rt.stdin(), rt.stdout());
+    let mut source = Source::new(Requests(&connection));
+    let mut sink = Sink::new(Replies(&connection));
     let status = run_line(
         rt.alloc(),
         arguments,
-        &mut Requests(&connection),
-        &mut Replies(&connection),
+        &mut source,
+        &mut sink,
         &mut rt.stderr(),
     );
     if connection.finish() || status == FAILED {

@@ -7,6 +7,7 @@ use std::alloc::{AllocError, Allocator};
 use std::fmt::Display;
 use std::io::Write;
 use std::string::String;
+use streams::Sink;
 use table_lines::{BUFFER_SIZE, pass_on, put, put_line};
 
 /// Why a line is not done, or not printed.
@@ -62,10 +63,10 @@ fn add_report<A: Allocator + Copy>(
     )
 }
 
-/// Lines on their way to a writer, through a buffer that never grows.
+/// Lines on their way to a sink, through a buffer that never grows.
 #[derive(Drop)]
 pub(crate) struct Printer<'w, W: Write, A: Allocator + Copy> {
-    writer: &'w mut W,
+    sink: &'w mut Sink<W>,
     buffer: Vec<u8, A>,
     /// A line that is made.
     text: String<A>,
@@ -73,29 +74,29 @@ pub(crate) struct Printer<'w, W: Write, A: Allocator + Copy> {
 
 impl<'w, W: Write, A: Allocator + Copy> Printer<'w, W, A> {
     /// Takes the memory of the buffer.
-    pub(crate) fn new(alloc: A, writer: &'w mut W) -> Result<Printer<'w, W, A>, AllocError> {
+    pub(crate) fn new(alloc: A, sink: &'w mut Sink<W>) -> Result<Printer<'w, W, A>, AllocError> {
         Ok(Printer {
-            writer,
+            sink,
             buffer: Vec::with_capacity(alloc, BUFFER_SIZE)?,
             text: String::new(alloc),
         })
     }
 
-    /// Hands all that waits to the writer, and flushes it.
+    /// Hands all that waits to the sink, and flushes it.
     pub(crate) fn finish(&mut self) -> Result<(), LineFault> {
-        if pass_on(&mut self.buffer, self.writer).is_err() || self.writer.flush().is_err() {
+        if pass_on(&mut self.buffer, self.sink).is_err() || self.sink.finish().is_err() {
             return Err(LineFault::Write);
         }
         Ok(())
     }
 
     fn put(&mut self, bytes: &[u8]) -> Result<(), LineFault> {
-        put(&mut self.buffer, self.writer, bytes).map_err(|_| LineFault::Write)
+        put(&mut self.buffer, self.sink, bytes).map_err(|_| LineFault::Write)
     }
 
     /// Prints what is made of a line.
     fn put_text(&mut self) -> Result<(), LineFault> {
-        let put = put(&mut self.buffer, self.writer, self.text.as_bytes());
+        let put = put(&mut self.buffer, self.sink, self.text.as_bytes());
         self.text.clear();
         put.map_err(|_| LineFault::Write)
     }
@@ -115,7 +116,7 @@ impl<'w, W: Write, A: Allocator + Copy> Printer<'w, W, A> {
     /// Prints the lines of a table, and `end`.
     pub(crate) fn table(&mut self, rows: &[(&[u8], &[u8])]) -> Result<(), LineFault> {
         for (key, value) in rows {
-            if put_line(&mut self.buffer, self.writer, key, value).is_err() {
+            if put_line(&mut self.buffer, self.sink, key, value).is_err() {
                 return Err(LineFault::Write);
             }
         }

@@ -1,10 +1,12 @@
 //! Scripts, replayed over a cluster.
 
+ghost use Rattle.std.specs.Prelude.{◌≡◌, ◌+◌, ◌^◌, ◌≤◌, IsErrOf, OnOk};
+
 use crate::error::ReplayError;
 use crate::items::{Items, encode_items};
 use crate::line::{Line, Producer, parse_line};
 use crate::printing::{LineFault, Printer};
-use crate::script::{ReadFault, Script};
+use crate::script::Script;
 use batch_codec::EncodeError;
 use cluster::{Cluster, ClusterError, Event, EventError};
 use partition_log::PartitionLog;
@@ -12,6 +14,7 @@ use segment::BatchStore;
 use std::alloc::Allocator;
 use std::io::{Read, Write};
 use std::mem;
+use streams::{FillError, Sink, Source};
 
 /// A cluster, as the lines of a script make it.
 #[derive(Drop)]
@@ -184,15 +187,20 @@ fn stopped_at(line: u64, why: LineFault) -> ReplayError {
 /// Does the lines of a script, in turn.
 fn do_lines<S: BatchStore, R: Read, W: Write>(
     stage: &mut Stage<S>,
-    script: &mut Script<R, S::Alloc>,
+    script: &mut Script<S::Alloc>,
+    source: &mut Source<R>,
     printer: &mut Printer<'_, W, S::Alloc>,
-) -> Result<(), ReplayError> {
+) -> Result<(), ReplayError>
+    ensures few_reads { source.new.reads ≤ source.old.reads + script.old.reads_left }
+    ensures only_a_read_error_fails_the_source { ¬ IsErrOf result ReplayError.Read
+        → source.new.failed ≡ source.old.failed }
+{
     for line in 1..u64::MAX {
-        let size = match script.hold_line() {
+        let size = match script.hold_line(source) {
             Ok(Some(size)) => size,
             Ok(None) => return Ok(()),
-            Err(ReadFault::Read) => return Err(ReplayError::Read),
-            Err(ReadFault::OutOfMemory) => return Err(ReplayError::OutOfMemory),
+            Err(FillError::Read) => return Err(ReplayError::Read),
+            Err(FillError::OutOfMemory) => return Err(ReplayError::OutOfMemory),
         };
         match stage.do_line(script.front(size), printer) {
             Ok(()) => {}
@@ -206,12 +214,16 @@ fn do_lines<S: BatchStore, R: Read, W: Write>(
 /// Does the lines of a script over a cluster of its own.
 fn do_script<S: BatchStore, R: Read, W: Write>(
     alloc: S::Alloc,
-    reader: &mut R,
+    source: &mut Source<R>,
     printer: &mut Printer<'_, W, S::Alloc>,
-) -> Result<(), ReplayError> {
+) -> Result<(), ReplayError>
+    ensures few_reads { source.new.reads ≤ source.old.reads + 2 ^ 32 }
+    ensures only_a_read_error_fails_the_source { ¬ IsErrOf result ReplayError.Read
+        → source.new.failed ≡ source.old.failed }
+{
     let mut stage: Stage<S> = Stage::new(alloc);
-    let mut script = Script::new(alloc, reader);
-    do_lines(&mut stage, &mut script, printer)
+    let mut script = Script::new(alloc);
+    do_lines(&mut stage, &mut script, source, printer)
 }
 
 /// Reads a script to the end of the input, makes its events happen in a new cluster, and prints what
@@ -224,15 +236,21 @@ fn do_script<S: BatchStore, R: Read, W: Write>(
 /// The first thing that stops it. The lines before were done, and what came of them is printed. Where
 /// that can't be printed, the write that failed is the first thing, also before a line that is bad and
 /// before memory that is missing: what waits in the buffer stands in front of them.
+///
+/// A source of which a read failed before isn't read: the answer is `Read`. A sink of which a write
+/// failed before isn't written: the answer is `Write`.
 pub fn replay<S: BatchStore, R: Read, W: Write>(
     alloc: S::Alloc,
-    reader: &mut R,
-    writer: &mut W,
-) -> Result<(), ReplayError> {
-    let Ok(mut printer) = Printer::new(alloc, writer) else {
+    source: &mut Source<R>,
+    sink: &mut Sink<W>,
+) -> Result<(), ReplayError>
+    ensures few_reads { source.new.reads ≤ source.old.reads + 2 ^ 32 }
+    ensures no_read_failed { OnOk result (source.new.failed ≡ source.old.failed) }
+{
+    let Ok(mut printer) = Printer::new(alloc, sink) else {
         return Err(ReplayError::OutOfMemory);
     };
-    let done = do_script::<S, R, W>(alloc, reader, &mut printer);
+    let done = do_script::<S, R, W>(alloc, source, &mut printer);
     if done == Err(ReplayError::Write) {
         return done;
     }

@@ -1,5 +1,6 @@
 -- Lemmas on what a writer took, piece by piece.
-use Rattle.std.proofs.Common.{◌≡◌, ℕ, ◌<◌, ◌-◌, List, [], ◌++◌, length, take, drop, Option, refl, sym, ap, subst, ◌∙◌, append-nil, append_assoc, take-append-drop}
+use Rattle.std.proofs.Common.{◌≡◌, ℕ, ◌<◌, ◌-◌, List, [], ◌++◌, length, take, drop, Option, refl, sym, ap, subst, ◌∙◌, append-nil, append_assoc, take-append-drop, arith}
+use Rattle.std.specs.Prelude.{◌≢◌}
 use Rattle.std.specs.Io.KnownBytes.{Appends, Keeps}
 use Rattle.std.proofs.KnownBytes.{Appends-nil, Appends-trans, Appends-kept}
 use Rattle.std.proofs.lemmas.List.{nil_from_length, take_rest}
@@ -32,3 +33,13 @@ all_taken a b rest bytes none took =
 pub rest_lost : (a b c : Option (List ℕ)) (rest bytes : List ℕ) → 0 < length rest → TakesAllBut a b rest bytes → Keeps b c → LosesRest a c bytes
 rest_lost a b c rest bytes some took kept =
     (rest, some, record { front = took.front; parts = took.parts; appends = Appends-kept a b c took.front took.appends kept })
+
+-- ---- what is sent
+
+-- bytes that are none
+pub nothing_sent : (a : Option (List ℕ)) (bytes : List ℕ) → length bytes ≡ 0 → Appends a a bytes
+nothing_sent a bytes none = subst (Appends a a) (sym (nil_from_length bytes none)) (Appends-nil a)
+
+-- nothing of them is written
+pub all_lost : (a : Option (List ℕ)) (bytes : List ℕ) → length bytes ≢ 0 → LosesRest a a bytes
+all_lost a bytes some = (bytes, omega (arith, some), nothing_taken a bytes)

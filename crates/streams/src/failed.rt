@@ -1,4 +1,4 @@
-//! The answer of a call that failed.
+//! The answers of calls that failed.
 
 /// A call of a reader or a writer failed. The source or sink that made the call has its flag set.
 ///
@@ -11,3 +11,12 @@
 /// ```
 #[derive(Clone, Copy, Debug, PartialEq, Eq)]
 pub struct Failed;
+
+/// No bytes came into a buffer, which is as it was.
+#[derive(Clone, Copy, Debug, PartialEq, Eq)]
+pub enum FillError {
+    /// The read failed, or one had failed before. The source has its flag set.
+    Read,
+    /// There is no memory for the room. No read was made.
+    OutOfMemory,
+}

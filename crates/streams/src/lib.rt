@@ -20,9 +20,11 @@
 #![tactic(auto)]
 
 mod failed;
+mod filling;
 mod sink;
 mod source;
 
-pub use failed::Failed;
+pub use failed::{Failed, FillError};
+pub use filling::{MOST_READS, fill};
 pub use sink::Sink;
 pub use source::Source;

@@ -1,5 +1,5 @@
 //! A writer that remembers whether a write has failed.
-ghost use Rattle.std.specs.Prelude.{◌≡◌, ◌<◌, false, length, is_err, IfOk, OnOk, OnErr};
+ghost use Rattle.std.specs.Prelude.{◌≡◌, ◌<◌, false, true, length, is_err, IfOk, OnOk, OnErr};
 ghost use Rattle.std.specs.Io.{WritesAtMost};
 ghost use Rattle.std.specs.Io.KnownBytes.{Keeps, Appends, WriteAppends};
 ghost use Rattle.streams.specs.State.{LosesRest};
@@ -124,5 +124,45 @@ impl<W: Write> Sink<W> {
         let flushed = self.inner.flush().map_err(|_| Failed);
         self.failed = flushed.is_err();
         flushed
+    }
+
+    /// Writes all of the bytes, as `write_all` does. Where there are none, and where a call has failed
+    /// before, it writes nothing.
+    ///
+    /// # Errors
+    ///
+    /// There are some, and a write failed, before which the writer took a front of the bytes; or a call
+    /// had failed before. The flag is then set, and at least one byte is lost.
+    #[tactic(auto, using(crate::proofs::Pieces::nothing_sent, crate::proofs::Pieces::all_lost))]
+    pub fn send(&mut self, bytes: &[u8]) -> Result<(), Failed>
+        ensures appends { OnOk result (Appends self.old.taken self.new.taken bytes.now) }
+        ensures loses_rest { OnErr result (LosesRest self.old.taken self.new.taken bytes.now) }
+        ensures keeps_flag { OnOk result (self.new.failed ≡ self.old.failed) }
+        ensures sets_flag { OnErr result (self.new.failed ≡ true) }
+    {
+        if bytes.is_empty() {
+            return Ok(());
+        }
+        if self.failed {
+            return Err(Failed);
+        }
+        self.write_all(bytes)
+    }
+
+    /// Flushes the writer, as `flush` does, unless a call has failed before.
+    ///
+    /// # Errors
+    ///
+    /// The flush failed, or a call before. The flag is then set.
+    pub fn finish(&mut self) -> Result<(), Failed>
+        ensures keeps { Keeps self.old.taken self.new.taken }
+        ensures tells_failure { self.new.failed ≡ is_err result }
+        ensures stays_failed { self.old.failed ≡ true → self.new.failed ≡ true }
+        ensures keeps_flag { OnOk result (self.new.failed ≡ self.old.failed) }
+    {
+        if self.failed {
+            return Err(Failed);
+        }
+        self.flush()
     }
 }

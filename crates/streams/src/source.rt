@@ -1,5 +1,5 @@
 //! A reader that remembers how many reads were made, and whether one has failed.
-ghost use Rattle.std.specs.Prelude.{◌≡◌, ◌+◌, ◌<◌, false, length, is_err, IfOk, OnErr};
+ghost use Rattle.std.specs.Prelude.{◌≡◌, ◌+◌, ◌<◌, false, length, is_err, IfOk, OnErr, OnOk};
 ghost use Rattle.std.specs.Io.{ReadsAtMost};
 ghost use Rattle.std.specs.Io.KnownBytes.{Keeps, IsAtEnd, ReadConsumes};
 ghost use Rattle.streams.specs.State.{counted, MovesPiece};
@@ -13,7 +13,7 @@ use std::marker::Model;
 /// A reader, how many reads of it were made, and whether one has failed. It is seen as what the
 /// reader has left to give, where that is known, the count, and the flag.
 ///
-/// The count stays at 2^64 - 1 once it is there.
+/// It makes 2^64 - 1 reads at most: one more fails, and isn't made.
 ///
 /// ```
 /// let mut source = Source::new(reader);
@@ -57,7 +57,7 @@ impl<R: Read> Source<R> {
         }
     }
 
-    /// How many reads were made, those that failed included; 2^64 - 1 of more.
+    /// How many reads were made, those that failed included.
     pub fn reads(&self) -> u64
         ensures { result ≡ self.now.reads }
     {
@@ -90,7 +90,8 @@ impl<R: Read> Source<R> {
     ///
     /// # Errors
     ///
-    /// The reader answered an error, of whatever kind. The flag is then set.
+    /// The reader answered an error, of whatever kind, or 2^64 - 1 reads were made before. The flag is
+    /// then set.
     pub fn read(&mut self, buf: &mut [u8]) -> Result<usize, Failed>
         requires has_not_failed { self.old.failed ≡ false }
         requires has_room { 0 < length buf.old }
@@ -98,9 +99,14 @@ impl<R: Read> Source<R> {
         ensures consumes { ReadConsumes self.old.left self.new.left result buf.new }
         ensures none_only_at_end { IfOk result (λ n. n ≡ 0 → IsAtEnd self.new.left) }
         ensures counts { self.new.reads ≡ counted self.old.reads 1 }
+        ensures counts_one { OnOk result (self.new.reads ≡ self.old.reads + 1) }
         ensures tells_failure { self.new.failed ≡ is_err result }
     {
-        self.reads = self.reads.saturating_add(1);
+        let Some(reads) = self.reads.checked_add(1) else {
+            self.failed = true;
+            return Err(Failed);
+        };
+        self.reads = reads;
         let given = self.inner.read(buf).map_err(|_| Failed);
         self.failed = given.is_err();
         given
@@ -111,8 +117,8 @@ impl<R: Read> Source<R> {
     ///
     /// # Errors
     ///
-    /// The reader answered an error, of whatever kind. The flag is then set, and the buffer is as
-    /// it was.
+    /// The reader answered an error, of whatever kind, or 2^64 - 1 reads were made before. The flag is
+    /// then set, and the buffer is as it was.
     pub fn read_into<A: Allocator>(&mut self, buffer: &mut BytesMut<A>) -> Result<usize, Failed>
         requires has_not_failed { self.old.failed ≡ false }
         requires has_room { 0 < buffer.old.spare }
@@ -123,9 +129,14 @@ impl<R: Read> Source<R> {
         ensures error_reads_nothing { OnErr result
             ((buffer.new ≡ buffer.old) × Keeps self.old.left self.new.left) }
         ensures counts { self.new.reads ≡ counted self.old.reads 1 }
+        ensures counts_one { OnOk result (self.new.reads ≡ self.old.reads + 1) }
         ensures tells_failure { self.new.failed ≡ is_err result }
     {
-        self.reads = self.reads.saturating_add(1);
+        let Some(reads) = self.reads.checked_add(1) else {
+            self.failed = true;
+            return Err(Failed);
+        };
+        self.reads = reads;
         let added = buffer.read_from(&mut self.inner).map_err(|_| Failed);
         self.failed = added.is_err();
         added

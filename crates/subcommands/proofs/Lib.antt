@@ -1,6 +1,7 @@
-mod Stopping
-mod Filled
-mod ImageFaults
-mod Statuses
 pub mod Streams
 pub mod Refusals
+pub mod Intake
+mod Images
+mod Stopping
+mod Statuses
+pub mod RunLemmas

@@ -1,6 +1,9 @@
 -- Lemmas on the answer that a stream is refused.
-use Rattle.std.proofs.Common.{◌≢◌, ℕ, ◌<◌, List, ◌++◌, length, Option, refl, sym, ap, subst, ◌∙◌, arith}
-use Rattle.std.proofs.KnownBytes.{Consumes-kept}
+use Rattle.std.proofs.Common.{◌≢◌, ℕ, ◌<◌, List, [], ◌++◌, length, Option, refl, sym, ap, subst, ◌∙◌, arith}
+use Rattle.std.specs.Io.KnownBytes.{Consumes}
+use Rattle.std.proofs.lemmas.List.{append-nil}
+use Rattle.streams.specs.State.{SourceState, ReadsEnd}
+use Rattle.std.proofs.KnownBytes.{Consumes-trans}
 use Rattle.batch_codec.specs.declared.error.BatchError.{BatchError}
 use Rattle.batch_codec.specs.declared.error.BatchError.TheVariants.{Short}
 use Rattle.batch_codec.specs.Values.{BatchValue}
@@ -9,18 +12,10 @@ use Rattle.batch_codec.specs.Refusals.{FirstFault}
 use Rattle.content.specs.Content.{Content}
 use Rattle.subcommands.specs.declared.error.Refusal.{Refusal}
 use Rattle.subcommands.specs.declared.error.Refusal.TheVariants.{View, Deliver}
-use Rattle.subcommands.specs.declared.error.TableError.{TableError}
-use Rattle.subcommands.specs.declared.error.TableError.TheVariants.{Batch, Read, Write, OutOfMemory}
-use Rattle.subcommands.specs.Input.{FindsEnd, HasTaken}
+use Rattle.subcommands.specs.Input.{HasTaken}
 use Rattle.subcommands.specs.Tables.{stream}
-use Rattle.subcommands.specs.Refused.{IsRefusedAs, RefusesNext, RefusesStream, IfBatch}
-use Rattle.subcommands.proofs.Streams.{consumes_all}
-
-pub IfBatch-map : (e : TableError) (P Q : ℕ → Refusal → Type 0) → ((index : ℕ) (why : Refusal) → P index why → Q index why) → IfBatch e P → IfBatch e Q
-IfBatch-map (Batch index why) P Q f p = f index why p
-IfBatch-map Read P Q f p = tt
-IfBatch-map Write P Q f p = tt
-IfBatch-map OutOfMemory P Q f p = tt
+use Rattle.subcommands.specs.Refused.{IsRefusedAs, RefusesNext, RefusesStream}
+use Rattle.subcommands.proofs.Streams.{reads_all}
 
 -- ---- bytes that are refused are some
 
@@ -52,14 +47,16 @@ next_refused a b waiting c count read index why r = record {
 }
 
 -- the reader's end comes within a batch
-pub end_refused : (a b b' : Option (List ℕ)) (waiting waiting' : List ℕ) (c : Content) (count : ℕ) → HasTaken a b c count waiting → FirstFault Short waiting → FindsEnd b b' waiting waiting' → length waiting' ≢ 0 → RefusesStream a b' count (View Short)
-end_refused a b b' waiting waiting' c count read short end more = record {
-  batches = read.batches;
-  next = waiting;
-  are_accepted = read.are_accepted;
-  index_is = read.counts;
-  is_some = omega (arith, ap (λ (t : List ℕ). length t) end.unchanged);
-  consumes = Consumes-kept a b b' (stream read.batches ++ waiting) read.consumes end.stays;
-  is_refused = short;
-  short_at_end = λ _. consumes_all a b b' (stream read.batches ++ waiting) read.consumes end.at_end end.stays;
-}
+pub end_refused : (a : Option (List ℕ)) (source source' : SourceState) (waiting waiting' : List ℕ) (c : Content) (count : ℕ) → HasTaken a source.left c count waiting → FirstFault Short waiting → ReadsEnd source source' waiting waiting' → 0 < length waiting' → RefusesStream a source'.left count (View Short)
+end_refused a source source' waiting waiting' c count read short end more =
+    let all = reads_all a source.left source'.left (stream read.batches ++ waiting) read.consumes end.0 end.1 in
+    record {
+      batches = read.batches;
+      next = waiting;
+      are_accepted = read.are_accepted;
+      index_is = read.counts;
+      is_some = subst (λ (t : List ℕ). 0 < length t) end.2 more;
+      consumes = subst (Consumes a source'.left) (append-nil (stream read.batches ++ waiting)) (Consumes-trans a source.left source'.left (stream read.batches ++ waiting) [] read.consumes end.0);
+      is_refused = short;
+      short_at_end = λ _. all;
+    }

@@ -12,12 +12,6 @@ use Rattle.subcommands.specs.Status.{session_status}
 
 -- ---- a configuration that is refused
 
-pub at_most_four : (n : ℕ) → (2 ≤ n) × (n ≤ 3) → n ≤ 4
-at_most_four n is = omega arith
-
-pub is_not_done : (n : ℕ) → (2 ≤ n) × (n ≤ 3) → n ≢ 0
-is_not_done n is done = omega arith
-
 apart : (n : ℕ) → n ≡ 3 → n ≢ 2
 apart n three two = omega arith
 

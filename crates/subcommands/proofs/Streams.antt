@@ -1,15 +1,16 @@
 -- Batches that come one after the other, the bytes that they came in, and the copy that they go to.
 use Rattle.std.proofs.Common.{◌≡◌, ℕ, ◌<◌, List, [], ◌∷◌, ◌++◌, length, drop, Option, Some, None, refl, sym, ap, subst, ◌∙◌, append_assoc, arith}
-use Rattle.std.specs.Io.KnownBytes.{Consumes, Keeps, IsAtEnd}
+use Rattle.std.specs.Io.KnownBytes.{Consumes, IsAtEnd}
 use Rattle.std.proofs.KnownBytes.{Consumes-trans}
 use Rattle.std.proofs.Math.Seq.{drop-append_seam}
-use Rattle.std.proofs.lemmas.List.{append-nil, nil_from_length, length-append}
+use Rattle.std.proofs.lemmas.List.{append-nil, length-append}
 use Rattle.std.proofs.lemmas.List.Concat.{flat_map-append}
 use Rattle.batch_codec.specs.Values.{BatchValue}
 use Rattle.batch_codec.specs.Grammar.{batch_encoding}
 use Rattle.content.specs.Content.{Content, empty, add}
 use Rattle.content.specs.Deliveries.{delivered, AreAccepted}
-use Rattle.subcommands.specs.Input.{TakesPiece, FindsEnd, TakesBatches, HasTaken, ReadsCopy, DeliversNext}
+use Rattle.streams.specs.State.{SourceState, ReadsMore, ReadsEnd}
+use Rattle.subcommands.specs.Input.{TakesBatches, HasTaken, ReadsCopy, DeliversNext}
 use Rattle.subcommands.specs.Tables.{stream, ReadsAll}
 
 -- ---- deliveries, one list after the other
@@ -69,11 +70,13 @@ front_left waiting waiting' bytes size c c' count count' same dropped next =
 
 -- ---- the reader's bytes
 
-pub consumes_all : (a b c : Option (List ℕ)) (x : List ℕ) → Consumes a b x → IsAtEnd b → Keeps b c → ReadsAll a c x
-consumes_all None b c x p e q = tt
-consumes_all (Some as') None c x p e q = absurd p
-consumes_all (Some as') (Some bs) None x p e q = absurd q
-consumes_all (Some as') (Some bs) (Some cs) x p e q = (p ∙ ap (λ (t : List ℕ). x ++ t) e ∙ append-nil x, q ∙ e)
+ends : (a c : Option (List ℕ)) (x : List ℕ) → Consumes a c x → IsAtEnd c → ReadsAll a c x
+ends None c x p e = tt
+ends (Some bs) None x p e = absurd p
+ends (Some bs) (Some cs) x p e = (p ∙ ap (λ (t : List ℕ). x ++ t) e ∙ append-nil x, e)
+
+pub reads_all : (a b c : Option (List ℕ)) (x : List ℕ) → Consumes a b x → Consumes b c [] → IsAtEnd c → ReadsAll a c x
+reads_all a b c x p q e = ends a c x (subst (Consumes a c) (append-nil x) (Consumes-trans a b c x [] p q)) e
 
 -- ---- what was read so far: the batches that were delivered, and the bytes that wait
 
@@ -93,33 +96,24 @@ batches_taken a b waiting waiting' c c' count count' read t = record {
   consumes = subst (Consumes a b) (ap (λ (u : List ℕ). stream read.batches ++ u) t.encoded ∙ streams read.batches t.batches waiting') read.consumes;
 }
 
-pub piece_taken : (a b b' : Option (List ℕ)) (waiting waiting' : List ℕ) (c : Content) (count : ℕ) → HasTaken a b c count waiting → TakesPiece b b' waiting waiting' → HasTaken a b' c count waiting'
-piece_taken a b b' waiting waiting' c count read t =
-    let parts : (stream read.batches ++ waiting) ++ t.piece ≡ stream read.batches ++ waiting' = append_assoc (stream read.batches) waiting t.piece ∙ ap (λ (x : List ℕ). stream read.batches ++ x) (sym t.appended) in
+pub piece_taken : (a : Option (List ℕ)) (source source' : SourceState) (waiting waiting' : List ℕ) (c : Content) (count : ℕ) → HasTaken a source.left c count waiting → ReadsMore source source' waiting waiting' → HasTaken a source'.left c count waiting'
+piece_taken a source source' waiting waiting' c count read more =
+    let piece = more.0.1.piece in
+    let parts : (stream read.batches ++ waiting) ++ piece ≡ stream read.batches ++ waiting' = append_assoc (stream read.batches) waiting piece ∙ ap (λ (x : List ℕ). stream read.batches ++ x) (sym more.0.1.appends) in
     record {
       batches = read.batches;
       are_accepted = read.are_accepted;
       delivers = read.delivers;
       counts = read.counts;
-      consumes = subst (Consumes a b') parts (Consumes-trans a b b' (stream read.batches ++ waiting) t.piece read.consumes t.consumed);
+      consumes = subst (Consumes a source'.left) parts (Consumes-trans a source.left source'.left (stream read.batches ++ waiting) piece read.consumes more.0.1.consumes);
     }
 
-pub all_taken : (a b b' : Option (List ℕ)) (waiting waiting' : List ℕ) (c : Content) (count : ℕ) → length waiting' ≡ 0 → HasTaken a b c count waiting → FindsEnd b b' waiting waiting' → ReadsCopy a b' c
-all_taken a b b' waiting waiting' c count none read e =
-    let nothing : waiting ≡ [] = sym e.unchanged ∙ nil_from_length waiting' none in
+pub all_taken : (a : Option (List ℕ)) (source source' : SourceState) (waiting waiting' : List ℕ) (c : Content) (count : ℕ) → HasTaken a source.left c count waiting → ReadsEnd source source' waiting waiting' → waiting' ≡ [] → ReadsCopy a source'.left c
+all_taken a source source' waiting waiting' c count read end none =
+    let nothing : waiting ≡ [] = sym end.2 ∙ none in
     let parts : stream read.batches ++ waiting ≡ stream read.batches = ap (λ (x : List ℕ). stream read.batches ++ x) nothing ∙ append-nil (stream read.batches) in
     record {
       batches = read.batches;
-      reads = (read.are_accepted, consumes_all a b b' (stream read.batches) (subst (Consumes a b) parts read.consumes) e.at_end e.stays);
+      reads = (read.are_accepted, reads_all a source.left source'.left (stream read.batches) (subst (Consumes a source.left) parts read.consumes) end.0 end.1);
       delivers = read.delivers;
     }
-
--- ---- the bytes of an input, read one piece after the other
-
-pub piece_read : (a b b' : Option (List ℕ)) (waiting waiting' : List ℕ) → Consumes a b waiting → TakesPiece b b' waiting waiting' → Consumes a b' waiting'
-piece_read a b b' waiting waiting' read t =
-    subst (Consumes a b') (sym t.appended) (Consumes-trans a b b' waiting t.piece read t.consumed)
-
-pub all_read : (a b b' : Option (List ℕ)) (waiting waiting' : List ℕ) → Consumes a b waiting → FindsEnd b b' waiting waiting' → ReadsAll a b' waiting'
-all_read a b b' waiting waiting' read e =
-    subst (ReadsAll a b') (sym e.unchanged) (consumes_all a b b' waiting read e.at_end e.stays)

@@ -1,11 +1,12 @@
 -- What merging two images does, from the bytes that come in to the bytes that go out.
-use Rattle.std.specs.Prelude.{◌≢◌, ℕ, List, Option, ⊤}
+use Rattle.std.specs.Prelude.{◌≡◌, ◌≢◌, ℕ, true, false, List, Option}
 use Rattle.std.specs.Io.KnownBytes.{Appends}
 use Rattle.image_merge.specs.declared.error.MergeFault.{MergeFault}
-use Rattle.image_merge.specs.declared.error.MergeFault.TheVariants.{OutOfMemory}
+use Rattle.image_merge.specs.declared.error.MergeFault.TheVariants as fault
 use Rattle.image_merge.specs.Merging.{MergesImages, RefusesPair}
 use Rattle.subcommands.specs.declared.error.ImagesError.{ImagesError}
-use Rattle.subcommands.specs.declared.error.ImagesError.TheVariants.{Images}
+use Rattle.subcommands.specs.declared.error.ImagesError.TheVariants.{Images, Read, Write, OutOfMemory}
+use Rattle.streams.specs.State.{SourceState, SinkState, IsReadOut, TakesFront}
 use Rattle.subcommands.specs.Tables.{ReadsAll}
 
 -- What was read, to the reader's end, is two images, and what was written is that of their merge.
@@ -19,13 +20,14 @@ pub record PrintsMerge (left left' held held' : Option (List ℕ)) : Type 0 wher
 -- What was read, to the reader's end, is refused as two images, and not out of memory.
 abbrev pub RefusesImages : (left left' : Option (List ℕ)) → MergeFault → Type 0
 RefusesImages left left' why =
-    (input : List ℕ) × ReadsAll left left' input × RefusesPair input why × (why ≢ OutOfMemory)
+    (input : List ℕ) × ReadsAll left left' input × RefusesPair input why × (why ≢ fault.OutOfMemory)
 
--- What was read, to the reader's end, is two images, of copies that agree.
-abbrev pub ReadsImages : (left left' : Option (List ℕ)) → Type 0
-ReadsImages left left' = (input image : List ℕ) × ReadsAll left left' input × MergesImages input image
-
--- a fact of the fault, where an answer gives one
-abbrev pub IfImages : ImagesError → (MergeFault → Type 0) → Type 0
-IfImages (Images why) P = P why
-IfImages _ P = ⊤
+-- Why no image is printed. Unless a write failed, the sink is as it was; and the source fails only where a read did.
+abbrev pub FailsMerge : (source source' : SourceState) (sink sink' : SinkState) → ImagesError → Type 0
+FailsMerge source source' sink sink' (Images why) =
+    RefusesImages source.left source'.left why × (source'.failed ≡ false) × (sink' ≡ sink)
+FailsMerge source source' sink sink' Read = IsReadOut source source' × (sink' ≡ sink)
+FailsMerge source source' sink sink' Write =
+    ((input image : List ℕ) × ReadsAll source.left source'.left input × MergesImages input image
+    × TakesFront sink.taken sink'.taken image) × (source'.failed ≡ false) × (sink'.failed ≡ true)
+FailsMerge source source' sink sink' OutOfMemory = (source'.failed ≡ false) × (sink' ≡ sink)

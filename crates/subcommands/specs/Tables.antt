@@ -1,7 +1,9 @@
 -- What the table of a stream of batches is, from the bytes that come in to the bytes that go out.
-use Rattle.std.specs.Prelude.{◌≡◌, ℕ, List, [], Option, None, Some, ⊤}
+use Rattle.std.specs.Prelude.{◌≡◌, ℕ, List, [], ◌++◌, Option, None, Some, ⊤}
 use Rattle.std.specs.List.{flat_map}
-use Rattle.std.specs.Io.KnownBytes.{Appends}
+use Rattle.std.specs.Io.KnownBytes.{Consumes, Appends}
+use Rattle.batch_codec.specs.declared.error.BatchError.TheVariants.{Short}
+use Rattle.batch_codec.specs.Refusals.{FirstFault}
 use Rattle.batch_codec.specs.Values.{BatchValue}
 use Rattle.batch_codec.specs.Grammar.{batch_encoding}
 use Rattle.content.specs.Content.{Content, empty, shown_table}
@@ -32,6 +34,15 @@ ReadsAll (Some left) (Some left') bytes = (left ≡ bytes) × (left' ≡ [])
 -- of them, in the order in which they came.
 abbrev pub ReadsLog : Option (List ℕ) → Option (List ℕ) → List BatchValue → Type 0
 ReadsLog left left' bs = AreAccepted empty bs × ReadsAll left left' (stream bs)
+
+-- A reader gave batches, each accepted by a copy that those before it were delivered to, and then some
+-- bytes that are too few for one.
+pub record ReadsPart (left left' : Option (List ℕ)) : Type 0 where
+  pub batches : List BatchValue
+  pub rest : List ℕ
+  pub are_accepted : AreAccepted empty batches
+  pub consumes : Consumes left left' (stream batches ++ rest)
+  pub is_short : FirstFault Short rest
 
 -- Batches were read to the reader's end, and the lines of their table were written.
 pub record PrintsTable (left left' held held' : Option (List ℕ)) : Type 0 where

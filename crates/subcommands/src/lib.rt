@@ -4,7 +4,6 @@
 
 mod error;
 mod merging;
-mod pending;
 mod replaying;
 mod session;
 mod status;

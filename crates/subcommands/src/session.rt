@@ -1,10 +1,10 @@
 //! A session: request frames come in, and their replies go out.
 
-ghost use Rattle.std.specs.Prelude.{◌≡◌, ◌≢◌, ◌≤◌, ◌+◌, ◌^◌, true, false, IfErr, MatchBool, OnOk};
+ghost use Rattle.std.specs.Prelude.{◌≡◌, ◌≢◌, ◌≤◌, ◌+◌, ◌^◌, false, IfErr, OnOk};
 ghost use Rattle.broker_state.specs.ConfigValues.{config_value};
 ghost use Rattle.broker_state.specs.Configs.{IsValidConfig};
 ghost use Rattle.subcommands.specs.Answering.{AnswersFrom, FailsAs, RefusesFrom};
-ghost use Rattle.std.specs.Io.KnownBytes.{Keeps};
+ghost use Rattle.subcommands.specs.SessionRuns.{RunsSession};
 ghost use Rattle.subcommands.specs.Status.{session_status};
 
 use crate::error::SessionFault;
@@ -34,18 +34,6 @@ pub fn refuse_configuration<E: Write>(why: ConfigError, err: &mut E) -> u8
     }
 }
 
-/// Flushes a sink, unless it has failed before, and tells whether it never did.
-fn flush<W: Write>(sink: &mut Sink<W>) -> bool
-    ensures keeps { Keeps sink.old.taken sink.new.taken }
-    ensures tells_failure { MatchBool result (sink.new.failed ≡ false) (sink.new.failed ≡ true) }
-    ensures stays_failed { sink.old.failed ≡ true → sink.new.failed ≡ true }
-{
-    if sink.failed() {
-        return false;
-    }
-    sink.flush().is_ok()
-}
-
 /// Answers the frames that come from the source, to its end, and flushes the sink, also where it stops
 /// before.
 ///
@@ -72,12 +60,12 @@ pub fn answer_frames<S: BatchStore, A: Allocator + Copy, R: Read, W: Write>(
     ensures few_reads { source.new.reads ≤ source.old.reads + 2 ^ 32 }
 {
     let answered = serve(alloc, node, source, sink);
-    let flushed = flush(sink);
+    let flushed = sink.finish();
     let ended = match answered {
         Ok(ended) => ended,
         Err(why) => return Err(SessionFault::Stopped(why)),
     };
-    if !flushed {
+    if flushed.is_err() {
         return Err(SessionFault::Stopped(SessionError::Write));
     }
     if ended.rest != 0 {
@@ -86,31 +74,29 @@ pub fn answer_frames<S: BatchStore, A: Allocator + Copy, R: Read, W: Write>(
     Ok(())
 }
 
-/// Runs the subcommand `session`: answers the frames that the reader gives, as a new broker of a
+/// Runs the subcommand `session`: answers the frames that the source gives, as a new broker of a
 /// configuration, and answers the status: 0 all were answered, 1 a frame is refused or incomplete,
 /// 2 the configuration is refused, 3 out of memory, 4 a read or a write failed. A status that is not 0
 /// comes with one line on `err`.
 pub fn run_session<A: Allocator + Copy, R: Read, W: Write, E: Write>(
     alloc: A,
     config: Config<A>,
-    reader: &mut R,
-    out: &mut W,
+    source: &mut Source<R>,
+    sink: &mut Sink<W>,
     err: &mut E,
 ) -> u8
     ensures is_status { result ≤ 4 }
     ensures done_complains_of_nothing { result ≡ 0 → err.new ≡ err.old }
-    ensures valid_is_no_fault { IsValidConfig (config_value config) → result ≢ 2 }
     ensures invalid_is_a_fault { ¬ IsValidConfig (config_value config) → result ≡ 2 }
-    ensures faulty_prints_nothing { result ≡ 2 → out.new ≡ out.old }
-    ensures faulty_reads_nothing { result ≡ 2 → reader.new ≡ reader.old }
+    ensures runs { RunsSession (config_value config)
+        source.old source.new sink.old sink.new result }
+    ensures few_reads { source.new.reads ≤ source.old.reads + 2 ^ 32 }
 {
     let mut node: Node<ProgramStore<A>> = match Node::new(alloc, config) {
         Ok(node) => node,
         Err(why) => return refuse_configuration(why, err),
     };
-    let mut source = Source::new(reader);
-    let mut sink = Sink::new(out);
-    match answer_frames(alloc, &mut node, &mut source, &mut sink) {
+    match answer_frames(alloc, &mut node, source, sink) {
         Ok(()) => DONE,
         Err(why) => fail_session(&why, err),
     }

@@ -1,28 +1,27 @@
 //! The table of a stream of batches.
 
-ghost use Rattle.std.specs.Prelude.{◌≡◌, ◌<◌, [], List, length, IfOk, OnOk, IfErr, OnErr, IsErrOf, MatchBool, MatchResult};
+ghost use Rattle.std.specs.Prelude.{◌≡◌, ◌<◌, ◌+◌, ◌^◌, ◌≤◌, false, [], length, IfOk, OnOk, IfErr, OnErr, IsErrOf, MatchBool, MatchResult};
 ghost use Rattle.std.specs.Bool.{OnFalse};
 ghost use Rattle.std.specs.Io.KnownBytes.{Appends};
 ghost use Rattle.batch_codec.specs.declared.error.BatchError.TheVariants.{Short};
 ghost use Rattle.batch_codec.specs.Refusals.{FirstFault};
-ghost use Rattle.batch_codec.specs.Values.{BatchValue};
 ghost use Rattle.content.specs.Content.{empty};
+ghost use Rattle.subcommands.specs.declared.error.Refusal.TheVariants.{View};
 ghost use Rattle.subcommands.specs.declared.error.TableError.TheVariants.{Batch};
-ghost use Rattle.subcommands.specs.Input.{TakesBatches, DeliversNext, ReadsCopy};
-ghost use Rattle.subcommands.specs.Tables.{content_lines, ReadsLog, PrintsTable};
-ghost use Rattle.subcommands.specs.Refused.{RefusesNext, RefusesStream, IfBatch};
+ghost use Rattle.subcommands.specs.Input.{TakesBatches, DeliversNext, ReadsCopy, StopsTaking, StopsIntake, StopsPrinting};
+ghost use Rattle.subcommands.specs.Tables.{content_lines, PrintsTable};
+ghost use Rattle.subcommands.specs.Refused.{FailsTable};
+ghost use Rattle.subcommands.specs.Ends.{HasFailedNone};
 
 use crate::error::{Refusal, TableError};
-use crate::pending::{FillFailed, Pending};
 use batch_codec::{BatchError, view};
+use bytes::BytesMut;
 use partition_log::{DeliverError, PartitionLog};
 use segment::{BatchStore, ProgramStore};
 use std::alloc::Allocator;
 use std::io::{Read, Write};
+use streams::{FillError, MOST_READS, Sink, Source, fill};
 use table_lines::{BUFFER_SIZE, write_lines};
-
-/// How many reads an input may take.
-const MOST_READS: u64 = 1 << 32;
 
 /// What was taken of the input: a copy, and how many batches were delivered to it.
 #[derive(Drop)]
@@ -41,8 +40,8 @@ fn refused<S: BatchStore>(intake: &Intake<S>, why: Refusal) -> TableError
     }
 }
 
-/// Delivers the batch at the front, if there is one, and gives the number of its bytes. More than
-/// 2^64 batches are not counted.
+/// Delivers the batch at the front, if there is one, and gives the number of its bytes. No more than
+/// 2^64 - 1 batches are taken.
 fn deliver_next<S: BatchStore>(
     intake: &mut Intake<S>,
     bytes: &[u8],
@@ -50,10 +49,9 @@ fn deliver_next<S: BatchStore>(
     ensures delivers_next { MatchResult result
         (λ size. DeliversNext bytes.now size
         intake.old.log intake.new.log intake.old.count intake.new.count)
-        (λ e. IfBatch e (RefusesNext intake.old.log intake.old.count bytes.now)) }
+        (StopsTaking intake.old.log intake.old.count bytes.now) }
     ensures unchanged { OnErr result
         ((intake.new.log ≡ intake.old.log) × (intake.new.count ≡ intake.old.count)) }
-    ensures no_write { ¬ IsErrOf result TableError.Write }
 {
     let batch = match view(bytes) {
         Ok(batch) => batch,
@@ -61,7 +59,7 @@ fn deliver_next<S: BatchStore>(
         Err(why) => return Err(refused(intake, Refusal::View(why))),
     };
     let Some(count) = intake.count.checked_add(1) else {
-        return Err(TableError::Read);
+        return Err(TableError::OutOfMemory);
     };
     match intake.log.deliver(&batch) {
         Ok(_) => {}
@@ -75,71 +73,79 @@ fn deliver_next<S: BatchStore>(
 /// Takes the batch at the front, and tells whether a whole one was there.
 fn take_batch<S: BatchStore>(
     intake: &mut Intake<S>,
-    pending: &mut Pending<S::Alloc>,
+    held: &mut BytesMut<S::Alloc>,
 ) -> Result<bool, TableError>
     ensures more { IfOk result (λ more. MatchBool more
-        (TakesBatches pending.old pending.new
+        (TakesBatches held.old.items held.new.items
         intake.old.log intake.new.log intake.old.count intake.new.count)
-        ((pending.new ≡ pending.old) × (intake.new.log ≡ intake.old.log)
+        ((held.new.items ≡ held.old.items) × (intake.new.log ≡ intake.old.log)
         × (intake.new.count ≡ intake.old.count))) }
     ensures fewer { IfOk result (λ more. MatchBool more
-        (length pending.new < length pending.old)
-        (pending.new ≡ pending.old)) }
-    ensures short { IfOk result (λ more. OnFalse more (FirstFault Short pending.old)) }
+        (length held.new.items < length held.old.items)
+        (held.new.items ≡ held.old.items)) }
+    ensures short { IfOk result (λ more. OnFalse more (FirstFault Short held.old.items)) }
 
-    ensures refused { IfErr result (λ e. IfBatch e
-        (RefusesNext intake.old.log intake.old.count pending.old)) }
-    ensures no_write { ¬ IsErrOf result TableError.Write }
-    ensures unchanged { OnErr result ((pending.new ≡ pending.old)
+    ensures stops { IfErr result (StopsTaking intake.old.log intake.old.count held.old.items) }
+    ensures unchanged { OnErr result ((held.new.items ≡ held.old.items)
         × (intake.new.log ≡ intake.old.log) × (intake.new.count ≡ intake.old.count)) }
 {
-    let Some(size) = deliver_next(intake, pending.bytes())? else {
+    let Some(size) = deliver_next(intake, held.as_slice())? else {
         return Ok(false);
     };
-    pending.advance(size);
+    held.advance(size);
     Ok(true)
 }
 
-/// Takes each whole batch that waits.
+/// Takes each whole batch that is held.
 fn take_batches<S: BatchStore>(
     intake: &mut Intake<S>,
-    pending: &mut Pending<S::Alloc>,
+    held: &mut BytesMut<S::Alloc>,
 ) -> Result<(), TableError>
-    ensures taken { TakesBatches pending.old pending.new
+    ensures taken { TakesBatches held.old.items held.new.items
         intake.old.log intake.new.log intake.old.count intake.new.count }
-    ensures short { OnOk result (FirstFault Short pending.new) }
-    ensures refused { IfErr result (λ e. IfBatch e
-        (RefusesNext intake.new.log intake.new.count pending.new)) }
-    ensures no_write { ¬ IsErrOf result TableError.Write }
+    ensures short { OnOk result (FirstFault Short held.new.items) }
+    ensures stops { IfErr result (StopsTaking intake.new.log intake.new.count held.new.items) }
 {
-    while take_batch(intake, pending)? {}
+    while take_batch(intake, held)? {}
     Ok(())
 }
 
-/// Takes each batch to the end of the input, in any order, where none was taken before.
+/// The answer at the end of the input, where `held` is too little for a batch.
+fn end_input<S: BatchStore>(intake: &Intake<S>, held: &BytesMut<S::Alloc>) -> Result<(), TableError>
+    ensures all_taken { OnOk result (held.now.items ≡ []) }
+    ensures short { IfErr result (λ e. (e ≡ Batch intake.now.count (View Short))
+        × (0 < length held.now.items)) }
+{
+    if held.is_empty() {
+        return Ok(());
+    }
+    Err(refused(intake, Refusal::View(BatchError::Short)))
+}
+
+/// Takes each batch to the end of the input, in any order, where none was taken before. Each read is
+/// followed by taking what it completed.
+#[tactic(auto, using(crate::proofs::Intake::none_taken, crate::proofs::Intake::few_reads, crate::proofs::Intake::all_reads))]
 fn take_input<S: BatchStore, R: Read>(
     intake: &mut Intake<S>,
-    pending: &mut Pending<S::Alloc>,
-    reader: &mut R,
+    held: &mut BytesMut<S::Alloc>,
+    source: &mut Source<R>,
 ) -> Result<(), TableError>
     requires no_batch { intake.old.log ≡ empty }
     requires no_count { intake.old.count ≡ 0 }
-    requires nothing_waits { pending.old ≡ [] }
-    ensures read { OnOk result
-        (ReadsCopy (R.remaining reader.old) (R.remaining reader.new) intake.new.log) }
-    ensures refused { IfErr result (λ e. IfBatch e
-        (RefusesStream (R.remaining reader.old) (R.remaining reader.new))) }
-    ensures no_write { ¬ IsErrOf result TableError.Write }
+    requires nothing_held { held.old.items ≡ [] }
+    ensures read { OnOk result (ReadsCopy source.old.left source.new.left intake.new.log) }
+    ensures stops { IfErr result (StopsIntake source.old source.new) }
+    ensures fails_no_read { OnOk result (source.new.failed ≡ false) }
+    ensures few_reads { source.new.reads ≤ source.old.reads + 2 ^ 32 }
 {
     for _ in 0..MOST_READS {
-        take_batches(intake, pending)?;
-        match pending.fill(reader) {
+        match fill(source, held, usize::MAX) {
             Ok(true) => {}
-            Ok(false) if pending.len() == 0 => return Ok(()),
-            Ok(false) => return Err(refused(intake, Refusal::View(BatchError::Short))),
-            Err(FillFailed::Read) => return Err(TableError::Read),
-            Err(FillFailed::OutOfMemory) => return Err(TableError::OutOfMemory),
+            Ok(false) => return end_input(intake, held),
+            Err(FillError::Read) => return Err(TableError::Read),
+            Err(FillError::OutOfMemory) => return Err(TableError::OutOfMemory),
         }
+        take_batches(intake, held)?;
     }
     Err(TableError::Read)
 }
@@ -147,19 +153,18 @@ fn take_input<S: BatchStore, R: Read>(
 /// Reads batches to the end of the input, in any order.
 fn read_log<S: BatchStore, R: Read>(
     alloc: S::Alloc,
-    reader: &mut R,
+    source: &mut Source<R>,
 ) -> Result<PartitionLog<S>, TableError>
-    ensures read { IfOk result (λ log.
-        ReadsCopy (R.remaining reader.old) (R.remaining reader.new) log) }
-    ensures refused { IfErr result (λ e. IfBatch e
-        (RefusesStream (R.remaining reader.old) (R.remaining reader.new))) }
-    ensures no_write { ¬ IsErrOf result TableError.Write }
+    ensures read { IfOk result (ReadsCopy source.old.left source.new.left) }
+    ensures stops { IfErr result (StopsIntake source.old source.new) }
+    ensures fails_no_read { OnOk result (source.new.failed ≡ false) }
+    ensures few_reads { source.new.reads ≤ source.old.reads + 2 ^ 32 }
 {
     let mut intake = Intake {
         log: PartitionLog::new(alloc),
         count: 0,
     };
-    take_input(&mut intake, &mut Pending::new(alloc), reader)?;
+    take_input(&mut intake, &mut BytesMut::new(alloc), source)?;
     Ok(intake.log)
 }
 
@@ -167,14 +172,14 @@ fn read_log<S: BatchStore, R: Read>(
 fn print_log<S: BatchStore, W: Write>(
     alloc: S::Alloc,
     log: &PartitionLog<S>,
-    writer: &mut W,
+    sink: &mut Sink<W>,
 ) -> Result<(), TableError>
     ensures writes_lines { OnOk result
-        (Appends (W.contents writer.old) (W.contents writer.new) (content_lines log.now)) }
-    ensures out_of_memory_writes_nothing { IsErrOf result TableError.OutOfMemory →
-        writer.new ≡ writer.old }
-    ensures no_batch { IfErr result (λ e. IfBatch e (λ index why. ⊥)) }
-    ensures no_read { ¬ IsErrOf result TableError.Read }
+        (Appends sink.old.taken sink.new.taken (content_lines log.now)) }
+    ensures fails_nothing { OnOk result (sink.new.failed ≡ false) }
+    ensures stops { IfErr result (StopsPrinting log.now sink.old sink.new) }
+    ensures only_a_write_error_fails_the_sink { ¬ IsErrOf result TableError.Write
+        → sink.new.failed ≡ sink.old.failed }
 {
     let Ok(rows) = log.table() else {
         return Err(TableError::OutOfMemory);
@@ -182,7 +187,7 @@ fn print_log<S: BatchStore, W: Write>(
     let Ok(mut buffer) = Vec::with_capacity(alloc, BUFFER_SIZE) else {
         return Err(TableError::OutOfMemory);
     };
-    if write_lines(&mut buffer, writer, &rows).is_err() {
+    if write_lines(&mut buffer, sink, &rows).is_err() {
         return Err(TableError::Write);
     }
     Ok(())
@@ -194,31 +199,27 @@ fn print_log<S: BatchStore, W: Write>(
 ///
 /// # Errors
 ///
-/// A batch that is refused, with its number from 0; a reader or writer that fails; out of memory.
+/// A batch that is refused, with its number from 0; a read, write or flush that fails; no end within
+/// 2^32 reads; out of memory. A source of which a read failed before isn't read, and a sink of which a
+/// write failed before isn't written.
 pub fn run_table<A: Allocator + Copy, R: Read, W: Write>(
     alloc: A,
-    reader: &mut R,
-    writer: &mut W,
+    source: &mut Source<R>,
+    sink: &mut Sink<W>,
 ) -> Result<(), TableError>
     // What was read, to the reader's end, is batches end to end, each accepted by a copy that those
     // before it were delivered to; what was written is the lines of that copy's table.
     ensures prints_table { OnOk result (PrintsTable
-        (R.remaining reader.old) (R.remaining reader.new)
-        (W.contents writer.old) (W.contents writer.new)) }
-
-    // What was read is as many batches as the index says, all accepted, and then some bytes that are
-    // refused for the reason given; bytes are too few for a batch only at the reader's end.
-    ensures names_first_refused { IfErr result (λ e. IfBatch e
-        (RefusesStream (R.remaining reader.old) (R.remaining reader.new))) }
-    ensures refusal_prints_nothing { IfErr result (λ e. IfBatch e
-        (λ index why. writer.new ≡ writer.old)) }
-
-    ensures read_error_prints_nothing { IsErrOf result TableError.Read → writer.new ≡ writer.old }
-    ensures write_error_after_whole_input { IsErrOf result TableError.Write →
-        (bs : List BatchValue) × ReadsLog (R.remaining reader.old) (R.remaining reader.new) bs }
-    ensures out_of_memory_prints_nothing { IsErrOf result TableError.OutOfMemory →
-        writer.new ≡ writer.old }
+        source.old.left source.new.left sink.old.taken sink.new.taken) }
+    ensures fails_nothing { OnOk result (HasFailedNone source.new sink.new) }
+    // Whatever stops it: what was read is batches that were accepted, and this is what came then.
+    ensures fails { IfErr result (FailsTable source.old source.new sink.old sink.new) }
+    ensures few_reads { source.new.reads ≤ source.old.reads + 2 ^ 32 }
+    ensures only_a_read_error_fails_the_source { ¬ IsErrOf result TableError.Read
+        → source.new.failed ≡ false }
+    ensures only_a_write_error_fails_the_sink { ¬ IsErrOf result TableError.Write
+        → sink.new.failed ≡ sink.old.failed }
 {
-    let log = read_log::<ProgramStore<A>, R>(alloc, reader)?;
-    print_log(alloc, &log, writer)
+    let log = read_log::<ProgramStore<A>, R>(alloc, source)?;
+    print_log(alloc, &log, sink)
 }

@@ -1,13 +1,14 @@
 -- Lemmas on what was sent to a writer, and what waits before it.
-use Rattle.std.proofs.Common.{◌≡◌, ℕ, ◌+◌, ◌-◌, ◌<◌, None, Some, List, [], ◌∷◌, ◌++◌, get_or, length, take, drop, map, Option, refl, sym, ap, subst, ◌∙◌, append_assoc, append-nil}
+use Rattle.std.proofs.Common.{◌≡◌, ℕ, ◌+◌, ◌-◌, ◌<◌, None, Some, List, [], ◌∷◌, ◌++◌, get_or, length, take, drop, map, Option, refl, sym, ap, subst, ◌∙◌, append_assoc, append-nil, take-append-drop, take_all, ◌≤◌}
 use Rattle.std.proofs.KnownBytes.{Appends-nil, Appends-trans, Appends-kept}
 use Rattle.std.proofs.lemmas.List.Concat.{flat_map-append}
 use Rattle.std.proofs.lemmas.List.{map-append, take_more}
 use Rattle.std.specs.List.{position}
 use Rattle.std.specs.Io.KnownBytes.{Appends, Keeps}
 use Rattle.table_lines.specs.Lines.{line, lines, printed, printed_byte}
-use Rattle.table_lines.proofs.Printed.{is_escaped, all_printed, run_printed}
+use Rattle.table_lines.proofs.Printed.{is_escaped, all_printed, run_printed, printed_split}
 use Rattle.table_lines.specs.Output.{Sends, SendsAllBut}
+use Rattle.streams.specs.State.{LosesRest, TakesFront}
 
 -- all waits
 pub sends_later : (a : Option (List ℕ)) (waited waiting more : List ℕ) → waiting ≡ waited ++ more → Sends a a waited waiting more
@@ -73,12 +74,106 @@ sends_run a b c u v w bytes k some p q = record {
   parts = run_printed bytes k some;
 }
 
+-- ---- a write that failed: a front of what waited and came behind it went to the writer
+
+-- a front of some bytes is one of more
+pub front_longer : (a b : Option (List ℕ)) (bytes all rest : List ℕ) → all ≡ bytes ++ rest → TakesFront a b bytes → TakesFront a b all
+front_longer a b bytes all rest parts t = (
+  t.0 ++ rest,
+  record {
+    front = t.1.front;
+    parts = parts ∙ ap (λ (x : List ℕ). x ++ rest) t.1.parts ∙ append_assoc t.1.front t.0 rest;
+    appends = t.1.appends;
+  },
+)
+
+pub front_lost : (a b : Option (List ℕ)) (bytes : List ℕ) → LosesRest a b bytes → TakesFront a b bytes
+front_lost a b bytes l = (l.0, l.2)
+
+-- what waited didn't all go, so nothing behind it did
+pub front_waited : (a b : Option (List ℕ)) (waited more : List ℕ) → TakesFront a b waited → TakesFront a b (waited ++ more)
+front_waited a b waited more t = front_longer a b waited (waited ++ more) more refl t
+
+-- what waited went, and a front of the bytes behind it
+pub front_past : (a b c : Option (List ℕ)) (waited more : List ℕ) → Appends a b waited → TakesFront b c more → TakesFront a c (waited ++ more)
+front_past a b c waited more before t = (
+  t.0,
+  record {
+    front = waited ++ t.1.front;
+    parts = ap (λ (x : List ℕ). waited ++ x) t.1.parts ∙ sym (append_assoc waited t.1.front t.0);
+    appends = Appends-trans a b c waited t.1.front before t.1.appends;
+  },
+)
+
+-- the same of what was lost
+pub lost_past : (a b c : Option (List ℕ)) (waited more : List ℕ) → Appends a b waited → LosesRest b c more → TakesFront a c (waited ++ more)
+lost_past a b c waited more before l = front_past a b c waited more before (front_lost b c more l)
+
+-- all of them went
+pub front_all : (a b : Option (List ℕ)) (bytes : List ℕ) → Appends a b bytes → TakesFront a b bytes
+front_all a b bytes all = ([], record { front = bytes; parts = sym (append-nil bytes); appends = all })
+
+-- bytes were sent, and a front of what then waited and came behind it went
+pub front_then : (a b c : Option (List ℕ)) (u v x y : List ℕ) → Sends a b u v x → TakesFront b c (v ++ y) → TakesFront a c (u ++ (x ++ y))
+front_then a b c u v x y s t =
+    let parts : s.sent ++ (v ++ y) ≡ u ++ (x ++ y) =
+    sym (append_assoc s.sent v y) ∙ ap (λ (k : List ℕ). k ++ y) s.waits ∙ append_assoc u x y in
+    subst (λ (k : List ℕ). TakesFront a c k) parts (front_past a b c s.sent (v ++ y) s.appends t)
+
+-- bytes were sent, and a front of what then waited went
+pub front_last : (a b c : Option (List ℕ)) (u v x : List ℕ) → Sends a b u v x → TakesFront b c v → TakesFront a c (u ++ x)
+front_last a b c u v x s t = subst (λ (k : List ℕ). TakesFront a c k) s.waits (front_past a b c s.sent v s.appends t)
+
+-- a front of the bytes, and of others behind them
+pub front_part : (a b : Option (List ℕ)) (u x all rest : List ℕ) → all ≡ x ++ rest → TakesFront a b (u ++ x) → TakesFront a b (u ++ all)
+front_part a b u x all rest parts t =
+    front_longer a b (u ++ x) (u ++ all) rest (ap (λ (k : List ℕ). u ++ k) parts ∙ sym (append_assoc u x rest)) t
+
+-- of the unescaped bytes in front of an escape
+pub front_run : (a b : Option (List ℕ)) (u bytes : List ℕ) (k : ℕ) → position is_escaped bytes ≡ Some k → TakesFront a b (u ++ take k bytes) → TakesFront a b (u ++ printed bytes)
+front_run a b u bytes k some t = front_part a b u (take k bytes) (printed bytes) _ (printed_split bytes k some) t
+
+-- and of the escape behind them
+pub front_escape : (a b c : Option (List ℕ)) (u v bytes : List ℕ) (k : ℕ) → position is_escaped bytes ≡ Some k → Sends a b u v (take k bytes) → TakesFront b c (v ++ printed_byte (get_or bytes k 0)) → TakesFront a c (u ++ printed bytes)
+front_escape a b c u v bytes k some s t =
+    front_part a c u (take k bytes ++ printed_byte (get_or bytes k 0)) (printed bytes) _ (run_printed bytes k some) (front_then a b c u v _ _ s t)
+
+-- of bytes that are all unescaped
+pub front_plain : (a b : Option (List ℕ)) (u bytes : List ℕ) → printed bytes ≡ bytes → TakesFront a b (u ++ bytes) → TakesFront a b (u ++ printed bytes)
+front_plain a b u bytes same t = subst (λ (k : List ℕ). TakesFront a b (u ++ k)) (sym same) t
+
+-- bytes of which some are left
+pub front_left : (a b c : Option (List ℕ)) (u v left all : List ℕ) → SendsAllBut a b u v left all → TakesFront b c (v ++ left) → TakesFront a c (u ++ all)
+front_left a b c u v left all s t = subst (λ (k : List ℕ). TakesFront a c (u ++ k)) (sym s.parts) (front_then a b c u v s.more left s.sends t)
+
+-- ---- a line: a key, a sign, a value and an end
+
+pub front_key : (a b : Option (List ℕ)) (u key sign value end : List ℕ) → TakesFront a b (u ++ key) → TakesFront a b (u ++ ((key ++ (sign ++ value)) ++ end))
+front_key a b u key sign value end t = front_part a b u key ((key ++ (sign ++ value)) ++ end) ((sign ++ value) ++ end) (append_assoc key (sign ++ value) end) t
+
+pub front_sign : (a b c : Option (List ℕ)) (u v key sign value end : List ℕ) → Sends a b u v key → TakesFront b c (v ++ sign) → TakesFront a c (u ++ ((key ++ (sign ++ value)) ++ end))
+front_sign a b c u v key sign value end s t =
+    let parts : (key ++ (sign ++ value)) ++ end ≡ (key ++ sign) ++ (value ++ end) =
+    ap (λ (k : List ℕ). k ++ end) (sym (append_assoc key sign value)) ∙ append_assoc (key ++ sign) value end in
+    front_part a c u (key ++ sign) ((key ++ (sign ++ value)) ++ end) (value ++ end) parts (front_then a b c u v key sign s t)
+
+pub front_value : (a b c d : Option (List ℕ)) (u v w key sign value end : List ℕ) → Sends a b u v key → Sends b c v w sign → TakesFront c d (w ++ value) → TakesFront a d (u ++ ((key ++ (sign ++ value)) ++ end))
+front_value a b c d u v w key sign value end s r t =
+    let parts : (key ++ (sign ++ value)) ++ end ≡ ((key ++ sign) ++ value) ++ end =
+    ap (λ (k : List ℕ). k ++ end) (sym (append_assoc key sign value)) in
+    front_part a d u ((key ++ sign) ++ value) ((key ++ (sign ++ value)) ++ end) end parts
+    (front_then a c d u w (key ++ sign) value (sends_then a b c u v w key sign s r) t)
+
 -- ---- lines
 
 -- what waited went to the writer too
 pub sends_end : (a b c d : Option (List ℕ)) (waited waiting all : List ℕ) → Sends a b waited waiting all → Appends b c waiting → Keeps c d → Appends a d (waited ++ all)
 sends_end a b c d waited waiting all s written kept =
     Appends-kept a c d (waited ++ all) (subst (Appends a c) s.waits (Appends-trans a b c s.sent waiting s.appends written)) kept
+
+-- what waited went, but isn't flushed
+pub front_unflushed : (b c d : Option (List ℕ)) (waiting : List ℕ) → Appends b c waiting → Keeps c d → TakesFront b d waiting
+front_unflushed b c d waiting written kept = front_all b d waiting (Appends-kept b c d waiting written kept)
 
 module _ {T : Type 0} (row : T → List ℕ × List ℕ) where
   lines_next : (k : ℕ) (rows : List T) (d : T) → k < length rows → lines (map row (take (k + 1) rows)) ≡ lines (map row (take k rows)) ++ line (row (get_or rows k d))
@@ -92,3 +187,18 @@ module _ {T : Type 0} (row : T → List ℕ × List ℕ) where
   pub sends_next : (a b c : Option (List ℕ)) (u v w : List ℕ) (k : ℕ) (rows : List T) (d : T) → k < length rows → Sends a b u v (lines (map row (take k rows))) → Sends b c v w (line (row (get_or rows k d))) → Sends a c u w (lines (map row (take (k + 1) rows)))
   sends_next a b c u v w k rows d within p q =
       subst (Sends a c u w) (sym (lines_next k rows d within)) (sends_then a b c u v w _ _ p q)
+
+  -- within the line of a row
+  pub front_next : (a b c : Option (List ℕ)) (u v : List ℕ) (k : ℕ) (rows : List T) (d : T) → k < length rows → Sends a b u v (lines (map row (take k rows))) → TakesFront b c (v ++ line (row (get_or rows k d))) → TakesFront a c (u ++ lines (map row rows))
+  front_next a b c u v k rows d within s t =
+      let parts : lines (map row rows) ≡ lines (map row (take (k + 1) rows)) ++ lines (map row (drop (k + 1) rows)) =
+      ap (λ (r : List T). lines (map row r)) (sym (take-append-drop (k + 1) rows)) ∙ ap (λ (r : List (List ℕ × List ℕ)). lines r) (map-append row (take (k + 1) rows) (drop (k + 1) rows))
+      ∙ flat_map-append line (map row (take (k + 1) rows)) (map row (drop (k + 1) rows)) in
+      let before : TakesFront a c (u ++ lines (map row (take (k + 1) rows))) =
+      subst (λ (x : List ℕ). TakesFront a c (u ++ x)) (sym (lines_next k rows d within)) (front_then a b c u v _ _ s t) in
+      front_part a c u (lines (map row (take (k + 1) rows))) (lines (map row rows)) (lines (map row (drop (k + 1) rows))) parts before
+
+  -- what waited behind all lines
+  pub front_closed : (a b c : Option (List ℕ)) (u v : List ℕ) (k : ℕ) (rows : List T) → length rows ≤ k → Sends a b u v (lines (map row (take k rows))) → TakesFront b c v → TakesFront a c (u ++ lines (map row rows))
+  front_closed a b c u v k rows all s t =
+      subst (λ (r : List T). TakesFront a c (u ++ lines (map row r))) (take_all k rows all) (front_last a b c u v _ s t)

@@ -1,6 +1,6 @@
-//! The lines that a table is printed as, through a buffer before a writer.
+//! The lines that a table is printed as, through a buffer before a sink.
 //!
-//! The buffer is a `Vec` of the caller's, which never grows: what it has no room for goes to the writer.
+//! The buffer is a `Vec` of the caller's, which never grows: what it has no room for goes to the sink.
 //! So writing takes no memory.
 #![tactic(auto)]
 

@@ -1,16 +1,18 @@
 //! The lines that a table is printed as.
 
-ghost use Rattle.std.specs.Prelude.{◌≡◌, ◌+◌, ◌<◌, ◌≤◌, ◌++◌, false, [], not, length, map, position, IfOk, OnOk};
+ghost use Rattle.std.specs.Prelude.{◌≡◌, ◌+◌, ◌<◌, ◌≤◌, ◌++◌, true, false, [], not, length, map, position, IfOk, OnErr, OnOk};
 ghost use Rattle.std.specs.List.{list_all};
 ghost use Rattle.std.specs.Vec.{vec_len, vec_capacity};
 ghost use Rattle.std.specs.Io.KnownBytes.{Appends};
+ghost use Rattle.streams.specs.State.{TakesFront};
 ghost use Rattle.table_lines.specs.Lines.{is_unescaped, hex_digit, printed_byte, printed, line, lines, EndsOnce};
 ghost use Rattle.table_lines.specs.Output.{Sends, SendsAllBut};
 
 use std::alloc::Allocator;
-use std::io::{Result, Write};
+use std::io::Write;
+use streams::{Failed, Sink};
 
-/// The room that a buffer before a writer wants, in bytes.
+/// The room that a buffer before a sink wants, in bytes.
 pub const BUFFER_SIZE: usize = 65536;
 
 /// Whether a byte is printed as it is.
@@ -52,18 +54,27 @@ fn first_escaped(bytes: &[u8]) -> Option<usize>
     bytes.iter().position(|byte| !is_unescaped(*byte))
 }
 
-/// Hands what waits in the buffer to the writer, and empties the buffer. The writer isn't flushed.
+/// Hands what waits in the buffer to the sink, and empties the buffer. The sink isn't flushed, and one
+/// that has failed before is not written.
 ///
 /// # Errors
 ///
-/// The writer failed.
-pub fn pass_on<A: Allocator, W: Write>(buffer: &mut Vec<u8, A>, writer: &mut W) -> Result<()>
+/// A write failed, now or before. The sink took a front of what waited.
+#[tactic(auto, using(crate::proofs::Sending::front_lost))]
+pub fn pass_on<A: Allocator, W: Write>(
+    buffer: &mut Vec<u8, A>,
+    sink: &mut Sink<W>,
+) -> Result<(), Failed>
     ensures writes_all { OnOk result
-        (Appends (W.contents writer.old) (W.contents writer.new) buffer.old.items) }
+        (Appends sink.old.taken sink.new.taken buffer.old.items) }
     ensures empties_buffer { OnOk result (buffer.new.items ≡ []) }
     ensures keeps_room { vec_capacity buffer.new ≡ vec_capacity buffer.old }
+    ensures writes_front { OnErr result
+        (TakesFront sink.old.taken sink.new.taken buffer.old.items) }
+    ensures keeps_flag { OnOk result (sink.new.failed ≡ sink.old.failed) }
+    ensures sets_flag { OnErr result (sink.new.failed ≡ true) }
 {
-    writer.write_all(buffer)?;
+    sink.send(buffer)?;
     buffer.clear();
     Ok(())
 }
@@ -78,26 +89,31 @@ fn collect<A: Allocator>(buffer: &mut Vec<u8, A>, bytes: &[u8])
 }
 
 /// Puts bytes behind those that wait in the buffer. Where there is no room, those that wait go to
-/// the writer first; what the buffer can't hold goes to the writer itself. Takes no memory.
+/// the sink first; what the buffer can't hold goes to the sink itself. Takes no memory.
 ///
 /// # Errors
 ///
-/// The writer failed.
+/// A write failed, now or before. The sink took a front of what waited and of the bytes behind it.
+#[tactic(auto, using(crate::proofs::Sending::front_waited, crate::proofs::Sending::lost_past))]
 pub fn put<A: Allocator, W: Write>(
     buffer: &mut Vec<u8, A>,
-    writer: &mut W,
+    sink: &mut Sink<W>,
     bytes: &[u8],
-) -> Result<()>
-    ensures { OnOk result (Sends (W.contents writer.old) (W.contents writer.new)
+) -> Result<(), Failed>
+    ensures sends { OnOk result (Sends sink.old.taken sink.new.taken
         buffer.old.items buffer.new.items bytes.now) }
+    ensures writes_front { OnErr result (TakesFront sink.old.taken sink.new.taken
+        (buffer.old.items ++ bytes.now)) }
+    ensures keeps_flag { OnOk result (sink.new.failed ≡ sink.old.failed) }
+    ensures sets_flag { OnErr result (sink.new.failed ≡ true) }
 {
     if bytes.len() <= buffer.capacity() - buffer.len() {
         collect(buffer, bytes);
         return Ok(());
     }
-    pass_on(buffer, writer)?;
+    pass_on(buffer, sink)?;
     if bytes.len() > buffer.capacity() {
-        return writer.write_all(bytes);
+        return sink.send(bytes);
     }
     collect(buffer, bytes);
     Ok(())
@@ -106,16 +122,20 @@ pub fn put<A: Allocator, W: Write>(
 /// Puts `%` and a byte's two digits.
 fn put_escape<A: Allocator, W: Write>(
     buffer: &mut Vec<u8, A>,
-    writer: &mut W,
+    sink: &mut Sink<W>,
     byte: u8,
-) -> Result<()>
+) -> Result<(), Failed>
     requires { is_unescaped byte ≡ false }
-    ensures { OnOk result (Sends (W.contents writer.old) (W.contents writer.new)
+    ensures sends { OnOk result (Sends sink.old.taken sink.new.taken
         buffer.old.items buffer.new.items (printed_byte byte)) }
+    ensures writes_front { OnErr result (TakesFront sink.old.taken sink.new.taken
+        (buffer.old.items ++ printed_byte byte)) }
+    ensures keeps_flag { OnOk result (sink.new.failed ≡ sink.old.failed) }
+    ensures sets_flag { OnErr result (sink.new.failed ≡ true) }
 {
     put(
         buffer,
-        writer,
+        sink,
         &[b'%', hex_digit(byte / 16), hex_digit(byte % 16)],
     )
 }
@@ -124,38 +144,46 @@ fn put_escape<A: Allocator, W: Write>(
 /// Gives the bytes that are left.
 fn put_run<'a, A: Allocator, W: Write>(
     buffer: &mut Vec<u8, A>,
-    writer: &mut W,
+    sink: &mut Sink<W>,
     bytes: &'a [u8],
-) -> Result<&'a [u8]>
+) -> Result<&'a [u8], Failed>
     requires { 0 < length bytes.now }
-    ensures sends { IfOk result (λ rest. SendsAllBut (W.contents writer.old) (W.contents writer.new)
+    ensures sends { IfOk result (λ rest. SendsAllBut sink.old.taken sink.new.taken
         buffer.old.items buffer.new.items (printed rest.now) (printed bytes.now)) }
     ensures shorter { IfOk result (λ rest. length rest.now < length bytes.now) }
+    ensures writes_front { OnErr result (TakesFront sink.old.taken sink.new.taken
+        (buffer.old.items ++ printed bytes.now)) }
+    ensures keeps_flag { OnOk result (sink.new.failed ≡ sink.old.failed) }
+    ensures sets_flag { OnErr result (sink.new.failed ≡ true) }
 {
     let Some(escaped) = first_escaped(bytes) else {
-        put(buffer, writer, bytes)?;
+        put(buffer, sink, bytes)?;
         return Ok(&bytes[bytes.len()..]);
     };
-    put(buffer, writer, &bytes[..escaped])?;
-    put_escape(buffer, writer, bytes[escaped])?;
+    put(buffer, sink, &bytes[..escaped])?;
+    put_escape(buffer, sink, bytes[escaped])?;
     Ok(&bytes[escaped + 1..])
 }
 
 /// Puts the printed form of the bytes.
 fn put_printed<A: Allocator, W: Write>(
     buffer: &mut Vec<u8, A>,
-    writer: &mut W,
+    sink: &mut Sink<W>,
     bytes: &[u8],
-) -> Result<()>
-    ensures { OnOk result (Sends (W.contents writer.old) (W.contents writer.new)
+) -> Result<(), Failed>
+    ensures sends { OnOk result (Sends sink.old.taken sink.new.taken
         buffer.old.items buffer.new.items (printed bytes.now)) }
+    ensures writes_front { OnErr result (TakesFront sink.old.taken sink.new.taken
+        (buffer.old.items ++ printed bytes.now)) }
+    ensures keeps_flag { OnOk result (sink.new.failed ≡ sink.old.failed) }
+    ensures sets_flag { OnErr result (sink.new.failed ≡ true) }
 {
     if are_unescaped(bytes) {
-        return put(buffer, writer, bytes);
+        return put(buffer, sink, bytes);
     }
     let mut rest = bytes;
     while !rest.is_empty() {
-        rest = put_run(buffer, writer, rest)?;
+        rest = put_run(buffer, sink, rest)?;
     }
     Ok(())
 }
@@ -164,20 +192,24 @@ fn put_printed<A: Allocator, W: Write>(
 ///
 /// # Errors
 ///
-/// The writer failed.
+/// A write failed, now or before. The sink took a front of what waited and of the line behind it.
 pub fn put_line<A: Allocator, W: Write>(
     buffer: &mut Vec<u8, A>,
-    writer: &mut W,
+    sink: &mut Sink<W>,
     key: &[u8],
     value: &[u8],
-) -> Result<()>
-    ensures { OnOk result (Sends (W.contents writer.old) (W.contents writer.new)
+) -> Result<(), Failed>
+    ensures sends { OnOk result (Sends sink.old.taken sink.new.taken
         buffer.old.items buffer.new.items (line (key.now, value.now))) }
+    ensures writes_front { OnErr result (TakesFront sink.old.taken sink.new.taken
+        (buffer.old.items ++ line (key.now, value.now))) }
+    ensures keeps_flag { OnOk result (sink.new.failed ≡ sink.old.failed) }
+    ensures sets_flag { OnErr result (sink.new.failed ≡ true) }
 {
-    put_printed(buffer, writer, key)?;
-    put(buffer, writer, b"=")?;
-    put_printed(buffer, writer, value)?;
-    put(buffer, writer, b"\n")
+    put_printed(buffer, sink, key)?;
+    put(buffer, sink, b"=")?;
+    put_printed(buffer, sink, value)?;
+    put(buffer, sink, b"\n")
 }
 
 /// A law, which does nothing: whatever the key and the value, a line has no line feed but its last
@@ -186,24 +218,30 @@ pub fn line_ends_once(key: &[u8], value: &[u8])
     ensures ends_once { EndsOnce (line (key.now, value.now)) }
 {}
 
-/// Writes what waits in the buffer and the line of each row behind it, and flushes the writer. The
-/// lines go through the buffer, which never grows and is empty afterwards.
+/// Writes what waits in the buffer and the line of each row behind it, and flushes the sink. The lines
+/// go through the buffer, which never grows and is empty afterwards.
 ///
 /// # Errors
 ///
-/// The writer failed.
+/// A write or the flush failed, now or before. The sink took a front of what waited and of the lines
+/// behind it, perhaps all.
 pub fn write_lines<A: Allocator, W: Write>(
     buffer: &mut Vec<u8, A>,
-    writer: &mut W,
+    sink: &mut Sink<W>,
     rows: &[(&[u8], &[u8])],
-) -> Result<()>
-    ensures writes_all { OnOk result (Appends (W.contents writer.old) (W.contents writer.new)
+) -> Result<(), Failed>
+    ensures writes_all { OnOk result (Appends sink.old.taken sink.new.taken
         (buffer.old.items ++ lines (map (λ row. (row.0.now, row.1.now)) rows.now))) }
     ensures empties_buffer { OnOk result (buffer.new.items ≡ []) }
+    ensures writes_front { OnErr result (TakesFront sink.old.taken sink.new.taken
+        (buffer.old.items ++ lines (map (λ row. (row.0.now, row.1.now)) rows.now))) }
+    ensures keeps_flag { OnOk result (sink.new.failed ≡ sink.old.failed) }
+    ensures flushes { OnOk result (sink.new.failed ≡ false) }
+    ensures sets_flag { OnErr result (sink.new.failed ≡ true) }
 {
     for (key, value) in rows {
-        put_line(buffer, writer, key, value)?;
+        put_line(buffer, sink, key, value)?;
     }
-    pass_on(buffer, writer)?;
-    writer.flush()
+    pass_on(buffer, sink)?;
+    sink.finish()
 }

@@ -264,14 +264,13 @@ merge_fault arguments (Topic why) asks is = absurd ((is (codes "merge") [] (find
 
 -- ---- and where a session, a script or a broker that listens is: it is asked for
 
-pub if_session : (rows : List Row) (asked : Asked) (status : ℕ) → IsAsked (codes "session") rows asked
-    → IfSession asked (λ config. status ≡ 2 → ¬ IsValidConfig config) → status ≡ 2
-    → (g : ConfigValue) × IsConfigOf rows 9092 g × ¬ IsValidConfig g
-if_session rows Table status is fact = absurd (is.0 refl)
-if_session rows (Session g) status is fact = λ two. (config_value g, is.1, fact two)
-if_session rows (Serve options) status is fact = let bad : true ≡ false = ap (bytes_eq (codes "session")) is.0 in cc
-if_session rows Replay status is fact = let bad : true ≡ false = ap (bytes_eq (codes "session")) is in cc
-if_session rows Merge status is fact = let bad : true ≡ false = ap (bytes_eq (codes "session")) is in cc
+pub if_session : (rows : List Row) (asked : Asked) (P : ConfigValue → Type 0) → IsAsked (codes "session") rows asked
+    → IfSession asked P → (g : ConfigValue) × IsConfigOf rows 9092 g × P g
+if_session rows Table P is fact = absurd (is.0 refl)
+if_session rows (Session g) P is fact = (config_value g, is.1, fact)
+if_session rows (Serve options) P is fact = let bad : true ≡ false = ap (bytes_eq (codes "session")) is.0 in cc
+if_session rows Replay P is fact = let bad : true ≡ false = ap (bytes_eq (codes "session")) is in cc
+if_session rows Merge P is fact = let bad : true ≡ false = ap (bytes_eq (codes "session")) is in cc
 
 pub if_replay : (rows : List Row) (asked : Asked) (P : Type 0) → IsAsked (codes "replay") rows asked → IfReplay asked P → P
 if_replay rows Table P is fact = absurd (is.2 refl)
@@ -288,14 +287,14 @@ if_serve rows Replay P is fact = let bad : true ≡ false = ap (bytes_eq (codes 
 if_serve rows Merge P is fact = let bad : true ≡ false = ap (bytes_eq (codes "serve")) is in cc
 
 -- what was done, by what was asked for
-pub done_by : (arguments : List Text) (asked : Asked) (status : ℕ) (Help T M : Type 0) → IfTable asked (status ≡ 0 → T)
-    → IfMerge asked (status ≡ 0 → M) → IfServe asked (status ≡ 2) → IfNamed asked (λ name. Names arguments name) → status ≡ 0
+pub done_by : (arguments : List Text) (asked : Asked) (status : ℕ) (Help T M A B : Type 0) → IfTable asked A → (A → status ≡ 0 → T)
+    → IfMerge asked B → (B → status ≡ 0 → M) → IfServe asked (status ≡ 2) → IfNamed asked (λ name. Names arguments name) → status ≡ 0
     → Help ⊎ T ⊎ M ⊎ NamesSession arguments ⊎ NamesReplay arguments
-done_by arguments Table status Help T M table merge serve named done = inr (inl (table done))
-done_by arguments (Session g) status Help T M table merge serve named done = inr (inr (inr (inl named)))
-done_by arguments (Serve options) status Help T M table merge serve named done = absurd (omega (arith, serve, done))
-done_by arguments Replay status Help T M table merge serve named done = inr (inr (inr (inr named)))
-done_by arguments Merge status Help T M table merge serve named done = inr (inr (inl (merge done)))
+done_by arguments Table status Help T M A B table prints merge prints_merge serve named done = inr (inl (prints table done))
+done_by arguments (Session g) status Help T M A B table prints merge prints_merge serve named done = inr (inr (inr (inl named)))
+done_by arguments (Serve options) status Help T M A B table prints merge prints_merge serve named done = absurd (omega (arith, serve, done))
+done_by arguments Replay status Help T M A B table prints merge prints_merge serve named done = inr (inr (inr (inr named)))
+done_by arguments Merge status Help T M A B table prints merge prints_merge serve named done = inr (inr (inl (prints_merge merge done)))
 
 -- only a word in the place of a topic is at fault, or memory is short
 pub topic_or_memory : (name : Text) (rows : List Row) (fault : ArgumentsFault) → IsFaulty name rows fault

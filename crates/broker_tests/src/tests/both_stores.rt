@@ -4,6 +4,7 @@ use script_replay::replay;
 use segment::{BatchStore, SegStore, VecStore};
 use std::alloc::{AllocError, Allocator};
 use std::test::Fail;
+use streams::{Sink, Source};
 
 /// How many batches there are. With values of over 200 bytes they take more than one segment.
 const COUNT: u32 = 300;
@@ -45,10 +46,10 @@ fn put_batches<A: Allocator + Copy>(alloc: A, script: &mut Vec<u8, A>) -> Result
 
 /// What a script prints; `None` where it stops.
 fn printed<S: BatchStore>(alloc: S::Alloc, script: &[u8]) -> Option<Vec<u8, S::Alloc>> {
-    let mut input = script;
-    let mut out = Vec::new(alloc);
-    match replay::<S, _, _>(alloc, &mut input, &mut out) {
-        Ok(()) => Some(out),
+    let mut source = Source::new(script);
+    let mut sink = Sink::new(Vec::new(alloc));
+    match replay::<S, _, _>(alloc, &mut source, &mut sink) {
+        Ok(()) => Some(sink.into_inner()),
         Err(_) => None,
     }
 }

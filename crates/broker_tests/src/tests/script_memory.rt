@@ -2,6 +2,7 @@
 use refusing_alloc::Refusing;
 use std::alloc::Allocator;
 use std::test::Fail;
+use streams::{Sink, Source};
 use tcp_edge::{run_merge, run_replay};
 
 /// More allocations than any run below asks for.
@@ -93,10 +94,11 @@ fn came_of(status: u8, len: usize, is_asked: bool) -> Came {
 /// Runs the script in memory of which this allocation fails.
 fn replays<A: Allocator + Copy>(alloc: A, refused: u64, least: usize) -> Came {
     let heap = Refusing::new(alloc, refused);
-    let mut input: &[u8] = SCRIPT.as_bytes();
-    let mut out = Vec::new(alloc);
+    let mut source = Source::new(SCRIPT.as_bytes());
+    let mut sink = Sink::new(Vec::new(alloc));
     let mut err = Vec::new(alloc);
-    let status = run_replay(&heap, &mut input, &mut out, &mut err);
+    let status = run_replay(&heap, &mut source, &mut sink, &mut err);
+    let out = sink.into_inner();
     if is_told(status, &out, &err, least) {
         came_of(status, out.len(), heap.calls() >= refused)
     } else {
@@ -153,10 +155,11 @@ fn is_merge_told(status: u8, out: &[u8], err: &[u8]) -> bool {
 /// Merges the pair in memory of which this allocation fails.
 fn merges<A: Allocator + Copy>(alloc: A, refused: u64) -> Came {
     let heap = Refusing::new(alloc, refused);
-    let mut input: &[u8] = &PAIR;
-    let mut out = Vec::new(alloc);
+    let mut source = Source::new(PAIR.as_slice());
+    let mut sink = Sink::new(Vec::new(alloc));
     let mut err = Vec::new(alloc);
-    let status = run_merge(&heap, &mut input, &mut out, &mut err);
+    let status = run_merge(&heap, &mut source, &mut sink, &mut err);
+    let out = sink.into_inner();
     let is_asked = heap.calls() >= refused;
     if is_merge_told(status, &out, &err) {
         came_of(status, out.len(), is_asked)

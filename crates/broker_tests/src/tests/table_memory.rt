@@ -4,6 +4,7 @@ use refusing_alloc::Refusing;
 use sample_batches::THREE;
 use std::alloc::Allocator;
 use std::test::Fail;
+use streams::{Sink, Source};
 use tcp_edge::{TableError, run_table, run_table_subcommand};
 
 /// More allocations than any run below asks for.
@@ -46,10 +47,10 @@ fn came_of(answer: Result<(), TableError>, out: &[u8]) -> Came {
 /// Runs a table in memory of which this allocation fails: what came of it, and whether it is asked for.
 fn runs<A: Allocator + Copy>(alloc: A, refused: u64) -> (Came, bool) {
     let heap = Refusing::new(alloc, refused);
-    let mut input: &[u8] = &THREE;
-    let mut out = Vec::new(alloc);
-    let answer = run_table(&heap, &mut input, &mut out);
-    (came_of(answer, &out), heap.calls() >= refused)
+    let mut source = Source::new(THREE.as_slice());
+    let mut sink = Sink::new(Vec::new(alloc));
+    let answer = run_table(&heap, &mut source, &mut sink);
+    (came_of(answer, sink.get_ref()), heap.calls() >= refused)
 }
 
 /// Whether a status, and what comes on standard output and on standard error, are those of a table that is printed,
@@ -67,11 +68,11 @@ fn is_status(status: u8, out: &[u8], err: &[u8], came: Came) -> bool {
 /// Whether the call that has a status and says why does the same.
 fn is_told<A: Allocator + Copy>(alloc: A, refused: u64, came: Came) -> bool {
     let heap = Refusing::new(alloc, refused);
-    let mut input: &[u8] = &THREE;
-    let mut out = Vec::new(alloc);
+    let mut source = Source::new(THREE.as_slice());
+    let mut sink = Sink::new(Vec::new(alloc));
     let mut err = Vec::new(alloc);
-    let status = run_table_subcommand(&heap, &mut input, &mut out, &mut err);
-    is_status(status, &out, &err, came)
+    let status = run_table_subcommand(&heap, &mut source, &mut sink, &mut err);
+    is_status(status, sink.get_ref(), &err, came)
 }
 
 #[test]

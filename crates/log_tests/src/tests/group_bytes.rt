@@ -167,7 +167,7 @@ fn a_copy_of_commits(rt: HostRuntime) {
 static LONG: [u8; 32_768] = [0; 32_768];
 
 /// Why each call refuses a name or metadata; `None` where it doesn't.
-fn refusals<S: BatchStore>(copy: &PartitionLog<S>, name: &[u8]) -> [Option<GroupError>; 8] {
+fn refusals<S: BatchStore>(copy: &PartitionLog<S>, name: &[u8]) -> [Option<GroupError>; 9] {
     let alloc = copy.allocator();
     [
         put_key(alloc, name, b"t", 0).err(),
@@ -176,6 +176,7 @@ fn refusals<S: BatchStore>(copy: &PartitionLog<S>, name: &[u8]) -> [Option<Group
         commit_batch(alloc, name, b"t", 0, 0, None).err(),
         commit_batch(alloc, b"g", name, 0, 0, None).err(),
         commit_batch(alloc, b"g", b"t", 0, 0, Some(name)).err(),
+        commit_batch(alloc, name, name, 0, 0, Some(name)).err(),
         lookup(copy, name, b"t", 0).err(),
         lookup(copy, b"g", name, 0).err(),
     ]
@@ -185,8 +186,8 @@ fn refusals<S: BatchStore>(copy: &PartitionLog<S>, name: &[u8]) -> [Option<Group
 fn names_that_are_too_long(rt: HostRuntime) {
     let copy = PartitionLog::<ProgramStore<_>>::new(rt.alloc());
     let longest = &LONG[..32_767];
-    assert_eq!(rt; refusals(&copy, &LONG), [Some(GroupError::NameTooLong); 8]);
-    assert_eq!(rt; refusals(&copy, longest), [None; 8]);
+    assert_eq!(rt; refusals(&copy, &LONG), [Some(GroupError::NameTooLong); 9]);
+    assert_eq!(rt; refusals(&copy, longest), [None; 9]);
 }
 
 /// Whether 31 keys of 32,767 bytes and one of so many can be forgotten: a record of a key of `n` bytes has

@@ -1,5 +1,6 @@
-use Rattle.std.specs.Io.KnownBytes.{Consumes}
+use Rattle.subcommands.specs.Input.{Holds}
 use Rattle.subcommands.proofs.merging.read_all.Given as goal
 
+-- what was read is held
 abbrev pub invariant-loop : goal.invariant-loop
-invariant-loop g l = Consumes (g.R.Read.remaining l.initial.reader) (g.R.Read.remaining l.reader) l.input
+invariant-loop g l = Holds l.initial.source l.source l.input.items l.counter

@@ -1,28 +1,33 @@
 use Rattle.std.proofs.Common.{refl}
 use Rattle.broker_state.specs.ConfigValues.{config_value}
-use Rattle.subcommands.proofs.Statuses.{at_most_four, is_not_done, refused_config, failed_status}
+use Rattle.subcommands.proofs.Statuses.{refused_config, failed_status}
+use Rattle.subcommands.proofs.RunLemmas.{session_done, session_failed, session_refused}
 use Rattle.subcommands.proofs.session.run_session.Goals as goal
 
-pub returns-in-Err : goal.returns-in-Err
-returns-in-Err g c =
+pub returns-in-Err-clause-runs : goal.returns-in-Err-clause-runs
+returns-in-Err-clause-runs g c =
     let told = refused_config (config_value c.args.config) c.in-Err.why c.refuse_configuration.result c.in-Err.ensures.refuses c.refuse_configuration.ensures.out_of_memory c.refuse_configuration.ensures.faulty in
-    record {
-      is_status = at_most_four c.refuse_configuration.result c.refuse_configuration.ensures.is_status;
-      done_complains_of_nothing = λ done. absurd (is_not_done c.refuse_configuration.result c.refuse_configuration.ensures.is_status done);
-      valid_is_no_fault = told.0;
-      invalid_is_a_fault = told.1;
-      faulty_prints_nothing = λ _. refl;
-      faulty_reads_nothing = λ _. refl;
-    }
+    session_refused (config_value c.args.config) c.args.source.now c.args.sink.now c.refuse_configuration.result c.refuse_configuration.ensures.is_status told.0
 
-pub returns : goal.returns
-returns g c =
-    let told = failed_status c.in-Err-answer_frames.why c.fail_session.result c.fail_session.ensures in
-    record {
-      is_status = told.0;
-      done_complains_of_nothing = λ done. absurd (told.1 done);
-      valid_is_no_fault = λ _. told.2;
-      invalid_is_a_fault = λ faulty. absurd (faulty c.in-Ok.ensures.valid);
-      faulty_prints_nothing = λ faulty. absurd (told.2 faulty);
-      faulty_reads_nothing = λ faulty. absurd (told.2 faulty);
-    }
+pub returns-in-Err-clause-invalid_is_a_fault : goal.returns-in-Err-clause-invalid_is_a_fault
+returns-in-Err-clause-invalid_is_a_fault g c =
+    (refused_config (config_value c.args.config) c.in-Err.why c.refuse_configuration.result c.in-Err.ensures.refuses c.refuse_configuration.ensures.out_of_memory c.refuse_configuration.ensures.faulty).1
+
+pub returns-in-Ok-answer_frames-clause-runs : goal.returns-in-Ok-answer_frames-clause-runs
+returns-in-Ok-answer_frames-clause-runs g c =
+    session_done (config_value c.args.config) c.in-Ok.node c.answer_frames.new.node c.args.source.now c.answer_frames.new.source c.args.sink.now c.answer_frames.new.sink 0
+    c.in-Ok.ensures.is_new refl c.in-Ok-answer_frames.ensures.answers (c.in-Ok-answer_frames.ensures.reads, c.in-Ok-answer_frames.ensures.flushes)
+
+pub returns-clause-runs : goal.returns-clause-runs
+returns-clause-runs g c =
+    session_failed (config_value c.args.config) c.in-Ok.node c.answer_frames.new.node c.args.source.now c.answer_frames.new.source c.args.sink.now c.answer_frames.new.sink
+    c.in-Err-answer_frames.why c.fail_session.result c.in-Ok.ensures.is_new c.fail_session.ensures c.in-Err-answer_frames.ensures.refuses c.in-Err-answer_frames.ensures.fails
+
+pub returns-clause-is_status : goal.returns-clause-is_status
+returns-clause-is_status g c = (failed_status c.in-Err-answer_frames.why c.fail_session.result c.fail_session.ensures).0
+
+pub returns-clause-done_complains_of_nothing : goal.returns-clause-done_complains_of_nothing
+returns-clause-done_complains_of_nothing g c = λ done. absurd ((failed_status c.in-Err-answer_frames.why c.fail_session.result c.fail_session.ensures).1 done)
+
+pub returns-clause-invalid_is_a_fault : goal.returns-clause-invalid_is_a_fault
+returns-clause-invalid_is_a_fault g c = λ faulty. absurd (faulty c.in-Ok.ensures.valid)

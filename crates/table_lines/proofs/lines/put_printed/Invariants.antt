@@ -1,4 +1,4 @@
-use Rattle.std.proofs.Common.{length}
+use Rattle.std.proofs.Common.{◌≡◌, length}
 use Rattle.table_lines.specs.Lines.{printed}
 use Rattle.table_lines.specs.Output.{SendsAllBut}
 use Rattle.table_lines.proofs.lines.put_printed.Given as goal
@@ -6,9 +6,10 @@ use Rattle.table_lines.proofs.lines.put_printed.Given as goal
 -- the printed form of all but what is left
 abbrev pub invariant-loop-rest : goal.invariant-loop-rest
 invariant-loop-rest g l =
-    SendsAllBut
-    (g.W.Write.contents l.initial.writer)
-    (g.W.Write.contents l.writer)
+    (l.sink.failed ≡ l.initial.sink.failed)
+    × SendsAllBut
+    l.initial.sink.taken
+    l.sink.taken
     l.initial.buffer.items
     l.buffer.items
     (printed l.rest)
