@@ -1,7 +1,7 @@
 -- What comes of bytes that a copy is to take as a delta: at most one refusal but for memory, and none where it may take
--- them.
+-- them; and one of the two, as the check finds.
 use Rattle.std.proofs.Common.{◌≡◌, ℕ, ℤ, ◌⊎◌, inl, inr, List, refl, sym, ap, subst, ◌∙◌, arith}
-use Rattle.std.specs.Prelude.{◌≢◌}
+use Rattle.std.specs.Prelude.{◌≢◌, Result, Ok, Err, OnOk, IfErr}
 use Rattle.std.proofs.lemmas.Int.{ints, by_lt_z}
 use Rattle.content.specs.Content.{Content}
 use Rattle.deltas.specs.Deltas.{Delta}
@@ -19,6 +19,7 @@ use Rattle.delta_bytes.proofs.DeltaAgain.{delta_once, one_refusal, no_fault}
 use Rattle.copy_deltas.specs.declared.error.PatchError.{PatchError}
 use Rattle.copy_deltas.specs.declared.error.PatchError.TheVariants.{Short, BadMark, BadVersion, BadCrc, BadCover, BadBatch, Outside, Extra, NotFor, Disagree, OutOfMemory}
 use Rattle.copy_deltas.specs.Applying.{TakesDelta, RefusesDelta}
+use Rattle.copy_deltas.specs.Outcomes.{IsOutcome}
 
 -- the error by which a fault of the bytes is told
 abbrev error_of : DeltaError → PatchError
@@ -124,3 +125,16 @@ only_memory c bytes d Outside takes refuses = absurd (not_refused c bytes d Outs
 only_memory c bytes d Extra takes refuses = absurd (not_refused c bytes d Extra (λ f. absurd cc) takes refuses)
 only_memory c bytes d NotFor takes refuses = absurd (not_refused c bytes d NotFor (λ f. absurd cc) takes refuses)
 only_memory c bytes d (Disagree base) takes refuses = absurd (not_refused c bytes d (Disagree base) (λ f. absurd cc) takes refuses)
+
+-- ---- exactly one
+
+pub one_outcome : (c : Content) (bytes : List ℕ) (a b : Result Delta PatchError) → IsOutcome c bytes a → IsOutcome c bytes b → a ≡ b
+one_outcome c bytes (Ok d) (Ok e) takes also = let same : d ≡ e = one_taken c bytes d e takes also in (λ i. Ok (same i))
+one_outcome c bytes (Ok d) (Err e) takes refuses = absurd (not_refused c bytes d e refuses.0 takes refuses.1)
+one_outcome c bytes (Err e) (Ok d) refuses takes = absurd (not_refused c bytes d e refuses.0 takes refuses.1)
+one_outcome c bytes (Err e) (Err f) refuses also = let same : e ≡ f = one_refused c bytes e f refuses.0 also.0 refuses.1 also.1 in (λ i. Err (same i))
+
+pub some_outcome : {T : Type 0} (c : Content) (bytes : List ℕ) (r : Result T PatchError) → OnOk r ((e : Delta) × TakesDelta c bytes e) → IfErr r (RefusesDelta c bytes) → IfErr r (λ e. e ≢ OutOfMemory)
+    → (a : Result Delta PatchError) × IsOutcome c bytes a
+some_outcome c bytes (Ok v) takes refuses other = (Ok takes.0, takes.1)
+some_outcome c bytes (Err e) takes refuses other = (Err e, (other, refuses))

@@ -1,7 +1,7 @@
-//! Laws of deltas as bytes, over the definitions alone. The functions do nothing: what they ensure is the
-//! law.
+//! Laws of deltas as bytes, over the definitions alone: what the functions ensure is the law. They do
+//! nothing, but for [`one_outcome`], which looks at a copy and bytes.
 
-ghost use Rattle.std.specs.Prelude.{◌≡◌, ◌≢◌, ◌↔◌, ℕ, ◌≤◌, List, ◌++◌, length, true};
+ghost use Rattle.std.specs.Prelude.{◌≡◌, ◌↔◌, ℕ, ◌≤◌, List, ◌++◌, length, Result, true};
 ghost use Rattle.batch_codec.specs.Values.{BatchValue};
 ghost use Rattle.cover_ranges.specs.Runs.{Runs, IsCanonical};
 ghost use Rattle.content.specs.Content.{Content, IsContent};
@@ -17,6 +17,11 @@ ghost use Rattle.copy_deltas.specs.declared.error.PatchError.TheVariants.{OutOfM
 ghost use Rattle.copy_deltas.specs.Applying.{TakesDelta, RefusesDelta};
 ghost use Rattle.copy_deltas.specs.Deciding.{accepts};
 ghost use Rattle.copy_deltas.specs.Exchanging.{CanBeCounted, IsAnswered};
+ghost use Rattle.copy_deltas.specs.Outcomes.{IsOutcome};
+
+use crate::apply::check_delta;
+use partition_log::PartitionLog;
+use segment::BatchStore;
 
 /// A valid content has a delta, whatever was asked, where its ranges, the asked ranges and its batches can
 /// be counted. So what `write_delta` gives of such a copy is valid.
@@ -32,19 +37,20 @@ pub fn acceptance_is_decided()
         → (accepts c e ≡ true) ↔ Accepts c e }
 {}
 
-/// Of any content and bytes at most one of these holds: a delta that the content may take, or a refusal,
-/// lack of memory left aside, which may come only where there is such a delta. That one of them holds is
-/// the contract of `apply_delta`.
-pub fn one_outcome()
-    ensures one_delta { (c : Content) (bytes : List ℕ) (d e : Delta) → TakesDelta c bytes d
-        → TakesDelta c bytes e → d ≡ e }
-    ensures one_refusal { (c : Content) (bytes : List ℕ) (e f : PatchError) → e ≢ OutOfMemory
-        → f ≢ OutOfMemory → RefusesDelta c bytes e → RefusesDelta c bytes f → e ≡ f }
-    ensures not_both { (c : Content) (bytes : List ℕ) (d : Delta) (e : PatchError) → e ≢ OutOfMemory
-        → TakesDelta c bytes d → RefusesDelta c bytes e → ⊥ }
+/// Of any copy and any bytes exactly one of these holds: that the copy may take them as a certain delta, or
+/// that it refuses them for a certain reason, lack of memory left aside. There is no second one of any
+/// content at all; and memory may lack only where there is a delta to take. So the contract of
+/// [`check_delta`] leaves it one answer, and that of `apply_delta` one beside a lack of memory.
+pub fn one_outcome<S: BatchStore>(copy: &PartitionLog<S>, bytes: &[u8])
+    ensures one_holds { (a : Result Delta PatchError) × IsOutcome copy.now bytes.now a }
+    ensures no_other { (c : Content) (bytes : List ℕ) (a b : Result Delta PatchError)
+        → IsOutcome c bytes a → IsOutcome c bytes b → a ≡ b }
     ensures memory { (c : Content) (bytes : List ℕ)
         → RefusesDelta c bytes OutOfMemory ↔ ((e : Delta) × TakesDelta c bytes e) }
-{}
+{
+    // For its contract: its answer is one.
+    let _ = check_delta(copy, bytes);
+}
 
 /// A copy y that agrees with x and knows what was asked may take x's delta, is refused it at most for lack
 /// of memory, and ends as the merge of the two.
