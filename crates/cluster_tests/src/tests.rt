@@ -3,6 +3,7 @@
 mod copies;
 mod event_memory;
 mod events;
+mod exact_deltas;
 mod leading;
 mod made_deltas;
 mod memory;

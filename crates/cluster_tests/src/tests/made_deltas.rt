@@ -10,7 +10,7 @@ use segment::{BatchStore, SegStore};
 use std::alloc::{AllocError, Allocator};
 
 /// The offsets 0 and 1, or none.
-fn asked_of<A: Allocator + Copy>(alloc: A, asks: bool) -> Result<Cover<A>, AllocError> {
+pub(crate) fn asked_of<A: Allocator + Copy>(alloc: A, asks: bool) -> Result<Cover<A>, AllocError> {
     let mut asked = Cover::new(alloc);
     if asks {
         asked.insert(0, 1)?;
