@@ -2,10 +2,11 @@
 --     Borrows, at_borrow, borrow_goes, borrow_Gives      its contract, what it is handed, and the handle that it shows, if there is one
 use mathlib.Core.Path.{◌≡◌, refl, ap, ◌∙◌}
 use mathlib.Core.List.{List, [], ◌∷◌, ◌++◌}
+use Prim.Native.Nat.{ℕ, ◌<◌, ◌^◌}
 use lib.Dec.{T, lit<}
 use seplogic.Ra.Ura.{Ura}
-use mir.Syntax.{Callee, a_type, named}
-use mir.Val.{Val, vptr, of_list, has_ty, WT}
+use mir.Syntax.{Callee, a_type, named, w64}
+use mir.Val.{Val, vint, vptr, of_list, has_ty, WT}
 use base.Logic.{SProp, ent, sep, ex, guard, emp, id⊢}
 use base.Fml.{Lft, Share, Fml, ftrue, fsep}
 use prog.Memory.{Memory}
@@ -13,7 +14,7 @@ use prog.Routine.{Routine}
 use types.Logic.{Logic, sem}
 use contract.BorrowLft.{◌⊑◌}
 use contract.Monad.{Fun, fact, fact_i}
-use types.Kit.{‵, raw, ◌⊛◌, some, later, given, ◌$◌, ◌∵◌, !, qed, move, keep, use0, use1, split, join, pick, learn, fsplit, fjoin, fpick, feq_l, feq_i, check, show, await, updating, now as at_once, done}
+use types.Kit.{‵, raw, ◌⊛◌, some, later, given, ◌$◌, ◌∵◌, !, qed, move, keep, use0, use1, split, join, pick, learn, fsplit, fjoin, fpick, feq_l, feq_i, flt_i, check, show, await, updating, now as at_once, done}
 use types.Match.{live}
 use denote.RattleType.{RattleType}
 use denote.Memory.{hidden_shr}
@@ -56,9 +57,9 @@ module _ (Z : Al) {M : Type 1} {𝓤 : Ura M} (𝓛 : Logic 𝓤) (at_mem : Memo
   abbrev pub Borrows : Contract 𝓤
   Borrows = triple_of 𝓛 (F.signature Z.row) (F.spec Z.row 𝓛 at_mem run)
 
-  module _ (κ ρ : Lft) (q s : Share) (out : κ ⊑ ρ) (r : Bor (L.the_row Z.row).Denot) where
+  module _ (κ ρ : Lft) (q s : Share) (out : κ ⊑ ρ) (r : Bor (L.the_row Z.row).Denot) (n : ℕ) where
     abbrev pub at_borrow : Borrows.Ghost
-    at_borrow = (((κ, (ρ, tt)), (q, (s, tt)), (out, tt), (r, tt), (shr_vals r, tt)), tt)
+    at_borrow = (((κ, (ρ, tt)), (q, (s, tt)), (out, tt), (r, (n, tt)), (shr_vals r, (vint w64 n ∷ [], tt))), tt)
 
     abbrev Tokens : SProp 𝓤
     Tokens = sep 𝓤 (A.lft κ q) (sep 𝓤 (A.lft ρ s) (emp 𝓤))
@@ -66,9 +67,10 @@ module _ (Z : Al) {M : Type 1} {𝓤 : Ura M} (𝓛 : Logic 𝓤) (at_mem : Memo
     abbrev pub Told : Option (Bor Z.row.Denot) → Type 0
     Told o = MatchOption o (Unit {0}) (λ h. r.now.inner ≡ h.now)
 
-    pub borrow_goes : ρ ⊑ Z.row.lives → ent 𝓤 (sep 𝓤 (sem 𝓛 (hidden_shr (L.the_row (param 0 Z.row)) κ r.now r.ref_ptr.0 r.ref_ptr.1)) Tokens) (Borrows.pre at_borrow)
-    borrow_goes le = qed 𝓛 (‵ (hidden_shr (L.the_row (param 0 Z.row)) κ r.now r.ref_ptr.0 r.ref_ptr.1) ∷ raw Tokens ∷ []) ∵
-        feq_i ! (List Val) (shr_vals r) (shr_vals r) refl $ fjoin ! $ nothing ! $ move ! (1 ∷ 0 ∷ []) $ fjoin ! $ move ! (1 ∷ 0 ∷ []) $ join ! $
+    pub borrow_goes : n < 2 ^ 64 → ρ ⊑ Z.row.lives → ent 𝓤 (sep 𝓤 (sem 𝓛 (hidden_shr (L.the_row (param 0 Z.row)) κ r.now r.ref_ptr.0 r.ref_ptr.1)) Tokens) (Borrows.pre at_borrow)
+    borrow_goes fits le = qed 𝓛 (‵ (hidden_shr (L.the_row (param 0 Z.row)) κ r.now r.ref_ptr.0 r.ref_ptr.1) ∷ raw Tokens ∷ []) ∵
+        nothing ! $ flt_i ! n (2 ^ 64) fits $ feq_i ! (List Val) (vint w64 n ∷ []) (vint w64 n ∷ []) refl $ fjoin ! $ fjoin ! $
+        move ! (1 ∷ []) $ feq_i ! (List Val) (shr_vals r) (shr_vals r) refl $ fjoin ! $ fjoin ! $ move ! (1 ∷ 0 ∷ []) $ join ! $
         nothing ! $ use0 𝓛 (raw (fact 𝓤 (ρ ⊑ Z.row.lives))) (fact_i 𝓤 (ρ ⊑ Z.row.lives) (emp 𝓤) le) $ join ! $ move ! (1 ∷ 0 ∷ []) $ done !
 
     opened : (o : Option (Bor Z.row.Denot)) (v : Val) → ent 𝓤 (sem 𝓛 ((Shown Z κ).own_val o (v ∷ []))) (guard 𝓤 (v ≡ shown_val o) (sem 𝓛 (seen_if Z κ o)))
@@ -82,6 +84,6 @@ module _ (Z : Al) {M : Type 1} {𝓤 : Ura M} (𝓛 : Logic 𝓤) (at_mem : Memo
 
     pub borrow_Gives : (v : Val) → ent 𝓤 (Borrows.post at_borrow v) (H.⇛ (ex 𝓤 (Found v)))
     borrow_Gives v = qed 𝓛 (raw (Borrows.post at_borrow v) ∷ []) ∵ updating ! $
-        use1 𝓛 (later (some (λ (o : Option (Bor Z.row.Denot)). (raw Tokens ⊛ ‵ ((Shown Z κ).own_val o (v ∷ []))) ⊛ some (λ (ws : Unit {0} × Unit {0}). ‵ (fsep ftrue ftrue) ⊛ given (Told o) (‵ ftrue))))) (id⊢ 𝓤 _) $ await ! tt $ pick ! (λ o.
+        use1 𝓛 (later (some (λ (o : Option (Bor Z.row.Denot)). (raw Tokens ⊛ ‵ ((Shown Z κ).own_val o (v ∷ []))) ⊛ some (λ (ws : Unit {0} × (Unit {0} × Unit {0})). ‵ (fsep ftrue (fsep ftrue ftrue)) ⊛ given (Told o) (‵ ftrue))))) (id⊢ 𝓤 _) $ await ! tt $ pick ! (λ o.
         split ! $ split ! $ move ! (1 ∷ []) $ use1 𝓛 (given (v ≡ shown_val o) (‵ (seen_if Z κ o))) (opened o v) $ learn ! (λ e. move ! (2 ∷ []) $ pick ! (λ ws. split ! $ move ! (1 ∷ []) $ learn ! (λ k.
         at_once ! $ show ! (Found v) o $ check ! (e, k) $ keep ! (2 ∷ 3 ∷ []) $ done !))))

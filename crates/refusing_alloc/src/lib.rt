@@ -1,4 +1,5 @@
-//! An allocator for tests, which refuses one allocation and serves all others.
+//! An allocator for tests, which refuses one allocation and serves all others, and remembers how many were asked for,
+//! and how large the largest was.
 //!
 //! Out of memory is an ordinary answer, and this makes it happen: a test lets the first allocation
 //! fail, then the second, and so on, until a run passes.
@@ -15,6 +16,7 @@ use std::cell::Cell;
 pub struct Refusing<B> {
     inner: B,
     calls: Cell<u64>,
+    largest: Cell<usize>,
     refused: u64,
 }
 
@@ -24,6 +26,7 @@ impl<B> Refusing<B> {
         Refusing {
             inner,
             calls: Cell::new(0),
+            largest: Cell::new(0),
             refused,
         }
     }
@@ -33,10 +36,16 @@ impl<B> Refusing<B> {
         self.calls.get()
     }
 
-    /// Counts an allocation, and borrows the inner allocator unless it is to fail.
-    fn borrow_inner(&self) -> Option<&B>
+    /// How many bytes the largest allocation that was asked for has, also if it failed.
+    pub fn largest(&self) -> usize {
+        self.largest.get()
+    }
+
+    /// Counts an allocation of so many bytes, and borrows the inner allocator unless it is to fail.
+    fn borrow_inner(&self, size: usize) -> Option<&B>
         ensures { MatchOption result (Unit {0}) (λ inner. self.now.inner ≡ inner.now) }
     {
+        self.largest.set(self.largest.get().max(size));
         let call = self.calls.get().wrapping_add(1);
         self.calls.set(call);
         if call == self.refused {
@@ -51,7 +60,7 @@ unsafe impl<B: Allocator> Allocator for Refusing<B> {
     ghost dealloc_token = { λ heap ty ptr. B.dealloc_token heap.inner ty ptr };
 
     fn allocate(&self, size: usize, align: usize) -> Result<*mut u8, AllocError> {
-        match self.borrow_inner() {
+        match self.borrow_inner(size) {
             Some(inner) => inner.allocate(size, align),
             None => Err(AllocError),
         }

@@ -112,7 +112,7 @@ module _ (Z : Al) {M : Type 1} {𝓤 : Ura M} (𝓛 : Logic 𝓤) (at_mem : Memo
       Then = any_q (after_seq 𝓤 H (Wp 𝓤 H 𝓣.C 𝓣.Λ En (after 2 (here Z).body) (at_return 𝓤 H En Post)) (at_return 𝓤 H En Post))
 
       abbrev had : Option (Bor Z.row.Denot) → List (Item 𝓤)
-      had f = given ((u ≡ shown_val f) × Told Z 𝓛 at_mem run κ ρ q s out r f) (‵ (seen_if Z κ f) ⊛ ‵ (flft κ q) ⊛ ‵ (flft ρ s) ⊛ ‵ ftrue)
+      had f = given ((u ≡ shown_val f) × Told Z 𝓛 at_mem run κ ρ q s out r n f) (‵ (seen_if Z κ f) ⊛ ‵ (flft κ q) ⊛ ‵ (flft ρ s) ⊛ ‵ ftrue)
           ∷ holding 𝓛 En ((3, vint w64 a) ∷ (2, vint w64 n) ∷ (1, vptr r.ref_ptr.0 r.ref_ptr.1) ∷ [])
 
       shown : (f : Option (Bor Z.row.Denot)) → Seq (Go {0}) 𝓛 (had f) (lands 𝓣.C 𝓣.Λ En (place 5 []) u (after 1 (here Z).body) (at_ret En Post))
@@ -144,9 +144,9 @@ module _ (Z : Al) {M : Type 1} {𝓤 : Ura M} (𝓛 : Logic 𝓤) (at_mem : Memo
         qed 𝓛 (((‵ (flft κ q) ⊛ ‵ (flft ρ s) ⊛ ‵ ftrue) ⊛ ‵ (owns (types_at (ended Z).signature.params bound.0.0) bound.0.3 bound.0.4)) ∷ (raw (fact 𝓤 (ρ ⊑ Z.row.lives)) ⊛ raw (fact 𝓤 Said)) ∷ []) ∵
         move ! (1 ∷ []) $ split ! $ heard ! (ρ ⊑ Z.row.lives) (λ le. heard ! Said (λ said. split ! $ move ! (1 ∷ []) $ fsplit ! $ fsplit ! $ keep ! (1 ∷ 3 ∷ []) $
         enter ! 𝓣.C 𝓣.Λ (here Z) vs _ $ alloc_all ! (λ l. pass_all ! refl ((tt, tt), ((tt, record { fits = fn }), ((tt, record { fits = fa }), tt))) $
-        use2 𝓛 (raw ((Borrows Z 𝓛 at_mem run).pre (at_borrow Z 𝓛 at_mem run κ ρ q s out r))) (borrow_goes Z 𝓛 at_mem run κ ρ q s out r le) $
-        calls_at ! (fm_of 𝓤 H 𝓛.laws 𝓣) (Borrows Z 𝓛 at_mem run) ln (at_borrow Z 𝓛 at_mem run κ ρ q s out r) (and_then ! (get ! refl) (no_more !)) (λ u.
-        use1 𝓛 (later (some (λ (f : Option (Bor Z.row.Denot)). given ((u ≡ shown_val f) × Told Z 𝓛 at_mem run κ ρ q s out r f) (‵ (seen_if Z κ f) ⊛ ‵ (flft κ q) ⊛ ‵ (flft ρ s) ⊛ ‵ ftrue)))) (borrow_Gives Z 𝓛 at_mem run κ ρ q s out r u) $ await ! tt $ pick ! (λ f.
+        use2 𝓛 (raw ((Borrows Z 𝓛 at_mem run).pre (at_borrow Z 𝓛 at_mem run κ ρ q s out r n))) (borrow_goes Z 𝓛 at_mem run κ ρ q s out r n fn le) $
+        calls_at ! (fm_of 𝓤 H 𝓛.laws 𝓣) (Borrows Z 𝓛 at_mem run) ln (at_borrow Z 𝓛 at_mem run κ ρ q s out r n) (and_then ! (get ! refl) (and_then ! (get ! refl) (no_more !))) (λ u.
+        use1 𝓛 (later (some (λ (f : Option (Bor Z.row.Denot)). given ((u ≡ shown_val f) × Told Z 𝓛 at_mem run κ ρ q s out r n f) (‵ (seen_if Z κ f) ⊛ ‵ (flft κ q) ⊛ ‵ (flft ρ s) ⊛ ‵ ftrue)))) (borrow_Gives Z 𝓛 at_mem run κ ρ q s out r n u) $ await ! tt $ pick ! (λ f.
         shown fn fa le said l u f)))))
 
 pub allocate_spec : {M : Type 1} → stated.statement M
