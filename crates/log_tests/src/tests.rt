@@ -15,6 +15,7 @@ mod producer;
 mod producers;
 mod reads;
 mod set_base_tests;
+mod small_memory;
 mod sparse_index;
 mod store;
 mod thousand;

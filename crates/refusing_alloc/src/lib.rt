@@ -10,6 +10,9 @@ ghost use Rattle.std.specs.Prelude.{◌≡◌, MatchOption};
 use std::alloc::{AllocError, Allocator};
 use std::cell::Cell;
 
+/// How many bytes an allocation may have at most, in the tests, for each byte that was given or is held.
+pub const MOST_FOR_A_BYTE: usize = 8;
+
 /// An allocator over another one. Its allocation number `refused`, counted from 1, fails, and all
 /// other calls are passed on. A `&` to it is an allocator that may be copied.
 #[derive(Drop)]
@@ -39,6 +42,11 @@ impl<B> Refusing<B> {
     /// How many bytes the largest allocation that was asked for has, also if it failed.
     pub fn largest(&self) -> usize {
         self.largest.get()
+    }
+
+    /// Whether no allocation that was asked for had more than [`MOST_FOR_A_BYTE`] bytes for each of those given.
+    pub fn is_within(&self, given: usize) -> bool {
+        self.largest.get() / MOST_FOR_A_BYTE <= given
     }
 
     /// Counts an allocation of so many bytes, and borrows the inner allocator unless it is to fail.

@@ -2,6 +2,7 @@
 //! allocation failing in turn.
 ghost use Rattle.std.specs.Prelude.{◌<◌, pos, ◌≤ℤ◌};
 
+use copy_answers::put_cover;
 use cover_ranges::{Cover, CoverError, OFFSETS_END};
 use refusing_alloc::Refusing;
 use std::alloc::{AllocError, Allocator};
@@ -11,6 +12,9 @@ const GREATEST: i64 = OFFSETS_END - 1;
 
 /// More allocations than any run below asks for.
 const MANY_ALLOCATIONS: u64 = 100;
+
+/// How many bytes 40 ranges have; the sets that are united have no more.
+const GIVEN: usize = 40 * 16;
 
 /// Ranges as offsets, each its first and its last one.
 type Ranges = &'static [(i64, i64)];
@@ -155,22 +159,43 @@ fn start_of(n: u8) -> i64
     if n % 2 == 0 { 1000 + step } else { 1000 - step }
 }
 
-/// Reserves room, again where memory lacked, and tells whether the set was then as the other one.
+/// What a set answers without taking memory.
+fn answers_of<A: Allocator + Copy, B: Allocator + Copy>(
+    alloc: B,
+    cover: &Cover<A>,
+) -> Result<Vec<u8, B>, AllocError> {
+    let mut out = Vec::new(alloc);
+    put_cover(&mut out, cover)?;
+    Ok(out)
+}
+
+/// Whether two sets answer the same.
+fn are_alike<A: Allocator + Copy, B: Allocator + Copy>(
+    alloc: B,
+    cover: &Cover<A>,
+    other: &Cover<B>,
+) -> Result<bool, AllocError> {
+    Ok(answers_of(alloc, cover)? == answers_of(alloc, other)?)
+}
+
+/// Reserves room, again where memory lacked, and tells whether the set answered as the other one then.
 fn reserves_later<A: Allocator + Copy, B: Allocator + Copy>(
+    alloc: B,
     cover: &mut Cover<A>,
     other: &Cover<B>,
 ) -> Result<bool, AllocError> {
     if cover.reserve_one().is_ok() {
         return Ok(true);
     }
-    let is_same = cover.ranges() == other.ranges();
+    let is_same = are_alike(alloc, cover, other)?;
     cover.reserve_one()?;
     Ok(is_same)
 }
 
 /// Inserts the five offsets from this one on into both sets, again where memory lacked, and tells whether the
-/// first set was then as the other one, and is so now.
+/// first set answered as the other one then, and does so now.
 fn inserts_later<A: Allocator + Copy, B: Allocator + Copy>(
+    alloc: B,
     cover: &mut Cover<A>,
     other: &mut Cover<B>,
     first: i64,
@@ -179,29 +204,30 @@ fn inserts_later<A: Allocator + Copy, B: Allocator + Copy>(
     requires at_most { first ≤ℤ pos 1400 }
 {
     if cover.insert(first, first + 4).is_err() {
-        if cover.ranges() != other.ranges() {
+        if !are_alike(alloc, cover, other)? {
             return Ok(false);
         }
         cover.insert(first, first + 4)?;
     }
     other.insert(first, first + 4)?;
-    Ok(cover.ranges() == other.ranges())
+    are_alike(alloc, cover, other)
 }
 
 /// Inserts 40 ranges, which touch none, into both sets, and tells whether all was right, and none was asked for
 /// memory where there was room.
 fn insert_forty<A: Allocator + Copy, B: Allocator + Copy>(
+    inner: B,
     heap: &Refusing<B>,
     cover: &mut Cover<A>,
     other: &mut Cover<B>,
     reserving: bool,
 ) -> Result<bool, AllocError> {
     for n in 0..40u8 {
-        if reserving && !reserves_later(cover, other)? {
+        if reserving && !reserves_later(inner, cover, other)? {
             return Ok(false);
         }
         let calls = heap.calls();
-        let is_right = inserts_later(cover, other, start_of(n))?;
+        let is_right = inserts_later(inner, cover, other, start_of(n))?;
         if !is_right || (reserving && heap.calls() != calls) {
             return Ok(false);
         }
@@ -216,7 +242,7 @@ fn inserts_forty<B: Allocator + Copy>(
     reserving: bool,
 ) -> Result<bool, AllocError> {
     let mut cover = Cover::new(heap);
-    insert_forty(heap, &mut cover, &mut Cover::new(inner), reserving)
+    insert_forty(inner, heap, &mut cover, &mut Cover::new(inner), reserving)
 }
 
 /// Two sets, and their union.
@@ -318,11 +344,11 @@ fn succeeds_later<B: Allocator + Copy>(
 }
 
 /// Makes the calls of a run, each allocation failing in turn, until one doesn't ask for the one that would fail,
-/// and tells whether all was right.
+/// and tells whether all was right, and no more was asked for at once than the ranges allow.
 fn each_succeeds_later(rt: &HostRuntime, run: Run) -> Result<bool, Fail> {
     for failing in 1..MANY_ALLOCATIONS {
         let heap = Refusing::new(rt.alloc(), failing);
-        if !succeeds_later(rt.alloc(), &heap, run)? {
+        if !succeeds_later(rt.alloc(), &heap, run)? || !heap.is_within(GIVEN) {
             return Ok(false);
         }
         if heap.calls() < failing {

@@ -1,17 +1,21 @@
-//! The calls for committed offsets, each allocation failing in turn: one of them lacks memory, and made again
-//! it gives what it is to give. That a key or a value is read takes none.
+//! The calls for committed offsets, each allocation failing in turn: one of them lacks memory, the copy answers as
+//! before, and made again the call gives what it is to give. That a key or a value is read takes none.
 use crate::tests::group_copies::{COMMIT, FORGOTTEN, KEY, NEXT_KEY, VALUE, committed};
 use batch_codec::{Batch, encode};
+use copy_answers::{answers_of, has_answers};
 use group_offsets::{
     GroupError, commit_batch, forget_batch, group_keys, lookup, put_key, put_value,
 };
 use partition_log::PartitionLog;
 use refusing_alloc::Refusing;
-use segment::{BatchStore, ProgramStore};
+use segment::{BatchStore, SegStore, VecStore};
 use std::alloc::Allocator;
 
 /// More allocations than any run below asks for.
 const MOST: u64 = 100;
+
+/// How many bytes the four batches of the copy have.
+const GIVEN: usize = 3 * 92 + 93;
 
 /// The number of calls that `call` knows.
 const CALLS: usize = 6;
@@ -87,16 +91,24 @@ fn call<S: BatchStore, B: Allocator + Copy>(
     }
 }
 
-/// Makes a call, again where memory lacked, and tells whether it did; none where something else comes of it.
+/// Makes a call, again where memory lacked, and tells whether it did; none where something else comes of it, or the
+/// copy answers in another way then.
 fn lacks<S: BatchStore, B: Allocator + Copy>(
     copy: &PartitionLog<S>,
     alloc: B,
     number: usize,
 ) -> Option<bool> {
-    match call(copy, alloc, number) {
-        Ok(true) => Some(false),
-        Err(GroupError::OutOfMemory) if call(copy, alloc, number) == Ok(true) => Some(true),
-        _ => None,
+    let before = answers_of(alloc, copy).ok()?;
+    let came = call(copy, alloc, number);
+    if came == Ok(true) {
+        return Some(false);
+    }
+    let is_same = has_answers(alloc, copy, &before);
+    let is_done = call(copy, alloc, number) == Ok(true);
+    if came == Err(GroupError::OutOfMemory) && is_same && is_done {
+        Some(true)
+    } else {
+        None
     }
 }
 
@@ -113,23 +125,52 @@ fn lacking<S: BatchStore, B: Allocator + Copy>(
     }
 }
 
-/// The same where this allocation fails, and whether it is asked for.
+/// How a copy keeps its batches.
+#[derive(Clone, Copy, Debug)]
+enum Kept {
+    /// Each in memory of its own.
+    Apart,
+    /// End to end, in segments.
+    EndToEnd,
+}
+
+/// The same of a copy that keeps its batches so.
+fn lacking_in<A: Allocator + Copy, B: Allocator + Copy>(
+    kept: Kept,
+    heap: A,
+    alloc: B,
+    number: usize,
+) -> Option<bool> {
+    match kept {
+        Kept::Apart => lacking::<VecStore<A>, B>(heap, alloc, number),
+        Kept::EndToEnd => lacking::<SegStore<A>, B>(heap, alloc, number),
+    }
+}
+
+/// The same where this allocation fails, and whether it is asked for; none where more is asked for at once than what was
+/// given allows.
 fn lacking_without<A: Allocator + Copy>(
     inner: A,
+    kept: Kept,
     refused: u64,
     number: usize,
 ) -> (Option<bool>, bool) {
     let heap = Refusing::new(inner, refused);
-    let lacks = lacking::<ProgramStore<_>, _>(&heap, inner, number);
-    (lacks, heap.calls() >= refused)
+    let lacks = lacking_in(kept, &heap, inner, number);
+    let is_asked = heap.calls() >= refused;
+    if heap.is_within(GIVEN) {
+        (lacks, is_asked)
+    } else {
+        (None, is_asked)
+    }
 }
 
 /// Whether a call lacks memory where some allocation fails; none where something else comes of it, or memory lacks
 /// though no allocation fails.
-fn lacks_sometime<A: Allocator + Copy>(inner: A, number: usize) -> Option<bool> {
+fn lacks_sometime<A: Allocator + Copy>(inner: A, kept: Kept, number: usize) -> Option<bool> {
     let mut sometime = false;
     for refused in 1..MOST {
-        let (lacks, is_asked) = lacking_without(inner, refused, number);
+        let (lacks, is_asked) = lacking_without(inner, kept, refused, number);
         let lacks = lacks?;
         if !is_asked {
             return if lacks { None } else { Some(sometime) };
@@ -142,9 +183,9 @@ fn lacks_sometime<A: Allocator + Copy>(inner: A, number: usize) -> Option<bool> 
 #[test]
 fn each_call_lacks_memory_once(rt: HostRuntime) {
     for number in 0..CALLS {
-        assert!(rt;
-            lacks_sometime(rt.alloc(), number) == Some(true),
-            "call {number}"
-        );
+        for kept in [Kept::Apart, Kept::EndToEnd] {
+            let sometime = lacks_sometime(rt.alloc(), kept, number);
+            assert!(rt; sometime == Some(true), "call {number}, {kept:?}");
+        }
     }
 }

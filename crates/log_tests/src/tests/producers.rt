@@ -1,6 +1,8 @@
 //! A leader's log of many producers: what it answers to each, by the index of producers that it has and by one
 //! made anew, and with each allocation failing in turn.
 use crate::tests::answers::{Answer, answer, is_added};
+use batch_codec::view;
+use copy_answers::answers_of;
 use partition_log::{AppendError, CleanReport, LeaderLog, PartitionLog};
 use refusing_alloc::Refusing;
 use sample_batches::sent;
@@ -12,6 +14,9 @@ const PRODUCERS: i32 = 20;
 
 /// How many offsets they take, with three batches of one record each.
 const END: i32 = 60;
+
+/// How many bytes their batches have.
+const GIVEN: usize = 60 * 70;
 
 /// More allocations than any run below asks for.
 const MOST: u64 = 500;
@@ -30,25 +35,57 @@ fn in_turn(offset: i32) -> [u8; 70] {
     bytes
 }
 
+/// Whether the log judges the batch that has this offset as new.
+fn is_new<S: BatchStore>(log: &LeaderLog<S>, bytes: &[u8]) -> bool {
+    match view(bytes) {
+        Ok(batch) => log.judge(&batch) == Ok(None),
+        Err(_) => false,
+    }
+}
+
+/// Delivers the producers' batches below an offset to a copy, and tells whether each was new.
+fn is_given<S: BatchStore>(copy: &mut PartitionLog<S>, end: i32) -> bool {
+    let mut all = true;
+    for offset in 0..end {
+        all = all && is_added(copy, &in_turn(offset));
+    }
+    all
+}
+
+/// Whether a copy answers as one in this memory does that has the producers' batches below an offset.
+fn answers_as_given<S: BatchStore>(ample: S::Alloc, copy: &PartitionLog<S>, end: i32) -> bool {
+    let mut other = PartitionLog::<S>::new(ample);
+    let is_given = is_given(&mut other, end);
+    match (answers_of(ample, copy), answers_of(ample, &other)) {
+        (Ok(answers), Ok(wanted)) => is_given && answers == wanted,
+        _ => false,
+    }
+}
+
 /// Sends the batch that has this offset, and tells whether it goes there. Where memory lacks, which is
-/// counted, the log is as before, and it is sent again.
-fn is_appended<S: BatchStore>(log: &mut LeaderLog<S>, offset: i32, lacked: &mut u64) -> bool {
+/// counted, the log answers as before, and it is sent again.
+fn is_appended<S: BatchStore>(
+    ample: S::Alloc,
+    log: &mut LeaderLog<S>,
+    offset: i32,
+    lacked: &mut u64,
+) -> bool {
     let bytes = in_turn(offset);
-    let base = i64::from(offset);
+    let mut is_same = true;
     let mut answered = answer(log, &bytes);
-    let end = log.copy().end();
-    if answered == Some(Err(AppendError::OutOfMemory)) && end == base {
+    if answered == Some(Err(AppendError::OutOfMemory)) {
         *lacked = lacked.saturating_add(1);
+        is_same = is_new(log, &bytes) && answers_as_given(ample, log.copy(), offset);
         answered = answer(log, &bytes);
     }
-    answered == Some(Ok((base, false)))
+    is_same && answered == Some(Ok((i64::from(offset), false)))
 }
 
 /// Whether the producers' batches go to the end in turn.
-fn are_appended<S: BatchStore>(log: &mut LeaderLog<S>, lacked: &mut u64) -> bool {
+fn are_appended<S: BatchStore>(ample: S::Alloc, log: &mut LeaderLog<S>, lacked: &mut u64) -> bool {
     let mut all = true;
     for offset in 0..END {
-        all = all && is_appended(log, offset, lacked);
+        all = all && is_appended(ample, log, offset, lacked);
     }
     all
 }
@@ -68,14 +105,15 @@ fn has_all<S: BatchStore>(copy: &PartitionLog<S>) -> bool {
     copy.len() == 60 && copy.end() == 60 && copy.bytes_of(0) == in_turn(0).as_slice()
 }
 
-/// Cleans the log, again where memory lacks, which is counted, and tells whether every record but the last
-/// goes, and no batch.
-fn is_cleaned<S: BatchStore>(log: &mut LeaderLog<S>, lacked: &mut u64) -> bool {
+/// Cleans the log, again where memory lacks, which is counted, and tells whether it answered as before then, and
+/// every record but the last goes, and no batch.
+fn is_cleaned<S: BatchStore>(ample: S::Alloc, log: &mut LeaderLog<S>, lacked: &mut u64) -> bool {
     match log.clean(60, 0) {
         Ok(report) => report == ALL_BUT_ONE,
         Err(_) => {
             *lacked = lacked.saturating_add(1);
-            has_all(log.copy()) && log.clean(60, 0) == Ok(ALL_BUT_ONE)
+            let is_same = answers_as_given(ample, log.copy(), END);
+            is_same && log.clean(60, 0) == Ok(ALL_BUT_ONE)
         }
     }
 }
@@ -124,11 +162,16 @@ fn wrong_row<S: BatchStore>(log: &mut LeaderLog<S>, rows: &[Row]) -> &'static st
 
 /// What is wrong of a log that takes the producers' batches, is cleaned, knows them before and after, and is
 /// sent the batches of these rows then; empty where all is right.
-fn wrong_of<S: BatchStore>(log: &mut LeaderLog<S>, lacked: &mut u64, rows: &[Row]) -> &'static str {
+fn wrong_of<S: BatchStore>(
+    ample: S::Alloc,
+    log: &mut LeaderLog<S>,
+    lacked: &mut u64,
+    rows: &[Row],
+) -> &'static str {
     let known = [
-        are_appended(log, lacked),
+        are_appended(ample, log, lacked),
         are_repeats(log),
-        is_cleaned(log, lacked),
+        is_cleaned(ample, log, lacked),
         are_repeats(log),
     ];
     if known == [true; 4] {
@@ -139,17 +182,28 @@ fn wrong_of<S: BatchStore>(log: &mut LeaderLog<S>, lacked: &mut u64, rows: &[Row
 }
 
 /// The same of a new log.
-fn wrong_of_new<S: BatchStore>(heap: S::Alloc, lacked: &mut u64, rows: &[Row]) -> &'static str {
+fn wrong_of_new<S: BatchStore>(
+    heap: S::Alloc,
+    ample: S::Alloc,
+    lacked: &mut u64,
+    rows: &[Row],
+) -> &'static str {
     match LeaderLog::from_copy(PartitionLog::<S>::new(heap)) {
-        Ok(mut log) => wrong_of(&mut log, lacked, rows),
+        Ok(mut log) => wrong_of(ample, &mut log, lacked, rows),
         Err(_) => "a gap",
     }
 }
 
 #[test]
 fn each_producer_has_its_window(rt: HostRuntime) {
-    assert_eq!(rt; wrong_of_new::<VecStore<_>>(rt.alloc(), &mut 0, &ROWS), "");
-    assert_eq!(rt; wrong_of_new::<SegStore<_>>(rt.alloc(), &mut 0, &ROWS), "");
+    assert_eq!(rt;
+        wrong_of_new::<VecStore<_>>(rt.alloc(), rt.alloc(), &mut 0, &ROWS),
+        ""
+    );
+    assert_eq!(rt;
+        wrong_of_new::<SegStore<_>>(rt.alloc(), rt.alloc(), &mut 0, &ROWS),
+        ""
+    );
 }
 
 /// Whether the log's start moves to offset 45, so that 15 batches are left.
@@ -161,7 +215,7 @@ fn is_trimmed<S: BatchStore>(log: &mut LeaderLog<S>) -> bool {
 /// Whether a new log takes the producers' batches, and its start moves then, if that is wanted.
 fn is_filled<S: BatchStore>(heap: S::Alloc, trims: bool) -> bool {
     match LeaderLog::from_copy(PartitionLog::<S>::new(heap)) {
-        Ok(mut log) => are_appended(&mut log, &mut 0) && (!trims || is_trimmed(&mut log)),
+        Ok(mut log) => are_appended(heap, &mut log, &mut 0) && (!trims || is_trimmed(&mut log)),
         Err(_) => false,
     }
 }
@@ -183,34 +237,45 @@ fn a_trim_asks_for_no_memory(rt: HostRuntime) {
     assert_eq!(rt; asked_by_log(rt.alloc(), true), asked);
 }
 
-/// Delivers the batch that has this offset. Where memory lacks, which is counted, the copy is as before, and
-/// it is delivered again.
-fn is_delivered<S: BatchStore>(copy: &mut PartitionLog<S>, offset: i32, lacked: &mut u64) -> bool {
+/// Delivers the batch that has this offset. Where memory lacks, which is counted, the copy answers as before,
+/// and it is delivered again.
+fn is_delivered<S: BatchStore>(
+    ample: S::Alloc,
+    copy: &mut PartitionLog<S>,
+    offset: i32,
+    lacked: &mut u64,
+) -> bool {
     let bytes = in_turn(offset);
     if is_added(copy, &bytes) {
         return true;
     }
     *lacked = lacked.saturating_add(1);
-    copy.end() == i64::from(offset) && is_added(copy, &bytes)
+    answers_as_given(ample, copy, offset) && is_added(copy, &bytes)
 }
 
-/// Whether a new copy takes the batches and is cleaned, again where memory lacked, which is counted.
-fn copy_is_cleaned<S: BatchStore>(heap: S::Alloc, lacked: &mut u64) -> bool {
-    let mut copy = PartitionLog::<S>::new(heap);
-    let mut all = true;
-    for offset in 0..END {
-        all = all && is_delivered(&mut copy, offset, lacked);
-    }
-    if !all || !has_all(&copy) {
-        return false;
-    }
+/// Cleans the copy as the log is cleaned.
+fn copy_is_left<S: BatchStore>(
+    ample: S::Alloc,
+    copy: &mut PartitionLog<S>,
+    lacked: &mut u64,
+) -> bool {
     match copy.clean(60, 0) {
         Ok(report) => report == ALL_BUT_ONE,
         Err(_) => {
             *lacked = lacked.saturating_add(1);
-            has_all(&copy) && copy.clean(60, 0) == Ok(ALL_BUT_ONE)
+            answers_as_given(ample, copy, END) && copy.clean(60, 0) == Ok(ALL_BUT_ONE)
         }
     }
+}
+
+/// Whether a new copy takes the batches and is cleaned, again where memory lacked, which is counted.
+fn copy_is_cleaned<S: BatchStore>(heap: S::Alloc, ample: S::Alloc, lacked: &mut u64) -> bool {
+    let mut copy = PartitionLog::<S>::new(heap);
+    let mut all = true;
+    for offset in 0..END {
+        all = all && is_delivered(ample, &mut copy, offset, lacked);
+    }
+    all && has_all(&copy) && copy_is_left(ample, &mut copy, lacked)
 }
 
 /// How the copies and logs below keep their batches.
@@ -223,18 +288,23 @@ enum Kept {
 }
 
 /// Whether a new copy is cleaned in this heap.
-fn copy_is_cleaned_in<A: Allocator + Copy>(kept: Kept, heap: A, lacked: &mut u64) -> bool {
+fn copy_is_cleaned_in<A: Allocator + Copy>(
+    kept: Kept,
+    heap: A,
+    ample: A,
+    lacked: &mut u64,
+) -> bool {
     match kept {
-        Kept::Apart => copy_is_cleaned::<VecStore<A>>(heap, lacked),
-        Kept::EndToEnd => copy_is_cleaned::<SegStore<A>>(heap, lacked),
+        Kept::Apart => copy_is_cleaned::<VecStore<A>>(heap, ample, lacked),
+        Kept::EndToEnd => copy_is_cleaned::<SegStore<A>>(heap, ample, lacked),
     }
 }
 
 /// Whether a new log is cleaned in this heap.
-fn log_is_cleaned_in<A: Allocator + Copy>(kept: Kept, heap: A, lacked: &mut u64) -> bool {
+fn log_is_cleaned_in<A: Allocator + Copy>(kept: Kept, heap: A, ample: A, lacked: &mut u64) -> bool {
     match kept {
-        Kept::Apart => wrong_of_new::<VecStore<A>>(heap, lacked, &[]).is_empty(),
-        Kept::EndToEnd => wrong_of_new::<SegStore<A>>(heap, lacked, &[]).is_empty(),
+        Kept::Apart => wrong_of_new::<VecStore<A>>(heap, ample, lacked, &[]).is_empty(),
+        Kept::EndToEnd => wrong_of_new::<SegStore<A>>(heap, ample, lacked, &[]).is_empty(),
     }
 }
 
@@ -244,7 +314,8 @@ fn lacked_by_copy<A: Allocator + Copy>(alloc: A, kept: Kept) -> Option<(u64, u64
     let mut lacked = 0;
     for refused in 1..MOST {
         let heap = Refusing::new(alloc, refused);
-        if !copy_is_cleaned_in(kept, &heap, &mut lacked) {
+        let ample = Refusing::new(alloc, 0);
+        if !copy_is_cleaned_in(kept, &heap, &ample, &mut lacked) || !heap.is_within(GIVEN) {
             return None;
         }
         if heap.calls() < refused {
@@ -260,7 +331,8 @@ fn lacked_by_log<A: Allocator + Copy>(alloc: A, kept: Kept) -> Option<u64> {
     let mut lacked = 0;
     for refused in 1..MOST {
         let heap = Refusing::new(alloc, refused);
-        if !log_is_cleaned_in(kept, &heap, &mut lacked) {
+        let ample = Refusing::new(alloc, 0);
+        if !log_is_cleaned_in(kept, &heap, &ample, &mut lacked) || !heap.is_within(GIVEN) {
             return None;
         }
         if heap.calls() < refused {

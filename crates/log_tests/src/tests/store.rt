@@ -15,6 +15,12 @@ use std::alloc::{AllocError, Allocator};
 /// The greatest offset.
 const GREATEST: i64 = 0x3fff_ffff_ffff_ffff;
 
+/// How many bytes the four batches have that a few calls are given.
+const FEW_GIVEN: usize = 4 * 87;
+
+/// How many bytes many batches have.
+const MANY_GIVEN: usize = 240 * 70;
+
 /// More allocations than any run below asks for.
 const MOST: u64 = 500;
 
@@ -62,16 +68,32 @@ fn insert_rebased<S: BatchStore, A: Allocator + Copy>(
     Ok(Some(store.insert_rebased(batch, base, leader_epoch)?))
 }
 
-/// Whether the batches have these base offsets, and the bytes that are at each index are those of
-/// the batch there.
+/// Whether the batch at an index has this base offset, is found from there, and has the bytes that are at the index,
+/// which are a piece.
+fn has_base<S: BatchStore>(store: &S, i: usize, base: i64) -> bool {
+    if i >= store.len() {
+        return false;
+    }
+    let batch = store.at(i);
+    let (piece, _end) = store.piece(i, i + 1);
+    let facts = [
+        batch.head().base == base,
+        store.first_from(base) == i,
+        batch.bytes() == store.bytes_of(i),
+        batch.bytes() == piece,
+        store.stretch_start(i) <= i,
+    ];
+    facts == [true; 5]
+}
+
+/// Whether the batches have these base offsets, and are found.
 fn has_bases<S: BatchStore>(store: &S, bases: &[i64]) -> bool {
     let len = store.len();
-    if len != bases.len() {
+    if len != bases.len() || store.first_from(i64::MIN) != 0 || store.first_from(i64::MAX) != len {
         return false;
     }
     for i in 0..len {
-        let batch = store.at(i);
-        if batch.head().base != bases[i] || batch.bytes() != store.bytes_of(i) {
+        if !has_base(store, i, bases[i]) {
             return false;
         }
     }
@@ -403,11 +425,21 @@ fn succeeds_later<S: BatchStore, B: Allocator + Copy>(
     }
 }
 
+/// How many bytes the calls are given.
+fn given_of(order: Option<Order>) -> usize {
+    match order {
+        Some(_) => MANY_GIVEN,
+        None => FEW_GIVEN,
+    }
+}
+
 /// Makes the calls with a list of batches in memory of their own, this allocation failing, and tells whether the
-/// lists were right each time, and the allocation is asked for.
+/// lists were right each time, and no more was asked for at once than what was given allows, and the allocation is
+/// asked for.
 fn with_batches<A: Allocator + Copy>(alloc: A, refused: u64, order: Option<Order>) -> (bool, bool) {
     let heap = Refusing::new(alloc, refused);
     let is_right = succeeds_later::<VecStore<_>, _>(&heap, alloc, order);
+    let is_right = is_right && heap.is_within(given_of(order));
     (is_right, heap.calls() >= refused)
 }
 
@@ -419,6 +451,7 @@ fn with_segments<A: Allocator + Copy>(
 ) -> (bool, bool) {
     let heap = Refusing::new(alloc, refused);
     let is_right = succeeds_later::<SegStore<_>, _>(&heap, alloc, order);
+    let is_right = is_right && heap.is_within(given_of(order));
     (is_right, heap.calls() >= refused)
 }
 
