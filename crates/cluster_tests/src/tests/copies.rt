@@ -1,7 +1,8 @@
 //! Copies for the tests, and what they show.
 
 use batch_codec::view;
-use copy_images::write_image;
+use copy_answers::answers_of;
+use copy_images::{read_image, write_image};
 use partition_log::{Delivered, PartitionLog};
 use segment::BatchStore;
 
@@ -27,5 +28,20 @@ pub(crate) fn has_image<S: BatchStore>(copy: &PartitionLog<S>, image: &[u8]) -> 
     match write_image(copy.allocator(), copy) {
         Ok(bytes) => bytes.as_slice() == image,
         Err(_) => false,
+    }
+}
+
+/// Whether a copy answers, without taking memory, as the one of this image does in that memory.
+pub(crate) fn answers_as<S: BatchStore>(
+    ample: S::Alloc,
+    copy: &PartitionLog<S>,
+    image: &[u8],
+) -> bool {
+    let Ok(other) = read_image::<S>(ample, image) else {
+        return false;
+    };
+    match (answers_of(ample, copy), answers_of(ample, &other)) {
+        (Ok(answers), Ok(wanted)) => answers == wanted,
+        _ => false,
     }
 }

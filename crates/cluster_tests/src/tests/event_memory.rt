@@ -1,27 +1,29 @@
-//! Clusters with each allocation failing in turn: they are as they were, and the same call then succeeds.
-//! A call counts it where it lacks memory.
+//! Clusters with each allocation failing in turn: what takes no memory answers as before, and the same call then
+//! succeeds. A call counts it where it lacks memory.
 
 use crate::tests::events::{Answer, end_of};
-use crate::tests::memory::{MOST, OF_THE_MARKS, count};
+use crate::tests::memory::{MOST, count};
 use crate::tests::outside::{EMPTY, SECOND_OF_TWO, TWO};
+use crate::tests::stores::{BOTH, Kept, without};
 use cluster::{Cluster, ClusterError, Event, EventError, Outcome};
+use copy_answers::put_answers;
 use copy_images::write_image;
 use partition_log::{CleanReport, Delivered, PartitionLog};
 use refusing_alloc::Refusing;
 use sample_batches::{NINE, THREE, nine_at};
-use segment::{BatchStore, SegStore};
-use std::alloc::{AllocError, Global};
+use segment::{BatchStore, SegStore, VecStore};
+use std::alloc::{AllocError, Allocator, Global};
 use std::test::Fail;
 
 /// An event.
 #[derive(Clone, Copy)]
-enum Told {
+pub(crate) enum Told {
     /// These bytes are sent to the leader.
     Produce(&'static [u8]),
     /// A batch is delivered to a copy.
     Deliver(usize, usize),
-    /// A copy is cleaned up to an offset.
-    Clean(usize, i64),
+    /// A copy is cleaned up to an offset, of tombstones below another.
+    Clean(usize, i64, i64),
     /// The image of a copy is kept.
     Send(usize),
     /// An image is merged into a copy.
@@ -33,6 +35,9 @@ enum Told {
 /// How many segments are begun in all.
 const SEGMENTS: u64 = 9;
 
+/// How many bytes the three batches that are produced have, and the three images that are kept of them.
+const GIVEN: usize = 79 + 70 + 87 + 112 + 26 + 112;
+
 /// Events that happen one after the other, and their answers.
 static STEPS: [(Told, Answer); 9] = [
     (
@@ -43,7 +48,7 @@ static STEPS: [(Told, Answer); 9] = [
         }),
     ),
     (
-        Told::Clean(0, 2),
+        Told::Clean(0, 2, 0),
         Ok(Outcome::Cleaned(CleanReport {
             records: 1,
             tombstones: 0,
@@ -59,7 +64,7 @@ static STEPS: [(Told, Answer); 9] = [
         }),
     ),
     (
-        Told::Clean(0, 3),
+        Told::Clean(0, 3, 0),
         Ok(Outcome::Cleaned(CleanReport {
             records: 1,
             tombstones: 0,
@@ -83,7 +88,7 @@ static LIST: [(Told, Answer); 5] = [
     ),
     (Told::Merge(3, 0), Ok(Outcome::Merged)),
     (
-        Told::Clean(1, 2),
+        Told::Clean(1, 2, 0),
         Ok(Outcome::Cleaned(CleanReport {
             records: 1,
             tombstones: 0,
@@ -101,16 +106,16 @@ static LIST: [(Told, Answer); 5] = [
 ];
 
 /// An event as a cluster takes it.
-fn event_of(alloc: Global, told: Told) -> Result<Event<Global>, AllocError> {
+pub(crate) fn event_of(alloc: Global, told: Told) -> Result<Event<Global>, AllocError> {
     Ok(match told {
         Told::Produce(bytes) => Event::Produce {
             bytes: Vec::from_slice(alloc, bytes)?,
         },
         Told::Deliver(copy, batch) => Event::Deliver { copy, batch },
-        Told::Clean(copy, upto) => Event::Clean {
+        Told::Clean(copy, upto, tomb_before) => Event::Clean {
             copy,
             upto,
-            tomb_before: 0,
+            tomb_before,
         },
         Told::Send(copy) => Event::Send { copy },
         Told::Merge(copy, image) => Event::Merge { copy, image },
@@ -130,14 +135,17 @@ fn events_of(
     Ok(events)
 }
 
-/// Adds the image of a copy, where there is such a copy.
+/// Adds the image of a copy, and what it answers without taking memory, where there is such a copy.
 fn add_copy<S: BatchStore>(
     alloc: Global,
     copy: Option<&PartitionLog<S>>,
     out: &mut Vec<u8, Global>,
 ) -> Result<(), AllocError> {
     match copy {
-        Some(copy) => out.extend_from_slice(&write_image(alloc, copy)?),
+        Some(copy) => {
+            out.extend_from_slice(&write_image(alloc, copy)?)?;
+            put_answers(out, copy)
+        }
         None => Ok(()),
     }
 }
@@ -155,7 +163,7 @@ fn add_shown<S: BatchStore>(
 }
 
 /// All that a cluster shows.
-fn shown<S: BatchStore>(
+pub(crate) fn shown<S: BatchStore>(
     alloc: Global,
     cluster: &Cluster<S>,
 ) -> Result<Vec<u8, Global>, AllocError> {
@@ -304,14 +312,33 @@ fn new_does_all<S: BatchStore>(
     }
 }
 
+/// The same in a cluster whose copies keep their batches so.
+fn does_in<A: Allocator + Copy>(
+    kept: Kept,
+    heap: A,
+    alloc: Global,
+    events: (&[Event<Global>], &[Event<Global>]),
+    lacked: &mut u64,
+) -> bool {
+    match kept {
+        Kept::Apart => new_does_all::<VecStore<A>>(heap, alloc, events, lacked),
+        Kept::EndToEnd => new_does_all::<SegStore<A>>(heap, alloc, events, lacked),
+    }
+}
+
 /// How many allocations the calls do without, where each fails in turn; an error with the number of one at whose
-/// failure not all happens as it should, with [`MOST`] where each run asks for more.
-fn done_without(alloc: Global, events: (&[Event<Global>], &[Event<Global>])) -> Result<u64, u64> {
+/// failure not all happens as it should, or more is asked for at once than what was given allows, with [`MOST`] where
+/// each run asks for more.
+fn done_without(
+    alloc: Global,
+    kept: Kept,
+    events: (&[Event<Global>], &[Event<Global>]),
+) -> Result<u64, u64> {
     let mut without = 0;
     for number in 1..MOST {
         let heap = Refusing::new(alloc, number);
         let mut lacked = 0;
-        let done = new_does_all::<SegStore<_>>(&heap, alloc, events, &mut lacked);
+        let done = does_in(kept, &heap, alloc, events, &mut lacked) && heap.is_within(GIVEN);
         let fails = number <= heap.calls();
         if !done || (lacked > 0 && !fails) {
             return Err(number);
@@ -330,7 +357,9 @@ fn done_without(alloc: Global, events: (&[Event<Global>], &[Event<Global>])) -> 
 fn events_happen_later(rt: HostRuntime) -> Result<(), Fail> {
     let steps = events_of(rt.alloc(), &STEPS)?;
     let list = events_of(rt.alloc(), &LIST)?;
-    let without = done_without(rt.alloc(), (&steps, &list));
-    assert_eq!(rt; without, Ok(SEGMENTS * OF_THE_MARKS));
+    for kept in BOTH {
+        let done = done_without(rt.alloc(), kept, (&steps, &list));
+        assert_eq!(rt; done, Ok(without(kept, SEGMENTS)));
+    }
     Ok(())
 }

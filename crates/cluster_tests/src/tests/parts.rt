@@ -9,14 +9,14 @@ use segment::BatchStore;
 use std::alloc::AllocError;
 
 /// A copy's content is a valid one: this is known behind the call, which does nothing.
-fn know_content<S: BatchStore>(copy: &PartitionLog<S>)
+pub(crate) fn know_content<S: BatchStore>(copy: &PartitionLog<S>)
     ensures { IsContent copy.now }
 {
     let _ = copy.end();
 }
 
 /// The batches that a copy keeps.
-fn batches_of<S: BatchStore>(
+pub(crate) fn batches_of<S: BatchStore>(
     alloc: S::Alloc,
     copy: &PartitionLog<S>,
 ) -> Result<Vec<Batch<S::Alloc>, S::Alloc>, AllocError>

@@ -1,7 +1,7 @@
 //! `apply_delta`: deltas of another program, what they leave, beside the merge with their sender, each
 //! refusal, and each allocation failing in turn.
 
-use crate::tests::copies::has_image;
+use crate::tests::copies::{answers_as, has_image};
 use crate::tests::memory::MOST;
 use crate::tests::outside::{
     A_IS_1, ALL_FOUR, B_IS_2, BAD_SECOND, BELOW_0, CUT_RANGES, EMPTY, FIRST_THREE, FIRST_TWO,
@@ -10,12 +10,13 @@ use crate::tests::outside::{
     RANGES_THAT_MEET, RIGHT_WITHOUT_A_GAP, SENT, TRIMMED, TRIMMED_SENT, TWO_BATCHES_LISTED_AS_ONE,
     TWO_BATCHES_LISTED_AS_ONE_OF_VERSION_0, TWO_FAULTS, VERSION_2, WRONG_CRC,
 };
+use crate::tests::stores::{BOTH, Kept};
 use copy_deltas::{PatchError, apply_delta};
 use copy_images::read_image;
 use copy_merge::merge;
 use partition_log::PartitionLog;
 use refusing_alloc::Refusing;
-use segment::{BatchStore, ProgramStore};
+use segment::{BatchStore, ProgramStore, SegStore, VecStore};
 use std::alloc::Allocator;
 use std::test::Fail;
 
@@ -282,34 +283,48 @@ fn shows<S: BatchStore>(copy: &PartitionLog<S>, image: &[u8]) -> bool {
     has_image(copy, image) || has_image(copy, image)
 }
 
-/// Whether `LEFT` takes `OF_THREE`, again where memory lacked: then it is as it was.
-fn is_taken_later<S: BatchStore>(copy: &mut PartitionLog<S>, has_lacked: &mut bool) -> bool {
+/// Whether `LEFT` takes `OF_THREE`, again where memory lacked: then it answers as before.
+fn is_taken_later<S: BatchStore>(
+    ample: S::Alloc,
+    copy: &mut PartitionLog<S>,
+    has_lacked: &mut bool,
+) -> bool {
     let mut answer = apply_delta(copy, &OF_THREE);
     let mut is_same = true;
     if answer == Err(PatchError::OutOfMemory) {
         *has_lacked = true;
-        is_same = has_image(copy, &LEFT);
+        is_same = answers_as(ample, copy, &LEFT);
         answer = apply_delta(copy, &OF_THREE);
     }
     is_same && answer == Ok(()) && shows(copy, &NONE_OF_TWO)
 }
 
 /// The same of the copy that is read from `LEFT`; nothing is said where there is no memory for that one.
-fn takes_later<S: BatchStore>(heap: S::Alloc, has_lacked: &mut bool) -> bool {
+fn takes_later<S: BatchStore>(heap: S::Alloc, ample: S::Alloc, has_lacked: &mut bool) -> bool {
     match read_image::<S>(heap, &LEFT) {
-        Ok(mut copy) => is_taken_later(&mut copy, has_lacked),
+        Ok(mut copy) => is_taken_later(ample, &mut copy, has_lacked),
         Err(_) => true,
     }
 }
 
+/// The same of a copy that keeps its batches so.
+fn takes_in<A: Allocator + Copy>(kept: Kept, heap: A, ample: A, has_lacked: &mut bool) -> bool {
+    match kept {
+        Kept::Apart => takes_later::<VecStore<A>>(heap, ample, has_lacked),
+        Kept::EndToEnd => takes_later::<SegStore<A>>(heap, ample, has_lacked),
+    }
+}
+
 /// How many allocations fail in `apply_delta` as they should, each in a run of its own; `None` where one
-/// does not.
-fn lacking<A: Allocator + Copy>(alloc: A) -> Option<u64> {
+/// does not, or more is asked for at once than what was given allows.
+fn lacking<A: Allocator + Copy>(alloc: A, kept: Kept) -> Option<u64> {
     let mut lacking: u64 = 0;
     for number in 1..MOST {
         let heap = Refusing::new(alloc, number);
+        let ample = Refusing::new(alloc, 0);
         let mut has_lacked = false;
-        if !takes_later::<ProgramStore<_>>(&heap, &mut has_lacked) {
+        let is_taken = takes_in(kept, &heap, &ample, &mut has_lacked);
+        if !is_taken || !heap.is_within(LEFT.len() + OF_THREE.len()) {
             return None;
         }
         if heap.calls() < number {
@@ -324,5 +339,7 @@ fn lacking<A: Allocator + Copy>(alloc: A) -> Option<u64> {
 
 #[test]
 fn deltas_are_taken_later(rt: HostRuntime) {
-    assert!(rt; lacking(rt.alloc()) > Some(0));
+    for kept in BOTH {
+        assert!(rt; lacking(rt.alloc(), kept) > Some(0), "{kept:?}");
+    }
 }
