@@ -21,5 +21,6 @@ mod script_memory;
 mod sessions;
 mod sinks;
 mod sources;
+mod stores;
 mod table_memory;
 mod writing;

@@ -1,9 +1,13 @@
 //! The brokers of the tests: topics of one name with two partitions, and `u` with nine.
 
-use broker_core::{Config, ConfigError, Node, Role, TopicConfig};
+use broker_core::{Config, ConfigError, GROUP_TOPIC, Node, Role, TopicConfig};
+use copy_answers::put_answers;
 use segment::BatchStore;
 use std::alloc::{AllocError, Allocator};
 use std::string::String;
+
+/// How many bytes a broker is made of at least: 12 partitions, each held in more than 64.
+pub(crate) const CONFIGURED: usize = 12 * 64;
 
 /// A host of so many bytes.
 fn host_of<A: Allocator + Copy>(alloc: A, bytes: u32) -> Result<String<A>, AllocError> {
@@ -117,6 +121,56 @@ pub(crate) fn has_logs<S: BatchStore>(node: &Node<S>) -> bool {
 pub(crate) fn prints<A: Allocator + Copy>(alloc: A, why: ConfigError, wanted: &str) -> bool {
     match format!(in alloc; "{why}") {
         Ok(text) => text.as_str() == wanted,
+        Err(_) => false,
+    }
+}
+
+/// Appends what a partition answers without taking memory, where there is such a partition.
+fn put_partition<S: BatchStore, B: Allocator + Copy>(
+    out: &mut Vec<u8, B>,
+    node: &Node<S>,
+    topic: &[u8],
+    partition: i32,
+) -> Result<(), AllocError> {
+    match node.log(topic, partition) {
+        Some(log) => put_answers(out, log),
+        None => Ok(()),
+    }
+}
+
+/// What a partition answers without taking memory; empty where there is no such partition.
+pub(crate) fn partition_answers<S: BatchStore, B: Allocator + Copy>(
+    alloc: B,
+    node: &Node<S>,
+    topic: &[u8],
+    partition: i32,
+) -> Result<Vec<u8, B>, AllocError> {
+    let mut out = Vec::new(alloc);
+    put_partition(&mut out, node, topic, partition)?;
+    Ok(out)
+}
+
+/// What the partitions that the requests name answer without taking memory.
+pub(crate) fn answers_of<S: BatchStore, B: Allocator + Copy>(
+    alloc: B,
+    node: &Node<S>,
+) -> Result<Vec<u8, B>, AllocError> {
+    let mut out = Vec::new(alloc);
+    put_partition(&mut out, node, b"t", 0)?;
+    put_partition(&mut out, node, b"t", 1)?;
+    put_partition(&mut out, node, b"u", 0)?;
+    put_partition(&mut out, node, GROUP_TOPIC, 0)?;
+    Ok(out)
+}
+
+/// Whether they answer so.
+pub(crate) fn has_answers<S: BatchStore, B: Allocator + Copy>(
+    alloc: B,
+    node: &Node<S>,
+    answers: &[u8],
+) -> bool {
+    match answers_of(alloc, node) {
+        Ok(now) => now.as_slice() == answers,
         Err(_) => false,
     }
 }

@@ -55,7 +55,10 @@ fn a_frame_comes_once_there_is_memory(rt: HostRuntime) {
     let mut asked = 0;
     for refused in 1..MOST {
         let heap = Refusing::new(rt.alloc(), refused);
-        assert!(rt; both_come(&heap), "allocation {refused} fails");
+        assert!(rt;
+            both_come(&heap) && heap.is_within(STREAM.len()),
+            "allocation {refused} fails"
+        );
         asked = heap.calls();
         if asked < refused {
             break;

@@ -1,16 +1,17 @@
-//! A broker in memory of which one allocation fails: one call lacks memory and changes nothing, and
+//! A broker in memory of which one allocation fails: one call lacks memory and what takes none answers as before, and
 //! made again it does what it is to do.
 
-use crate::tests::brokers::{end_of, has_logs, leader, prints};
+use crate::tests::brokers::{answers_of, has_answers, has_logs, leader, prints};
 use crate::tests::frames::{
     DESCRIBE, DESCRIBED, FETCH, FETCHED, LIST, LISTED_AT_1, NOT_STORED, PRODUCE, STORED, repeated,
 };
 use crate::tests::pieces::{reader_of, writer_of};
-use crate::tests::sessions::session;
+use crate::tests::sessions::{READ_ROOM, session};
+use crate::tests::stores::{BOTH, Kept};
 use broker_core::{Answer, Node};
 use refusing_alloc::Refusing;
 use request_frames::parse;
-use segment::{BatchStore, ProgramStore};
+use segment::{BatchStore, SegStore, VecStore};
 use std::alloc::Allocator;
 use std::test::Fail;
 
@@ -73,19 +74,22 @@ fn lack_of(is_answered: bool, out: &[u8], call: u32, response: &[u8]) -> u32 {
     }
 }
 
-/// Sends a request, and again where memory lacked, which changes nothing. Gives the call that lacked it.
-fn sends<S: BatchStore, A: Allocator + Copy>(
+/// Sends a request, and again where memory lacked, which changes no answer. Gives the call that lacked it.
+fn sends<S: BatchStore, A: Allocator + Copy, B: Allocator + Copy>(
+    alloc: B,
     node: &mut Node<S>,
     row: &(u32, &[u8], &[u8]),
     out: &mut Vec<u8, A>,
 ) -> u32 {
-    let end = end_of(node);
+    let Ok(before) = answers_of(alloc, node) else {
+        return WRONG;
+    };
     let is_answered = answer(node, row.1, out) == Some(Answer::Reply);
     let lack = lack_of(is_answered, out, row.0, row.2);
     if lack == 0 {
         return 0;
     }
-    let is_same = end_of(node) == end;
+    let is_same = has_answers(alloc, node, &before);
     out.clear();
     let is_done = answer(node, row.1, out) == Some(Answer::Reply) && out.as_slice() == row.2;
     if is_same && is_done { lack } else { WRONG }
@@ -112,15 +116,16 @@ fn serves<S: BatchStore, A: Allocator + Copy>(
 }
 
 /// Which calls of a broker lack memory in this heap.
-fn lacking_of<S: BatchStore, A: Allocator + Copy>(
+fn lacking_of<S: BatchStore, A: Allocator + Copy, B: Allocator + Copy>(
     heap: A,
+    alloc: B,
     node: &mut Node<S>,
     input: &[u8],
     replies: &[u8],
 ) -> u32 {
     let mut lacking = 0_u32;
     for row in &REQUESTS {
-        lacking = lacking.saturating_add(sends(node, row, &mut Vec::new(heap)));
+        lacking = lacking.saturating_add(sends(alloc, node, row, &mut Vec::new(heap)));
     }
     lacking.saturating_add(serves(heap, node, input, replies))
 }
@@ -134,50 +139,83 @@ fn is_made<S: BatchStore>(alloc: S::Alloc) -> bool {
 }
 
 /// Which calls lack memory in this heap.
-fn lacking<S: BatchStore>(heap: S::Alloc, input: &[u8], replies: &[u8]) -> u32 {
+fn lacking<S: BatchStore, B: Allocator + Copy>(
+    heap: S::Alloc,
+    alloc: B,
+    input: &[u8],
+    replies: &[u8],
+) -> u32 {
     match leader::<S>(heap) {
-        Ok(mut node) => lacking_of(heap, &mut node, input, replies),
+        Ok(mut node) => lacking_of(heap, alloc, &mut node, input, replies),
         Err(None) => CONFIG,
         Err(Some(why)) if prints(heap, why, "OutOfMemory") && is_made::<S>(heap) => NEW,
         Err(Some(_)) => WRONG,
     }
 }
 
-/// Which calls lack memory where this allocation fails, and whether it is asked for.
+/// Which calls lack memory where this allocation fails, and whether it is asked for, of a broker that keeps batches so.
+/// Something else came where more is asked for at once than a session's reads need.
 fn lacking_without<A: Allocator + Copy>(
     inner: A,
+    kept: Kept,
     refused: u64,
     input: &[u8],
     replies: &[u8],
 ) -> (u32, bool) {
     let heap = Refusing::new(inner, refused);
-    let lacking = lacking::<ProgramStore<_>>(&heap, input, replies);
-    (lacking, heap.calls() >= refused)
+    let lacking = match kept {
+        Kept::Apart => lacking::<VecStore<_>, A>(&heap, inner, input, replies),
+        Kept::EndToEnd => lacking::<SegStore<_>, A>(&heap, inner, input, replies),
+    };
+    let is_asked = heap.calls() >= refused;
+    if heap.largest() <= READ_ROOM {
+        (lacking, is_asked)
+    } else {
+        (WRONG, is_asked)
+    }
+}
+
+/// How many allocations a broker does without that keeps batches so.
+fn needless(kept: Kept) -> u64 {
+    match kept {
+        Kept::Apart => 0,
+        Kept::EndToEnd => OF_THE_MARKS,
+    }
+}
+
+/// The last call that lacks memory, where each allocation fails in turn, and how many allocations are asked for and done
+/// without; an error with the number of one at whose failure something is wrong, or which isn't followed by the same call
+/// or the next.
+fn last_lacking<A: Allocator + Copy>(
+    inner: A,
+    kept: Kept,
+    input: &[u8],
+    replies: &[u8],
+) -> Result<(u32, u64), u64> {
+    let mut last = CONFIG;
+    let mut without = 0_u64;
+    for refused in 1..MOST {
+        let (lacking, is_asked) = lacking_without(inner, kept, refused, input, replies);
+        let is_next = lacking == last || lacking == last.saturating_mul(2);
+        if lacking > 0 && !(is_asked && is_next) {
+            return Err(refused);
+        }
+        if !is_asked {
+            return Ok((last, without));
+        }
+        without = without.saturating_add(u64::from(lacking == 0));
+        last = if lacking == 0 { last } else { lacking };
+    }
+    Err(MOST)
 }
 
 #[test]
 fn one_allocation_fails(rt: HostRuntime) -> Result<(), Fail> {
     let input = repeated(rt.alloc(), b"", LIST, 2)?;
     let replies = repeated(rt.alloc(), b"", LISTED_AT_1, 2)?;
-    let mut last = CONFIG;
-    let mut without = 0_u64;
-    let mut is_asked = true;
-    for refused in 1..MOST {
-        if is_asked {
-            let (lacking, asked) = lacking_without(rt.alloc(), refused, &input, &replies);
-            // the same call as before or the next, and none where the allocation isn't asked for, or isn't
-            // needed
-            let is_next = lacking == 0 || lacking == last || lacking == last.saturating_mul(2);
-            assert!(rt;
-                if asked { is_next } else { lacking == 0 },
-                "{refused}: {lacking}, {last}"
-            );
-            is_asked = asked;
-            without = without.saturating_add(u64::from(asked && lacking == 0));
-            last = if lacking == 0 { last } else { lacking };
-        }
+    for kept in BOTH {
+        let last = last_lacking(rt.alloc(), kept, &input, &replies);
+        assert_eq!(rt; last, Ok((SESSION, needless(kept))));
     }
-    assert!(rt; last == SESSION && !is_asked, "{last}");
-    assert_eq!(rt; without, OF_THE_MARKS);
     Ok(())
 }

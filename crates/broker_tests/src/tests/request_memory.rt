@@ -1,16 +1,18 @@
 //! Requests about groups and copies, and what clients ask first, in memory of which one allocation fails: one of them
-//! isn't answered, or is answered with a storage error, and changes nothing; made again it is answered as it should be.
+//! isn't answered, or is answered with a storage error, and what takes no memory answers as before; made again it is
+//! answered as it should be.
 
-use crate::tests::brokers::new_node;
+use crate::tests::brokers::{CONFIGURED, answers_of, has_answers, new_node};
 use crate::tests::exchanges::{
     CLEAN, COMMIT, COORDINATOR, DELIVER, DELTA, Exchange, FORGET, IMAGE, MERGE, PATCH, POSITION,
     PRODUCER_ID, SEEN, STORE, TAKE, TRIM, VALUE, VERSIONS,
 };
+use crate::tests::stores::{BOTH, Kept};
 use broker_core::{GROUP_TOPIC, Node, Role};
 use refusing_alloc::Refusing;
 use request_frames::parse;
-use segment::{BatchStore, ProgramStore};
-use std::alloc::{AllocError, Allocator};
+use segment::{BatchStore, SegStore, VecStore};
+use std::alloc::Allocator;
 
 /// What a broker is asked, in this order, and the ends of partition 0 of `t`, of `u` and of the topic of groups then.
 struct Run {
@@ -49,52 +51,13 @@ static OF_A_FOLLOWER: Run = Run {
 /// More allocations than all requests ask for.
 const MOST: u64 = 200;
 
-/// Appends ranges of offsets.
-fn put_ranges<B: Allocator + Copy>(
-    out: &mut Vec<u8, B>,
-    ranges: &[(i64, i64)],
-) -> Result<(), AllocError> {
-    for (first, last) in ranges {
-        out.extend_from_slice(&first.to_be_bytes())?;
-        out.extend_from_slice(&last.to_be_bytes())?;
+/// How many bytes the requests have.
+fn given(run: &Run) -> usize {
+    let mut bytes = CONFIGURED;
+    for exchange in run.exchanges {
+        bytes = bytes.saturating_add(exchange.request.len());
     }
-    Ok(())
-}
-
-/// Appends the number of batches that partition 0 of a topic keeps, these, and the ranges of the offsets seen.
-fn put_partition<S: BatchStore, B: Allocator + Copy>(
-    out: &mut Vec<u8, B>,
-    node: &Node<S>,
-    topic: &[u8],
-) -> Result<(), AllocError> {
-    let Some(log) = node.log(topic, 0) else {
-        return Ok(());
-    };
-    out.extend_from_slice(&log.len().to_be_bytes())?;
-    for i in 0..log.len() {
-        out.extend_from_slice(log.bytes_of(i))?;
-    }
-    put_ranges(out, log.cover().ranges())
-}
-
-/// What the partitions hold that the requests name, as bytes.
-fn kept<S: BatchStore, B: Allocator + Copy>(
-    alloc: B,
-    node: &Node<S>,
-) -> Result<Vec<u8, B>, AllocError> {
-    let mut out = Vec::new(alloc);
-    put_partition(&mut out, node, b"t")?;
-    put_partition(&mut out, node, b"u")?;
-    put_partition(&mut out, node, GROUP_TOPIC)?;
-    Ok(out)
-}
-
-/// Whether they hold the same.
-fn keeps<S: BatchStore, B: Allocator + Copy>(alloc: B, node: &Node<S>, wanted: &[u8]) -> bool {
-    match kept(alloc, node) {
-        Ok(bytes) => bytes.as_slice() == wanted,
-        Err(_) => false,
-    }
+    bytes
 }
 
 /// Whether a request is answered, with what stands behind the output.
@@ -141,21 +104,21 @@ fn once<S: BatchStore, A: Allocator + Copy>(
     }
 }
 
-/// Sends a request, and again where memory lacked, which must have changed nothing.
+/// Sends a request, and again where memory lacked, which must have changed no answer.
 fn sent<S: BatchStore, A: Allocator + Copy, B: Allocator + Copy>(
     heap: A,
     alloc: B,
     node: &mut Node<S>,
     exchange: &Exchange,
 ) -> Came {
-    let Ok(before) = kept(alloc, node) else {
+    let Ok(before) = answers_of(alloc, node) else {
         return Came::Wrong;
     };
     let came = once(heap, node, exchange);
     if came == Came::Answered || came == Came::Wrong {
         return came;
     }
-    let is_same = keeps(alloc, node, &before);
+    let is_same = has_answers(alloc, node, &before);
     let again = once(heap, node, exchange);
     if is_same && again == Came::Answered {
         came
@@ -205,19 +168,43 @@ fn lacking<S: BatchStore, B: Allocator + Copy>(heap: S::Alloc, alloc: B, run: &R
     }
 }
 
-/// The same where this allocation fails, and whether it is asked for.
-fn lacking_without<A: Allocator + Copy>(inner: A, refused: u64, run: &Run) -> (Option<u32>, bool) {
+/// The same of a broker that keeps batches so.
+fn lacking_in<A: Allocator + Copy, B: Allocator + Copy>(
+    kept: Kept,
+    heap: A,
+    alloc: B,
+    run: &Run,
+) -> Option<u32> {
+    match kept {
+        Kept::Apart => lacking::<VecStore<A>, B>(heap, alloc, run),
+        Kept::EndToEnd => lacking::<SegStore<A>, B>(heap, alloc, run),
+    }
+}
+
+/// The same where this allocation fails, and whether it is asked for; none where more is asked for at once than what was
+/// given allows.
+fn lacking_without<A: Allocator + Copy>(
+    inner: A,
+    kept: Kept,
+    refused: u64,
+    run: &Run,
+) -> (Option<u32>, bool) {
     let heap = Refusing::new(inner, refused);
-    let bits = lacking::<ProgramStore<_>, _>(&heap, inner, run);
-    (bits, heap.calls() >= refused)
+    let bits = lacking_in(kept, &heap, inner, run);
+    let is_asked = heap.calls() >= refused;
+    if heap.is_within(given(run)) {
+        (bits, is_asked)
+    } else {
+        (None, is_asked)
+    }
 }
 
 /// The bits of all requests that lack memory where one allocation fails, whichever that is; none where something else
 /// comes of one, or memory lacks though no allocation fails.
-fn all_lacking<A: Allocator + Copy>(inner: A, run: &Run) -> Option<u32> {
+fn all_lacking<A: Allocator + Copy>(inner: A, kept: Kept, run: &Run) -> Option<u32> {
     let mut all = 0_u32;
     for refused in 1..MOST {
-        let (bits, is_asked) = lacking_without(inner, refused, run);
+        let (bits, is_asked) = lacking_without(inner, kept, refused, run);
         all |= bits?;
         if !is_asked {
             return if bits == Some(0) { Some(all) } else { None };
@@ -228,9 +215,11 @@ fn all_lacking<A: Allocator + Copy>(inner: A, run: &Run) -> Option<u32> {
 
 #[test]
 fn each_request_lacks_memory_once(rt: HostRuntime) {
-    let leads = all_lacking(rt.alloc(), &OF_A_LEADER);
-    let follows = all_lacking(rt.alloc(), &OF_A_FOLLOWER);
-    // both bits of each, but for Get, Cover, Trim, and the three that clients ask first, whose work takes none
-    assert_eq!(rt; leads, Some(0b01_01_01_11_11_01_11_11_11_01_01_11_11_11));
-    assert_eq!(rt; follows, Some(0b01_11_11_11));
+    for kept in BOTH {
+        let leads = all_lacking(rt.alloc(), kept, &OF_A_LEADER);
+        let follows = all_lacking(rt.alloc(), kept, &OF_A_FOLLOWER);
+        // both bits of each, but for Get, Cover, Trim, and the three that clients ask first, whose work takes none
+        assert_eq!(rt; leads, Some(0b01_01_01_11_11_01_11_11_11_01_01_11_11_11));
+        assert_eq!(rt; follows, Some(0b01_11_11_11));
+    }
 }

@@ -181,3 +181,41 @@ fn many_requests_in_few_allocations(rt: HostRuntime) -> Result<(), Fail> {
     assert!(rt; is_answered && calls < 40, "{calls} allocations");
     Ok(())
 }
+
+/// The room for two reads.
+pub(crate) const READ_ROOM: usize = 2 * 65_536;
+
+/// How many bytes a frame announces, how many of them come, and how many bytes may be asked for at once: room for two
+/// reads, or four times what came.
+static ANNOUNCED: [(u32, u32, usize); 4] = [
+    (8_388_608, 0, READ_ROOM),
+    (8_388_608, 10, READ_ROOM),
+    (8_388_608, 30_000, READ_ROOM),
+    (8_388_608, 100_000, 4 * 100_004),
+];
+
+/// What comes of a session of a frame that ends before its announced end, and how many bytes are asked for at once.
+fn largest_of<S: BatchStore>(inner: S::Alloc, input: &[u8]) -> Option<(Came, usize)> {
+    let heap = Refusing::new(inner, 0);
+    let mut node = leader::<S>(inner).ok()?;
+    let came = session(
+        &heap,
+        &mut node,
+        reader_of(input, 10_000),
+        writer_of(b"", 100),
+    );
+    Some((came, heap.largest()))
+}
+
+#[test]
+fn a_size_that_is_announced_takes_no_memory(rt: HostRuntime) -> Result<(), Fail> {
+    for (announced, count, most) in &ANNOUNCED {
+        let input = repeated(rt.alloc(), &announced.to_be_bytes(), b"x", *count)?;
+        let came = largest_of::<ProgramStore<_>>(rt.alloc(), &input);
+        let is_right = came.is_some_and(|(came, largest)| {
+            (came.0, came.1, came.2) == ("ended", 0, input.len()) && largest <= *most
+        });
+        assert!(rt; is_right, "{count}: {came:?}");
+    }
+    Ok(())
+}

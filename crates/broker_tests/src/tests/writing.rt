@@ -65,6 +65,7 @@ fn the_allocation_of_each_part_failing(rt: HostRuntime) {
         let heap = Refusing::new(rt.alloc(), 2);
         let is_as_told = fails_once(&heap, part, wanted);
         assert_eq!(rt; (is_as_told, heap.calls()), (true, 3), "part {part}");
+        assert!(rt; heap.is_within(3 + wanted.len()), "part {part}");
     }
 }
 
