@@ -13,7 +13,7 @@ use streams::{FillError, Source, fill};
 /// How many bytes a frame's size field takes.
 const SIZE_BYTES: usize = 4;
 
-/// How many bytes an incomplete first frame lacks, and all while its size isn't there.
+/// How many bytes an incomplete first frame lacks; the most that there are while its size isn't there.
 fn lacking(held: &[u8]) -> usize
     ensures { 0 < result }
 {

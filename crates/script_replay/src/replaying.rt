@@ -1,6 +1,6 @@
 //! Scripts, replayed over a cluster.
 
-ghost use Rattle.std.specs.Prelude.{◌≡◌, ◌+◌, ◌^◌, ◌≤◌, IsErrOf, OnOk};
+ghost use Rattle.std.specs.Prelude.{◌≡◌, ◌+◌, ◌^◌, ◌≤◌, false, IsErrOf, OnOk};
 
 use crate::error::ReplayError;
 use crate::items::{Items, encode_items};
@@ -192,6 +192,7 @@ fn do_lines<S: BatchStore, R: Read, W: Write>(
     printer: &mut Printer<'_, W, S::Alloc>,
 ) -> Result<(), ReplayError>
     ensures few_reads { source.new.reads ≤ source.old.reads + script.old.reads_left }
+    ensures fails_no_read { OnOk result (source.new.failed ≡ false) }
     ensures only_a_read_error_fails_the_source { ¬ IsErrOf result ReplayError.Read
         → source.new.failed ≡ source.old.failed }
 {
@@ -218,6 +219,7 @@ fn do_script<S: BatchStore, R: Read, W: Write>(
     printer: &mut Printer<'_, W, S::Alloc>,
 ) -> Result<(), ReplayError>
     ensures few_reads { source.new.reads ≤ source.old.reads + 2 ^ 32 }
+    ensures fails_no_read { OnOk result (source.new.failed ≡ false) }
     ensures only_a_read_error_fails_the_source { ¬ IsErrOf result ReplayError.Read
         → source.new.failed ≡ source.old.failed }
 {
@@ -245,7 +247,7 @@ pub fn replay<S: BatchStore, R: Read, W: Write>(
     sink: &mut Sink<W>,
 ) -> Result<(), ReplayError>
     ensures few_reads { source.new.reads ≤ source.old.reads + 2 ^ 32 }
-    ensures no_read_failed { OnOk result (source.new.failed ≡ source.old.failed) }
+    ensures fails_no_read { OnOk result (source.new.failed ≡ false) }
 {
     let Ok(mut printer) = Printer::new(alloc, sink) else {
         return Err(ReplayError::OutOfMemory);

@@ -1,6 +1,6 @@
 //! A script, read in pieces and cut into lines.
 
-ghost use Rattle.std.specs.Prelude.{◌≡◌, ◌+◌, ◌^◌, ◌≤◌, IsErrOf};
+ghost use Rattle.std.specs.Prelude.{◌≡◌, ◌+◌, ◌^◌, ◌≤◌, false, None, IfOk, IsErrOf, OnOk};
 
 use bytes::BytesMut;
 use std::alloc::Allocator;
@@ -50,6 +50,7 @@ impl<A: Allocator + Copy> Script<A> {
             ≤ source.old.reads + self.old.reads_left }
         ensures only_a_read_error_sets_the_flag { ¬ IsErrOf result FillError.Read
             → source.new.failed ≡ source.old.failed }
+        ensures fails_no_read { OnOk result (source.new.failed ≡ false) }
     {
         if self.reads_left == 0 {
             return Err(FillError::Read);
@@ -68,8 +69,11 @@ impl<A: Allocator + Copy> Script<A> {
             ≤ source.old.reads + self.old.reads_left }
         ensures only_a_read_error_sets_the_flag { ¬ IsErrOf result FillError.Read
             → source.new.failed ≡ source.old.failed }
+        ensures fails_no_read_at_the_end { IfOk result (λ size. size ≡ None
+            → source.new.failed ≡ false) }
     {
-        for _ in 0..MOST_READS {
+        // Once more than the most reads, for a line that the last one brings.
+        for _ in 0..MOST_READS + 1 {
             match self.find_end() {
                 Some(size) => return Ok(Some(size)),
                 None => {}

@@ -1,6 +1,7 @@
 //! The answers of calls that failed.
 
-/// A call of a reader or a writer failed. The source or sink that made the call has its flag set.
+/// A call of a reader or a writer failed, or it was a read beyond 2^64 - 1, or a call had failed before. The
+/// source or sink has its flag set.
 ///
 /// It doesn't say how the call failed, and has no text of its own.
 ///

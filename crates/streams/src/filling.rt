@@ -1,6 +1,6 @@
 //! A buffer that grows, and is filled from a source.
 
-ghost use Rattle.std.specs.Prelude.{◌≡◌, ◌+◌, ◌^◌, ◌<◌, ◌≤◌, length, IfErr, IfOk, IsErrOf, MatchBool, OnErr, OnOk};
+ghost use Rattle.std.specs.Prelude.{◌≡◌, ◌+◌, ◌^◌, ◌<◌, ◌≤◌, true, length, IfErr, IfOk, IsErrOf, MatchBool, OnErr, OnOk};
 ghost use Rattle.streams.specs.State.{ReadsOnce, ReadsMore, ReadsEnd, StopsFilling};
 
 use crate::{FillError, Source};
@@ -8,7 +8,7 @@ use bytes::BytesMut;
 use std::alloc::{AllocError, Allocator};
 use std::io::Read;
 
-/// The most reads of one input: a session, a table, a merge and a script stop at so many.
+/// The most reads of one call: a session, a table, a merge and a script stop at so many.
 pub const MOST_READS: u64 = 4_294_967_296;
 
 /// The room for a read, in bytes, where no fewer are lacking.
@@ -32,10 +32,10 @@ fn make_room<A: Allocator + Copy>(
 }
 
 /// Makes one read of a source behind the bytes of a buffer, which grows where there is no room, and
-/// tells whether any came, or the end of input. `lacking` is how many bytes whoever takes them knows to
-/// lack: `usize::MAX` if that isn't known. Room is made for these, but for no more than 64 KiB or what
-/// the buffer holds already: so memory is taken only as bytes come, and as the room doubles, each byte
-/// is moved a few times over all reads.
+/// tells whether any came, or the end of input. `lacking` is how many more bytes are needed, as far as
+/// the caller knows: `usize::MAX` if it doesn't. Room is made for these, but for no more than 64 KiB or
+/// what the buffer holds already: so memory is taken only as bytes come, and as the room doubles, each
+/// byte is moved a few times over all reads.
 ///
 /// ```
 /// let mut held = BytesMut::new(alloc);
@@ -53,7 +53,6 @@ pub fn fill<R: Read, A: Allocator + Copy>(
     buffer: &mut BytesMut<A>,
     lacking: usize,
 ) -> Result<bool, FillError>
-    requires { 0 < lacking }
     ensures fills { IfOk result (λ more. MatchBool more
         (ReadsMore source.old source.new buffer.old.items buffer.new.items)
         (ReadsEnd source.old source.new buffer.old.items buffer.new.items)) }
@@ -64,11 +63,12 @@ pub fn fill<R: Read, A: Allocator + Copy>(
     ensures unchanged_on_error { OnErr result (buffer.new.items ≡ buffer.old.items) }
     ensures only_a_read_error_sets_the_flag { ¬ IsErrOf result FillError.Read
         → source.new.failed ≡ source.old.failed }
+    ensures unread_once_failed { source.old.failed ≡ true → source.new ≡ source.old }
 {
     if source.failed() {
         return Err(FillError::Read);
     }
-    if make_room(buffer, lacking).is_err() {
+    if make_room(buffer, lacking.max(1)).is_err() {
         return Err(FillError::OutOfMemory);
     }
     let held = buffer.len();

@@ -7,7 +7,8 @@
 //! # What counts as a failure
 //!
 //! Every error of the reader or writer, one of the kind `Interrupted` included, and a write that
-//! takes 0 bytes. A read that gives 0 bytes is the end of input, and no failure.
+//! takes 0 bytes. A read that gives 0 bytes is the end of input, and no failure. Behind 2^64 - 1 reads one
+//! more fails too, and isn't made.
 //!
 //! ```
 //! let mut source = Source::new(reader);

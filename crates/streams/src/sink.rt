@@ -139,6 +139,7 @@ impl<W: Write> Sink<W> {
         ensures loses_rest { OnErr result (LosesRest self.old.taken self.new.taken bytes.now) }
         ensures keeps_flag { OnOk result (self.new.failed ≡ self.old.failed) }
         ensures sets_flag { OnErr result (self.new.failed ≡ true) }
+        ensures unused_once_failed { self.old.failed ≡ true → self.new ≡ self.old }
     {
         if bytes.is_empty() {
             return Ok(());
@@ -157,7 +158,7 @@ impl<W: Write> Sink<W> {
     pub fn finish(&mut self) -> Result<(), Failed>
         ensures keeps { Keeps self.old.taken self.new.taken }
         ensures tells_failure { self.new.failed ≡ is_err result }
-        ensures stays_failed { self.old.failed ≡ true → self.new.failed ≡ true }
+        ensures unused_once_failed { self.old.failed ≡ true → self.new ≡ self.old }
         ensures keeps_flag { OnOk result (self.new.failed ≡ self.old.failed) }
     {
         if self.failed {

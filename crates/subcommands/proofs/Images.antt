@@ -1,14 +1,14 @@
 -- Images that come in, read by read, and the one that goes out.
-use Rattle.std.proofs.Common.{◌≡◌, ℕ, ◌+◌, ◌^◌, true, false, List, [], inr, refl, sym, subst, arith}
+use Rattle.std.proofs.Common.{◌≡◌, ℕ, ◌+◌, ◌^◌, true, false, List, [], inl, inr, refl, sym, subst, arith}
 use Rattle.std.specs.Io.KnownBytes.{Appends, Consumes, Keeps}
-use Rattle.std.proofs.KnownBytes.{Consumes-nil, Consumes-trans, Appends-kept}
+use Rattle.std.proofs.KnownBytes.{Consumes-nil, Consumes-trans, Consumes-kept, Appends-kept}
 use Rattle.std.proofs.lemmas.List.{append-nil}
 use Rattle.image_merge.specs.Merging.{MergesImages}
 use Rattle.streams.specs.declared.failed.FillError.TheVariants as fill
-use Rattle.streams.specs.State.{SourceState, SinkState, ReadsOnce, ReadsMore, ReadsEnd, LosesRest, TakesAllBut}
+use Rattle.streams.specs.State.{SourceState, SinkState, ReadsOnce, ReadsMore, ReadsEnd, StopsFilling, LosesRest, TakesAllBut}
 use Rattle.subcommands.specs.declared.error.ImagesError.{ImagesError}
 use Rattle.subcommands.specs.declared.error.ImagesError.TheVariants.{Images, Read, Write, OutOfMemory}
-use Rattle.subcommands.specs.Input.{Holds, StopsReading, CutsImage}
+use Rattle.subcommands.specs.Input.{Holds, StopsImages, CutsImage}
 use Rattle.subcommands.specs.Tables.{ReadsAll}
 use Rattle.subcommands.specs.Merges.{FailsMerge}
 use Rattle.subcommands.proofs.Streams.{reads_all}
@@ -31,8 +31,14 @@ pub all_held : (source mid source' : SourceState) (waiting held : List ℕ) (rea
 all_held source mid source' waiting held reads read end =
     subst (ReadsAll source.left source'.left) (sym end.2) (reads_all source.left mid.left source'.left waiting read.consumes end.0 end.1)
 
-pub reads_out : (source source' : SourceState) (waiting : List ℕ) (reads : ℕ) → Holds source source' waiting reads → reads ≡ 2 ^ 32 → StopsReading source source' Read
-reads_out source source' waiting reads read all = inr (omega (arith, read.counts, all))
+-- a read failed
+pub read_stopped : (source mid source' : SourceState) (waiting : List ℕ) (reads : ℕ) → Holds source mid waiting reads → StopsFilling mid source' fill.Read → StopsImages source source' Read
+read_stopped source mid source' waiting reads read stops =
+    ((waiting, Consumes-kept source.left mid.left source'.left waiting read.consumes stops.0), inl stops.1)
+
+-- all reads were made
+pub reads_out : (source source' : SourceState) (waiting : List ℕ) (reads : ℕ) → Holds source source' waiting reads → reads ≡ 2 ^ 32 → StopsImages source source' Read
+reads_out source source' waiting reads read all = ((waiting, read.consumes), inr (omega (arith, read.counts, all)))
 
 -- ---- the image
 
@@ -50,9 +56,9 @@ image_unflushed image sink mid sink' failed appends keeps =
 
 -- ---- why no image is printed
 
-pub reading_fails : (source source' : SourceState) (sink : SinkState) (e : ImagesError) → StopsReading source source' e → FailsMerge source source' sink sink e
+pub reading_fails : (source source' : SourceState) (sink : SinkState) (e : ImagesError) → StopsImages source source' e → FailsMerge source source' sink sink e
 reading_fails source source' sink (Images why) stops = absurd stops
-reading_fails source source' sink Read stops = (stops, refl)
+reading_fails source source' sink Read stops = (stops.0, stops.1, refl)
 reading_fails source source' sink Write stops = absurd stops
 reading_fails source source' sink OutOfMemory stops = (stops, refl)
 

@@ -11,7 +11,7 @@ use Rattle.streams.specs.State.{SourceState, SinkState, ReadsOnce, ReadsMore, Re
 use Rattle.subcommands.specs.declared.error.Refusal.TheVariants.{View}
 use Rattle.subcommands.specs.declared.error.TableError.{TableError}
 use Rattle.subcommands.specs.declared.error.TableError.TheVariants.{Batch, Read, Write, OutOfMemory}
-use Rattle.subcommands.specs.Input.{TakesBatches, HasTaken, Takes, ReadsCopy, StopsTaking, StopsIntake, StopsPrinting}
+use Rattle.subcommands.specs.Input.{TakesBatches, HasTaken, Takes, ReadsCopy, StopsBatch, StopsIntake, StopsPrinting}
 use Rattle.subcommands.specs.Tables.{stream, content_lines, PrintsTable}
 use Rattle.subcommands.specs.Refused.{FailsTable}
 use Rattle.subcommands.proofs.Streams.{nothing_taken, batches_taken, piece_taken}
@@ -77,14 +77,14 @@ reads_out source source' c count waiting reads read all = (
 )
 
 -- a batch isn't taken
-next_stopped : (source source' : SourceState) (c : Content) (count : ℕ) (waiting : List ℕ) (e : TableError) → HasTaken source.left source'.left c count waiting → source'.failed ≡ false → StopsTaking c count waiting e → StopsIntake source source' e
+next_stopped : (source source' : SourceState) (c : Content) (count : ℕ) (waiting : List ℕ) (e : TableError) → HasTaken source.left source'.left c count waiting → source'.failed ≡ false → StopsBatch c count waiting e → StopsIntake source source' e
 next_stopped source source' c count waiting (Batch index why) read fine stops = (next_refused source.left source'.left waiting c count read index why stops, fine)
 next_stopped source source' c count waiting Read read fine stops = absurd stops
 next_stopped source source' c count waiting Write read fine stops = absurd stops
 next_stopped source source' c count waiting OutOfMemory read fine stops = fine
 
 pub taking_stopped : (source mid source' : SourceState) (c c' : Content) (count count' : ℕ) (waiting held held' : List ℕ) (reads : ℕ) (e : TableError)
-    → Takes source mid c count waiting reads → ReadsMore mid source' waiting held → ReadsOnce mid source' → TakesBatches held held' c c' count count' → StopsTaking c' count' held' e
+    → Takes source mid c count waiting reads → ReadsMore mid source' waiting held → ReadsOnce mid source' → TakesBatches held held' c c' count count' → StopsBatch c' count' held' e
     → StopsIntake source source' e
 taking_stopped source mid source' c c' count count' waiting held held' reads e read more once taken stops =
     next_stopped source source' c' count' held' e

@@ -27,7 +27,7 @@ table_done source source' sink sink' n is prints none = record {
   prints_table = λ _. prints;
   fails_nothing = λ _. none;
   has_first_refused = λ one. absurd (omega (arith, is, one));
-  out_of_memory_prints_nothing = λ three. absurd (omega (arith, is, three));
+  out_of_memory = λ three. absurd (omega (arith, is, three));
   fails = λ four. absurd (omega (arith, is, four));
 }
 
@@ -37,7 +37,7 @@ table_failed source source' sink sink' (table.Batch index why) n fails is = reco
   prints_table = λ zero. absurd (omega (arith, is, zero));
   fails_nothing = λ zero. absurd (omega (arith, is, zero));
   has_first_refused = λ _. (index, why, fails);
-  out_of_memory_prints_nothing = λ three. absurd (omega (arith, is, three));
+  out_of_memory = λ three. absurd (omega (arith, is, three));
   fails = λ four. absurd (omega (arith, is, four));
 }
 table_failed source source' sink sink' table.Read n fails is = record {
@@ -45,7 +45,7 @@ table_failed source source' sink sink' table.Read n fails is = record {
   prints_table = λ zero. absurd (omega (arith, is, zero));
   fails_nothing = λ zero. absurd (omega (arith, is, zero));
   has_first_refused = λ one. absurd (omega (arith, is, one));
-  out_of_memory_prints_nothing = λ three. absurd (omega (arith, is, three));
+  out_of_memory = λ three. absurd (omega (arith, is, three));
   fails = λ _. inl fails;
 }
 table_failed source source' sink sink' table.Write n fails is = record {
@@ -53,7 +53,7 @@ table_failed source source' sink sink' table.Write n fails is = record {
   prints_table = λ zero. absurd (omega (arith, is, zero));
   fails_nothing = λ zero. absurd (omega (arith, is, zero));
   has_first_refused = λ one. absurd (omega (arith, is, one));
-  out_of_memory_prints_nothing = λ three. absurd (omega (arith, is, three));
+  out_of_memory = λ three. absurd (omega (arith, is, three));
   fails = λ _. inr fails;
 }
 table_failed source source' sink sink' table.OutOfMemory n fails is = record {
@@ -61,7 +61,7 @@ table_failed source source' sink sink' table.OutOfMemory n fails is = record {
   prints_table = λ zero. absurd (omega (arith, is, zero));
   fails_nothing = λ zero. absurd (omega (arith, is, zero));
   has_first_refused = λ one. absurd (omega (arith, is, one));
-  out_of_memory_prints_nothing = λ _. fails.1;
+  out_of_memory = λ _. inr fails;
   fails = λ four. absurd (omega (arith, is, four));
 }
 
@@ -72,7 +72,7 @@ table_out_of_memory source sink sink' n is same = record {
   prints_table = λ zero. absurd (omega (arith, is, zero));
   fails_nothing = λ zero. absurd (omega (arith, is, zero));
   has_first_refused = λ one. absurd (omega (arith, is, one));
-  out_of_memory_prints_nothing = λ _. same;
+  out_of_memory = λ _. inl (refl, same);
   fails = λ four. absurd (omega (arith, is, four));
 }
 
@@ -84,7 +84,7 @@ merge_done source source' sink sink' n is prints none = record {
   prints_the_merge = λ _. prints;
   fails_nothing = λ _. none;
   has_a_first_fault = λ one. absurd (omega (arith, is, one));
-  out_of_memory_prints_nothing = λ three. absurd (omega (arith, is, three));
+  out_of_memory = λ three. absurd (omega (arith, is, three));
   fails = λ four. absurd (omega (arith, is, four));
 }
 
@@ -94,7 +94,7 @@ merge_failed source source' sink sink' (images.Images why) n fails is = record {
   prints_the_merge = λ zero. absurd (omega (arith, is, zero));
   fails_nothing = λ zero. absurd (omega (arith, is, zero));
   has_a_first_fault = λ _. (why, fails);
-  out_of_memory_prints_nothing = λ three. absurd (omega (arith, is, three));
+  out_of_memory = λ three. absurd (omega (arith, is, three));
   fails = λ four. absurd (omega (arith, is, four));
 }
 merge_failed source source' sink sink' images.Read n fails is = record {
@@ -102,7 +102,7 @@ merge_failed source source' sink sink' images.Read n fails is = record {
   prints_the_merge = λ zero. absurd (omega (arith, is, zero));
   fails_nothing = λ zero. absurd (omega (arith, is, zero));
   has_a_first_fault = λ one. absurd (omega (arith, is, one));
-  out_of_memory_prints_nothing = λ three. absurd (omega (arith, is, three));
+  out_of_memory = λ three. absurd (omega (arith, is, three));
   fails = λ _. inl fails;
 }
 merge_failed source source' sink sink' images.Write n fails is = record {
@@ -110,7 +110,7 @@ merge_failed source source' sink sink' images.Write n fails is = record {
   prints_the_merge = λ zero. absurd (omega (arith, is, zero));
   fails_nothing = λ zero. absurd (omega (arith, is, zero));
   has_a_first_fault = λ one. absurd (omega (arith, is, one));
-  out_of_memory_prints_nothing = λ three. absurd (omega (arith, is, three));
+  out_of_memory = λ three. absurd (omega (arith, is, three));
   fails = λ _. inr fails;
 }
 merge_failed source source' sink sink' images.OutOfMemory n fails is = record {
@@ -118,7 +118,7 @@ merge_failed source source' sink sink' images.OutOfMemory n fails is = record {
   prints_the_merge = λ zero. absurd (omega (arith, is, zero));
   fails_nothing = λ zero. absurd (omega (arith, is, zero));
   has_a_first_fault = λ one. absurd (omega (arith, is, one));
-  out_of_memory_prints_nothing = λ _. fails.1;
+  out_of_memory = λ _. inr fails;
   fails = λ four. absurd (omega (arith, is, four));
 }
 
@@ -129,38 +129,41 @@ merge_out_of_memory source sink sink' n is same = record {
   prints_the_merge = λ zero. absurd (omega (arith, is, zero));
   fails_nothing = λ zero. absurd (omega (arith, is, zero));
   has_a_first_fault = λ one. absurd (omega (arith, is, one));
-  out_of_memory_prints_nothing = λ _. same;
+  out_of_memory = λ _. inl (refl, same);
   fails = λ four. absurd (omega (arith, is, four));
 }
 
 -- ---- a session
 
-pub session_done : (g : ConfigValue) (s after : State) (source source' : SourceState) (sink sink' : SinkState) (n : ℕ) → s ≡ new_state g → n ≡ 0
+pub session_done : (g : ConfigValue) (s after : State) (source source' : SourceState) (sink sink' : SinkState) (n : ℕ) → IsValidConfig g → s ≡ new_state g → n ≡ 0
     → AnswersFrom s source.left source'.left sink.taken sink'.taken after → HasFailedNone source' sink' → RunsSession g source source' sink sink' n
-session_done g s after source source' sink sink' n new is answers none = record {
+session_done g s after source source' sink sink' n valid new is answers none = record {
   answers = λ _. (after, subst (λ (k : State). AnswersFrom k source.left source'.left sink.taken sink'.taken after) new answers);
   fails_nothing = λ _. none;
   refuses = λ one. absurd (omega (arith, is, one));
+  is_valid = λ _. valid;
   is_faulty = λ two. absurd (omega (arith, is, two));
   fails = λ some _. absurd (some is);
 }
 
-pub session_failed : (g : ConfigValue) (s after : State) (source source' : SourceState) (sink sink' : SinkState) (why : SessionFault) (n : ℕ) → s ≡ new_state g → n ≡ session_status why
+pub session_failed : (g : ConfigValue) (s after : State) (source source' : SourceState) (sink sink' : SinkState) (why : SessionFault) (n : ℕ) → IsValidConfig g → s ≡ new_state g → n ≡ session_status why
     → (session_status why ≡ 1 → RefusesFrom s source.left source'.left sink.taken sink'.taken after) → FailsAs s source source' sink sink' after why → RunsSession g source source' sink sink' n
-session_failed g s after source source' sink sink' why n new is refuses fails = record {
+session_failed g s after source source' sink sink' why n valid new is refuses fails = record {
   answers = λ zero. absurd ((failed_status why n is).1 zero);
   fails_nothing = λ zero. absurd ((failed_status why n is).1 zero);
   refuses = λ one. (after, subst (λ (k : State). RefusesFrom k source.left source'.left sink.taken sink'.taken after) new (refuses (sym is ∙ one)));
+  is_valid = λ _. valid;
   is_faulty = λ two. absurd ((failed_status why n is).2 two);
   fails = λ _ _. inr (why, sym is, (after, subst (λ (k : State). FailsAs k source source' sink sink' after why) new fails));
 }
 
 -- there is no broker of the configuration
-pub session_refused : (g : ConfigValue) (source : SourceState) (sink : SinkState) (n : ℕ) → (2 ≤ n) × (n ≤ 3) → (IsValidConfig g → n ≢ 2) → RunsSession g source source sink sink n
-session_refused g source sink n is valid = record {
+pub session_refused : (g : ConfigValue) (source : SourceState) (sink : SinkState) (n : ℕ) → (2 ≤ n) × (n ≤ 3) → (IsValidConfig g → n ≢ 2) → (n ≢ 2 → IsValidConfig g) → RunsSession g source source sink sink n
+session_refused g source sink n is valid other_valid = record {
   answers = λ zero. absurd (omega (arith, is.0, zero));
   fails_nothing = λ zero. absurd (omega (arith, is.0, zero));
   refuses = λ one. absurd (omega (arith, is.0, one));
+  is_valid = other_valid;
   is_faulty = λ two. (λ ok. valid ok two, (refl, refl));
   fails = λ _ other. inl (omega (arith, is.0, is.1, other), (refl, refl));
 }

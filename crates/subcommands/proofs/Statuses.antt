@@ -50,6 +50,16 @@ refused_config k config.BadTopic n fault memory other = faulty_config k config.B
 refused_config k config.BadPartitions n fault memory other = faulty_config k config.BadPartitions n fault (other other_partitions)
 refused_config k config.TopicTwice n fault memory other = faulty_config k config.TopicTwice n fault (other other_twice)
 
+-- where the status isn't 2, memory is all that is wanting
+pub valid_config : (k : ConfigValue) (why : ConfigError) (n : ℕ) → ConfigFault k why → (why ≢ config.OutOfMemory → n ≡ 2) → n ≢ 2 → IsValidConfig k
+valid_config k config.OutOfMemory n fault other some = fault
+valid_config k config.BadHost n fault other some = absurd (some (other other_host))
+valid_config k config.TooManyTopics n fault other some = absurd (some (other other_many))
+valid_config k config.BadFirstProducer n fault other some = absurd (some (other other_producer))
+valid_config k config.BadTopic n fault other some = absurd (some (other other_topic))
+valid_config k config.BadPartitions n fault other some = absurd (some (other other_partitions))
+valid_config k config.TopicTwice n fault other some = absurd (some (other other_twice))
+
 -- ---- a session that is no success
 
 is_failure : (why : SessionFault) → (session_status why ≤ 4) × (session_status why ≢ 0) × (session_status why ≢ 2)

@@ -35,10 +35,10 @@ pub record TakesBatches (waiting waiting' : List ℕ) (c c' : Content) (count co
   pub counts : count' ≡ count + length batches
 
 -- why the batch at the front of the bytes isn't taken, after so many
-abbrev pub StopsTaking : Content → ℕ → List ℕ → TableError → Type 0
-StopsTaking c count bytes (Batch index why) = RefusesNext c count bytes index why
-StopsTaking c count bytes OutOfMemory = ⊤
-StopsTaking c count bytes _ = ⊥
+abbrev pub StopsBatch : Content → ℕ → List ℕ → TableError → Type 0
+StopsBatch c count bytes (Batch index why) = RefusesNext c count bytes index why
+StopsBatch c count bytes OutOfMemory = ⊤
+StopsBatch c count bytes _ = ⊥
 
 -- ---- the input
 
@@ -85,10 +85,10 @@ pub record Holds (source source' : SourceState) (waiting : List ℕ) (reads : �
   pub counts : source'.reads ≡ source.reads + reads
 
 -- why the input isn't read to its end
-abbrev pub StopsReading : (source source' : SourceState) → ImagesError → Type 0
-StopsReading source source' images.Read = IsReadOut source source'
-StopsReading source source' images.OutOfMemory = source'.failed ≡ false
-StopsReading source source' _ = ⊥
+abbrev pub StopsImages : (source source' : SourceState) → ImagesError → Type 0
+StopsImages source source' images.Read = ((input : List ℕ) × Consumes source.left source'.left input) × IsReadOut source source'
+StopsImages source source' images.OutOfMemory = source'.failed ≡ false
+StopsImages source source' _ = ⊥
 
 -- an image isn't printed, or not all of it
 abbrev pub CutsImage : List ℕ → (sink sink' : SinkState) → ImagesError → Type 0

@@ -1,6 +1,6 @@
 -- What merging two images does, from the bytes that come in to the bytes that go out.
 use Rattle.std.specs.Prelude.{◌≡◌, ◌≢◌, ℕ, true, false, List, Option}
-use Rattle.std.specs.Io.KnownBytes.{Appends}
+use Rattle.std.specs.Io.KnownBytes.{Consumes, Appends}
 use Rattle.image_merge.specs.declared.error.MergeFault.{MergeFault}
 use Rattle.image_merge.specs.declared.error.MergeFault.TheVariants as fault
 use Rattle.image_merge.specs.Merging.{MergesImages, RefusesPair}
@@ -22,11 +22,13 @@ abbrev pub RefusesImages : (left left' : Option (List ℕ)) → MergeFault → T
 RefusesImages left left' why =
     (input : List ℕ) × ReadsAll left left' input × RefusesPair input why × (why ≢ fault.OutOfMemory)
 
--- Why no image is printed. Unless a write failed, the sink is as it was; and the source fails only where a read did.
+-- Why an image is not printed, or not all of it, or not flushed. Unless a write failed, the sink is as it was; and the source
+-- has failed only where a read did.
 abbrev pub FailsMerge : (source source' : SourceState) (sink sink' : SinkState) → ImagesError → Type 0
 FailsMerge source source' sink sink' (Images why) =
     RefusesImages source.left source'.left why × (source'.failed ≡ false) × (sink' ≡ sink)
-FailsMerge source source' sink sink' Read = IsReadOut source source' × (sink' ≡ sink)
+FailsMerge source source' sink sink' Read =
+    ((input : List ℕ) × Consumes source.left source'.left input) × IsReadOut source source' × (sink' ≡ sink)
 FailsMerge source source' sink sink' Write =
     ((input image : List ℕ) × ReadsAll source.left source'.left input × MergesImages input image
     × TakesFront sink.taken sink'.taken image) × (source'.failed ≡ false) × (sink'.failed ≡ true)

@@ -46,7 +46,8 @@ pub record RefusesStream (left left' : Option (List ℕ)) (index : ℕ) (why : R
 
 -- ---- answers
 
--- Why no table is printed. Unless a write failed, the sink is as it was; and the source fails only where a read did.
+-- Why a table is not printed, or not all of it, or not flushed. Unless a write failed, the sink is as it was; and the source
+-- has failed only where a read did.
 abbrev pub FailsTable : (source source' : SourceState) (sink sink' : SinkState) → TableError → Type 0
 FailsTable source source' sink sink' (Batch index why) =
     RefusesStream source.left source'.left index why × (source'.failed ≡ false) × (sink' ≡ sink)

@@ -1,12 +1,12 @@
--- What a table or a merge came to, by the status that it answers: 0 done, 1 the input is refused, 2 the configuration is,
--- 3 out of memory, 4 a read or a write failed.
+-- What a table or a merge came to, by the status that is answered: 0 done, 1 the input is refused, 3 out of memory, 4 a read
+-- or a write failed. Where there was no memory to look at the arguments, nothing was read.
 use Rattle.std.specs.Prelude.{◌≡◌, ◌≢◌, ◌⊎◌, ℕ}
 use Rattle.image_merge.specs.declared.error.MergeFault.{MergeFault}
 use Rattle.streams.specs.State.{SourceState, SinkState}
 use Rattle.subcommands.specs.declared.error.Refusal.{Refusal}
 use Rattle.subcommands.specs.declared.error.TableError.TheVariants as table
 use Rattle.subcommands.specs.declared.error.ImagesError.TheVariants as images
-use Rattle.subcommands.specs.Ends.{HasFailedNone}
+use Rattle.subcommands.specs.Ends.{HasFailedNone, IsUntouched}
 use Rattle.subcommands.specs.Tables.{PrintsTable}
 use Rattle.subcommands.specs.Refused.{FailsTable}
 use Rattle.subcommands.specs.Merges.{PrintsMerge, FailsMerge}
@@ -18,7 +18,8 @@ pub record RunsTable (source source' : SourceState) (sink sink' : SinkState) (st
   pub fails_nothing : status ≡ 0 → HasFailedNone source' sink'
   pub has_first_refused :
       status ≡ 1 → (index : ℕ) × (why : Refusal) × FailsTable source source' sink sink' (table.Batch index why)
-  pub out_of_memory_prints_nothing : status ≡ 3 → sink' ≡ sink
+  pub out_of_memory : status ≡ 3
+      → IsUntouched source source' sink sink' ⊎ FailsTable source source' sink sink' table.OutOfMemory
   pub fails : status ≡ 4
       → FailsTable source source' sink sink' table.Read ⊎ FailsTable source source' sink sink' table.Write
 
@@ -29,6 +30,7 @@ pub record RunsMerge (source source' : SourceState) (sink sink' : SinkState) (st
   pub fails_nothing : status ≡ 0 → HasFailedNone source' sink'
   pub has_a_first_fault :
       status ≡ 1 → (why : MergeFault) × FailsMerge source source' sink sink' (images.Images why)
-  pub out_of_memory_prints_nothing : status ≡ 3 → sink' ≡ sink
+  pub out_of_memory : status ≡ 3
+      → IsUntouched source source' sink sink' ⊎ FailsMerge source source' sink sink' images.OutOfMemory
   pub fails : status ≡ 4
       → FailsMerge source source' sink sink' images.Read ⊎ FailsMerge source source' sink sink' images.Write

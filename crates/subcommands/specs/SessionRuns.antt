@@ -1,4 +1,4 @@
--- What a session came to, by the status that it answers: 0 done, 1 the input is refused, 2 the configuration is,
+-- What a session came to, by the status that is answered: 0 done, 1 the input is refused, 2 the configuration is refused,
 -- 3 out of memory, 4 a read or a write failed.
 use Rattle.std.specs.Prelude.{◌≡◌, ◌≢◌, ◌⊎◌, ℕ}
 use Rattle.streams.specs.State.{SourceState, SinkState}
@@ -21,6 +21,7 @@ pub record RunsSession (g : ConfigValue) (source source' : SourceState) (sink si
   pub fails_nothing : status ≡ 0 → HasFailedNone source' sink'
   pub refuses : status ≡ 1
       → (after : State) × RefusesFrom (new_state g) source.left source'.left sink.taken sink'.taken after
+  pub is_valid : status ≢ 2 → IsValidConfig g
   pub is_faulty : status ≡ 2 → (¬ IsValidConfig g) × IsUntouched source source' sink sink'
   pub fails : status ≢ 0 → status ≢ 2 → ((status ≡ 3) × IsUntouched source source' sink sink')
       ⊎ ((why : SessionFault) × (session_status why ≡ status) × FailsSession g source source' sink sink' why)

@@ -29,7 +29,7 @@ pub enum TableError {
     /// The lines couldn't be written.
     #[error("write failed")]
     Write,
-    /// There is no memory for a batch, for the table or for the bytes between.
+    /// There is no memory for a batch, for the table or for the bytes between; or 2^64 batches came.
     #[error("out of memory")]
     OutOfMemory,
 }

@@ -2,7 +2,7 @@
 
 ghost use Rattle.std.specs.Prelude.{◌≡◌, ◌+◌, ◌^◌, ◌≤◌, false, IfOk, OnOk, IfErr, IsErrOf};
 ghost use Rattle.std.specs.Io.KnownBytes.{Appends};
-ghost use Rattle.subcommands.specs.Input.{StopsReading, CutsImage};
+ghost use Rattle.subcommands.specs.Input.{StopsImages, CutsImage};
 ghost use Rattle.subcommands.specs.Tables.{ReadsAll};
 ghost use Rattle.subcommands.specs.Merges.{PrintsMerge, FailsMerge};
 ghost use Rattle.subcommands.specs.Ends.{HasFailedNone};
@@ -26,7 +26,7 @@ fn read_all<A: Allocator + Copy, R: Read>(
     ensures reads { IfOk result (λ input.
         ReadsAll source.old.left source.new.left input.items) }
     ensures fails_no_read { OnOk result (source.new.failed ≡ false) }
-    ensures stops { IfErr result (StopsReading source.old source.new) }
+    ensures stops { IfErr result (StopsImages source.old source.new) }
     ensures few_reads { source.new.reads ≤ source.old.reads + 2 ^ 32 }
 {
     let mut input = BytesMut::new(alloc);
@@ -47,7 +47,7 @@ fn print_image<W: Write>(image: &[u8], sink: &mut Sink<W>) -> Result<(), ImagesE
     ensures writes { OnOk result (Appends sink.old.taken sink.new.taken image.now) }
     ensures fails_nothing { OnOk result (sink.new.failed ≡ false) }
     ensures stops { IfErr result (CutsImage image.now sink.old sink.new) }
-    ensures only_a_write_error_fails_the_sink { OnOk result (sink.new.failed ≡ sink.old.failed) }
+    ensures keeps_flag { OnOk result (sink.new.failed ≡ sink.old.failed) }
 {
     if sink.send(image).is_err() {
         return Err(ImagesError::Write);
@@ -74,7 +74,7 @@ pub fn merge_stream<A: Allocator + Copy, R: Read, W: Write>(
     ensures prints_the_merge { OnOk result (PrintsMerge
         source.old.left source.new.left sink.old.taken sink.new.taken) }
     ensures fails_nothing { OnOk result (HasFailedNone source.new sink.new) }
-    // Whatever stops it: what was read, and why nothing or not all was printed.
+    // Whatever stops it: why the image is not printed, or not all of it.
     ensures fails { IfErr result (FailsMerge source.old source.new sink.old sink.new) }
     ensures few_reads { source.new.reads ≤ source.old.reads + 2 ^ 32 }
     ensures only_a_read_error_fails_the_source { ¬ IsErrOf result ImagesError.Read

@@ -8,7 +8,7 @@ ghost use Rattle.batch_codec.specs.Refusals.{FirstFault};
 ghost use Rattle.content.specs.Content.{empty};
 ghost use Rattle.subcommands.specs.declared.error.Refusal.TheVariants.{View};
 ghost use Rattle.subcommands.specs.declared.error.TableError.TheVariants.{Batch};
-ghost use Rattle.subcommands.specs.Input.{TakesBatches, DeliversNext, ReadsCopy, StopsTaking, StopsIntake, StopsPrinting};
+ghost use Rattle.subcommands.specs.Input.{TakesBatches, DeliversNext, ReadsCopy, StopsBatch, StopsIntake, StopsPrinting};
 ghost use Rattle.subcommands.specs.Tables.{content_lines, PrintsTable};
 ghost use Rattle.subcommands.specs.Refused.{FailsTable};
 ghost use Rattle.subcommands.specs.Ends.{HasFailedNone};
@@ -49,7 +49,7 @@ fn deliver_next<S: BatchStore>(
     ensures delivers_next { MatchResult result
         (λ size. DeliversNext bytes.now size
         intake.old.log intake.new.log intake.old.count intake.new.count)
-        (StopsTaking intake.old.log intake.old.count bytes.now) }
+        (StopsBatch intake.old.log intake.old.count bytes.now) }
     ensures unchanged { OnErr result
         ((intake.new.log ≡ intake.old.log) × (intake.new.count ≡ intake.old.count)) }
 {
@@ -85,7 +85,7 @@ fn take_batch<S: BatchStore>(
         (held.new.items ≡ held.old.items)) }
     ensures short { IfOk result (λ more. OnFalse more (FirstFault Short held.old.items)) }
 
-    ensures stops { IfErr result (StopsTaking intake.old.log intake.old.count held.old.items) }
+    ensures stops { IfErr result (StopsBatch intake.old.log intake.old.count held.old.items) }
     ensures unchanged { OnErr result ((held.new.items ≡ held.old.items)
         × (intake.new.log ≡ intake.old.log) × (intake.new.count ≡ intake.old.count)) }
 {
@@ -104,7 +104,7 @@ fn take_batches<S: BatchStore>(
     ensures taken { TakesBatches held.old.items held.new.items
         intake.old.log intake.new.log intake.old.count intake.new.count }
     ensures short { OnOk result (FirstFault Short held.new.items) }
-    ensures stops { IfErr result (StopsTaking intake.new.log intake.new.count held.new.items) }
+    ensures stops { IfErr result (StopsBatch intake.new.log intake.new.count held.new.items) }
 {
     while take_batch(intake, held)? {}
     Ok(())
@@ -200,7 +200,7 @@ fn print_log<S: BatchStore, W: Write>(
 /// # Errors
 ///
 /// A batch that is refused, with its number from 0; a read, write or flush that fails; no end within
-/// 2^32 reads; out of memory. A source of which a read failed before isn't read, and a sink of which a
+/// 2^32 reads; out of memory, or 2^64 batches, which no input reaches. A source of which a read failed before isn't read, and a sink of which a
 /// write failed before isn't written.
 pub fn run_table<A: Allocator + Copy, R: Read, W: Write>(
     alloc: A,
@@ -212,7 +212,7 @@ pub fn run_table<A: Allocator + Copy, R: Read, W: Write>(
     ensures prints_table { OnOk result (PrintsTable
         source.old.left source.new.left sink.old.taken sink.new.taken) }
     ensures fails_nothing { OnOk result (HasFailedNone source.new sink.new) }
-    // Whatever stops it: what was read is batches that were accepted, and this is what came then.
+    // Whatever stops it: why the table is not printed, or not all of it.
     ensures fails { IfErr result (FailsTable source.old source.new sink.old sink.new) }
     ensures few_reads { source.new.reads ≤ source.old.reads + 2 ^ 32 }
     ensures only_a_read_error_fails_the_source { ¬ IsErrOf result TableError.Read

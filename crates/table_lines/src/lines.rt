@@ -4,7 +4,7 @@ ghost use Rattle.std.specs.Prelude.{◌≡◌, ◌+◌, ◌<◌, ◌≤◌, ◌+
 ghost use Rattle.std.specs.List.{list_all};
 ghost use Rattle.std.specs.Vec.{vec_len, vec_capacity};
 ghost use Rattle.std.specs.Io.KnownBytes.{Appends};
-ghost use Rattle.streams.specs.State.{TakesFront};
+ghost use Rattle.streams.specs.State.{LosesRest, TakesFront};
 ghost use Rattle.table_lines.specs.Lines.{is_unescaped, hex_digit, printed_byte, printed, line, lines, EndsOnce};
 ghost use Rattle.table_lines.specs.Output.{Sends, SendsAllBut};
 
@@ -59,8 +59,7 @@ fn first_escaped(bytes: &[u8]) -> Option<usize>
 ///
 /// # Errors
 ///
-/// A write failed, now or before. The sink took a front of what waited.
-#[tactic(auto, using(crate::proofs::Sending::front_lost))]
+/// A write failed, now or before. The sink took a front of what waited, not all.
 pub fn pass_on<A: Allocator, W: Write>(
     buffer: &mut Vec<u8, A>,
     sink: &mut Sink<W>,
@@ -69,8 +68,8 @@ pub fn pass_on<A: Allocator, W: Write>(
         (Appends sink.old.taken sink.new.taken buffer.old.items) }
     ensures empties_buffer { OnOk result (buffer.new.items ≡ []) }
     ensures keeps_room { vec_capacity buffer.new ≡ vec_capacity buffer.old }
-    ensures writes_front { OnErr result
-        (TakesFront sink.old.taken sink.new.taken buffer.old.items) }
+    ensures loses_rest { OnErr result
+        (LosesRest sink.old.taken sink.new.taken buffer.old.items) }
     ensures keeps_flag { OnOk result (sink.new.failed ≡ sink.old.failed) }
     ensures sets_flag { OnErr result (sink.new.failed ≡ true) }
 {
@@ -93,7 +92,8 @@ fn collect<A: Allocator>(buffer: &mut Vec<u8, A>, bytes: &[u8])
 ///
 /// # Errors
 ///
-/// A write failed, now or before. The sink took a front of what waited and of the bytes behind it.
+/// A write failed, now or before. The sink took a front of what waited and of the bytes behind
+/// it, not all.
 #[tactic(auto, using(crate::proofs::Sending::front_waited, crate::proofs::Sending::lost_past))]
 pub fn put<A: Allocator, W: Write>(
     buffer: &mut Vec<u8, A>,
@@ -102,7 +102,7 @@ pub fn put<A: Allocator, W: Write>(
 ) -> Result<(), Failed>
     ensures sends { OnOk result (Sends sink.old.taken sink.new.taken
         buffer.old.items buffer.new.items bytes.now) }
-    ensures writes_front { OnErr result (TakesFront sink.old.taken sink.new.taken
+    ensures loses_rest { OnErr result (LosesRest sink.old.taken sink.new.taken
         (buffer.old.items ++ bytes.now)) }
     ensures keeps_flag { OnOk result (sink.new.failed ≡ sink.old.failed) }
     ensures sets_flag { OnErr result (sink.new.failed ≡ true) }
@@ -128,7 +128,7 @@ fn put_escape<A: Allocator, W: Write>(
     requires { is_unescaped byte ≡ false }
     ensures sends { OnOk result (Sends sink.old.taken sink.new.taken
         buffer.old.items buffer.new.items (printed_byte byte)) }
-    ensures writes_front { OnErr result (TakesFront sink.old.taken sink.new.taken
+    ensures loses_rest { OnErr result (LosesRest sink.old.taken sink.new.taken
         (buffer.old.items ++ printed_byte byte)) }
     ensures keeps_flag { OnOk result (sink.new.failed ≡ sink.old.failed) }
     ensures sets_flag { OnErr result (sink.new.failed ≡ true) }
@@ -151,7 +151,7 @@ fn put_run<'a, A: Allocator, W: Write>(
     ensures sends { IfOk result (λ rest. SendsAllBut sink.old.taken sink.new.taken
         buffer.old.items buffer.new.items (printed rest.now) (printed bytes.now)) }
     ensures shorter { IfOk result (λ rest. length rest.now < length bytes.now) }
-    ensures writes_front { OnErr result (TakesFront sink.old.taken sink.new.taken
+    ensures loses_rest { OnErr result (LosesRest sink.old.taken sink.new.taken
         (buffer.old.items ++ printed bytes.now)) }
     ensures keeps_flag { OnOk result (sink.new.failed ≡ sink.old.failed) }
     ensures sets_flag { OnErr result (sink.new.failed ≡ true) }
@@ -173,7 +173,7 @@ fn put_printed<A: Allocator, W: Write>(
 ) -> Result<(), Failed>
     ensures sends { OnOk result (Sends sink.old.taken sink.new.taken
         buffer.old.items buffer.new.items (printed bytes.now)) }
-    ensures writes_front { OnErr result (TakesFront sink.old.taken sink.new.taken
+    ensures loses_rest { OnErr result (LosesRest sink.old.taken sink.new.taken
         (buffer.old.items ++ printed bytes.now)) }
     ensures keeps_flag { OnOk result (sink.new.failed ≡ sink.old.failed) }
     ensures sets_flag { OnErr result (sink.new.failed ≡ true) }
@@ -192,7 +192,8 @@ fn put_printed<A: Allocator, W: Write>(
 ///
 /// # Errors
 ///
-/// A write failed, now or before. The sink took a front of what waited and of the line behind it.
+/// A write failed, now or before. The sink took a front of what waited and of the line behind
+/// it, not all.
 pub fn put_line<A: Allocator, W: Write>(
     buffer: &mut Vec<u8, A>,
     sink: &mut Sink<W>,
@@ -201,7 +202,7 @@ pub fn put_line<A: Allocator, W: Write>(
 ) -> Result<(), Failed>
     ensures sends { OnOk result (Sends sink.old.taken sink.new.taken
         buffer.old.items buffer.new.items (line (key.now, value.now))) }
-    ensures writes_front { OnErr result (TakesFront sink.old.taken sink.new.taken
+    ensures loses_rest { OnErr result (LosesRest sink.old.taken sink.new.taken
         (buffer.old.items ++ line (key.now, value.now))) }
     ensures keeps_flag { OnOk result (sink.new.failed ≡ sink.old.failed) }
     ensures sets_flag { OnErr result (sink.new.failed ≡ true) }
@@ -236,7 +237,7 @@ pub fn write_lines<A: Allocator, W: Write>(
     ensures writes_front { OnErr result (TakesFront sink.old.taken sink.new.taken
         (buffer.old.items ++ lines (map (λ row. (row.0.now, row.1.now)) rows.now))) }
     ensures keeps_flag { OnOk result (sink.new.failed ≡ sink.old.failed) }
-    ensures flushes { OnOk result (sink.new.failed ≡ false) }
+    ensures fails_nothing { OnOk result (sink.new.failed ≡ false) }
     ensures sets_flag { OnErr result (sink.new.failed ≡ true) }
 {
     for (key, value) in rows {

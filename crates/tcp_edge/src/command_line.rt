@@ -1,6 +1,6 @@
 //! The program's command line.
 
-ghost use Rattle.std.specs.Prelude.{◌≡◌, ◌≢◌, ◌≤◌, ◌⊎◌, ◌+◌, ◌^◌, ℕ, List, None, IfOk, MatchOption, codes, map};
+ghost use Rattle.std.specs.Prelude.{◌≡◌, ◌≢◌, ◌≤◌, ◌⊎◌, ◌+◌, ◌^◌, ℕ, false, List, None, IfOk, MatchOption, codes, map};
 ghost use Rattle.broker_state.specs.Configs.{IsValidConfig};
 ghost use Rattle.broker_state.specs.State.{ConfigValue};
 ghost use Rattle.clap.specs.Words.{Row, kind_of};
@@ -54,6 +54,7 @@ fn explain<W: Write, E: Write>(alloc: Global, error: &Error, sink: &mut Sink<W>,
         ⊎ (kind_of error.now ≡ ErrorKind.DisplayVersion) → result ≢ 2 }
     ensures faulty_prints_nothing { result ≡ 2 → sink.new ≡ sink.old }
     ensures out_of_memory_prints_nothing { result ≡ 3 → sink.new ≡ sink.old }
+    ensures done_has_not_failed { result ≡ 0 → sink.new.failed ≡ false }
 {
     if matches!(error.kind(), ErrorKind::OutOfMemory) {
         return say_no_memory(err);
@@ -88,6 +89,7 @@ fn refuse_line<W: Write, E: Write>(
     ensures topic { IsNoTopic why.now → (2 ≤ result) × (result ≤ 3) × (sink.new ≡ sink.old) }
     ensures faulty_prints_nothing { result ≡ 2 → sink.new ≡ sink.old }
     ensures out_of_memory_prints_nothing { result ≡ 3 → sink.new ≡ sink.old }
+    ensures done_has_not_failed { result ≡ 0 → sink.new.failed ≡ false }
 {
     match why {
         ArgumentsFault::Clap(error) => explain(alloc, error, sink, err),
@@ -96,7 +98,6 @@ fn refuse_line<W: Write, E: Write>(
 }
 
 /// Does what was asked for, but for a broker that listens, and answers the status.
-
 fn run_asked<R: Read, W: Write, E: Write>(
     alloc: Global,
     asked: Asked,
@@ -174,7 +175,8 @@ pub fn run_line<S: AsStr, R: Read, W: Write, E: Write>(
     ensures mistake_is_refused { HasMistake (map S.text arguments.now) → (2 ≤ result)
         × IsUntouched source.old source.new sink.old sink.new }
     ensures help_is_no_fault { AsksForHelp (map S.text arguments.now) → (result ≢ 1) × (result ≢ 2)
-        × (source.new ≡ source.old) }
+        × (source.new ≡ source.old) × (result ≡ 0 → sink.new.failed ≡ false)
+        × (result ≡ 3 → sink.new ≡ sink.old) }
     // A broker that listens is left to `run_serve`.
     ensures serve_is_left { (rows : List Row)
         → Finds (map S.text arguments.now) (codes "serve") rows → (2 ≤ result) × (result ≤ 3)

@@ -1,7 +1,7 @@
-use Rattle.std.proofs.Common.{arith, inl, subst}
+use Rattle.std.proofs.Common.{arith, subst}
 use Rattle.streams.specs.State.{StopsFilling}
 use Rattle.std.proofs.lemmas.Bool.{MatchBool-at_true, MatchBool-at_false}
-use Rattle.subcommands.proofs.Images.{more_held, all_held, reads_out}
+use Rattle.subcommands.proofs.Images.{more_held, all_held, read_stopped, reads_out}
 use Rattle.subcommands.proofs.merging.read_all.Goals as goal
 
 pub returns-in-Ok-false-clause-reads : goal.returns-in-Ok-false-clause-reads
@@ -20,4 +20,5 @@ returns-clause-stops g c =
 
 pub returns-in-Err-Read-clause-stops : goal.returns-in-Err-Read-clause-stops
 returns-in-Err-Read-clause-stops g c =
-    inl (subst (StopsFilling c.loop.source c.fill.new.source) c.in-Err-Read.field-0-is c.in-Err-Read.ensures.stops).1
+    read_stopped c.args.source.now c.loop.source c.fill.new.source c.loop.input.items c.loop.counter c.loop.invariant
+    (subst (StopsFilling c.loop.source c.fill.new.source) c.in-Err-Read.field-0-is c.in-Err-Read.ensures.stops)

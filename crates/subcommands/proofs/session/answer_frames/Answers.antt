@@ -1,4 +1,5 @@
-use Rattle.std.proofs.Common.{inl, inr, refl, sym, arith, ◌∙◌}
+use Rattle.std.proofs.Common.{inl, inr, refl, sym, ap, arith, ◌∙◌}
+use Rattle.streams.specs.State.{SinkState}
 use Rattle.subcommands.proofs.Stopping.{stopped, kept_stop, kept_end, answers_all, refuses_inside}
 use Rattle.subcommands.proofs.session.answer_frames.Goals as goal
 
@@ -10,7 +11,7 @@ returns-in-Err-clause-refuses g c =
 pub returns-in-Err-clause-fails : goal.returns-in-Err-clause-fails
 returns-in-Err-clause-fails g c =
     inl (kept_stop c.args.node.now c.serve-answered.new.node c.args.source.now c.serve-answered.new.source c.args.sink.now c.serve-answered.new.sink
-    c.finish-flushed.new.self c.in-Err.why c.in-Err.ensures.stops c.finish-flushed.ensures.keeps c.finish-flushed.ensures.stays_failed)
+    c.finish-flushed.new.self c.in-Err.why c.in-Err.ensures.stops c.finish-flushed.ensures.keeps (λ failed. ap (λ (s : SinkState). s.failed) (c.finish-flushed.ensures.unused_once_failed failed) ∙ failed))
 
 pub returns-then-is_err-clause-fails : goal.returns-then-is_err-clause-fails
 returns-then-is_err-clause-fails g c =

@@ -8,8 +8,8 @@ returns-then-bytes-capacity-2-clause-sends g c =
     (λ after. sends_past _ _ _ c.args.buffer.now.items c.pass_on.new.buffer.items c.args.bytes.now c.in_ok-pass_on.ensures.writes_all c.in_ok-pass_on.ensures.empties_buffer after)
     c.send.ensures.appends
 
-pub returns-then-bytes-capacity-2-clause-writes_front : goal.returns-then-bytes-capacity-2-clause-writes_front
-returns-then-bytes-capacity-2-clause-writes_front g c =
+pub returns-then-bytes-capacity-2-clause-loses_rest : goal.returns-then-bytes-capacity-2-clause-loses_rest
+returns-then-bytes-capacity-2-clause-loses_rest g c =
     on_err_weaker c.send.result
     (λ lost. lost_past _ _ _ c.args.buffer.now.items c.args.bytes.now c.in_ok-pass_on.ensures.writes_all lost)
     c.send.ensures.loses_rest

@@ -14,15 +14,15 @@ returns-then-are_unescaped-clause-sends g c =
 pub loop-rest-preserved : goal.loop-rest-preserved
 loop-rest-preserved g c = (c.in_ok-rest.ensures.keeps_flag ∙ c.loop-rest.invariant.0, sends_more _ _ _ _ _ _ _ _ _ c.loop-rest.invariant.1 c.in_ok-rest.ensures.sends)
 
-pub returns-then-are_unescaped-clause-writes_front : goal.returns-then-are_unescaped-clause-writes_front
-returns-then-are_unescaped-clause-writes_front g c =
+pub returns-then-are_unescaped-clause-loses_rest : goal.returns-then-are_unescaped-clause-loses_rest
+returns-then-are_unescaped-clause-loses_rest g c =
     on_err_weaker c.put.result
     (λ front. front_plain _ _ c.args.buffer.now.items c.args.bytes.now (printed_same c.args.bytes.now (sym c.if-are_unescaped.ensures)) front)
-    c.put.ensures.writes_front
+    c.put.ensures.loses_rest
 
-pub returns-in_err-rest-clause-writes_front : goal.returns-in_err-rest-clause-writes_front
-returns-in_err-rest-clause-writes_front g c =
+pub returns-in_err-rest-clause-loses_rest : goal.returns-in_err-rest-clause-loses_rest
+returns-in_err-rest-clause-loses_rest g c =
     let cut = on_err_weaker c.put_run.result
     (λ front. front_left _ _ _ _ _ _ _ c.loop-rest.invariant.1 front)
-    c.put_run.ensures.writes_front in
+    c.put_run.ensures.loses_rest in
     search (rules, cut)

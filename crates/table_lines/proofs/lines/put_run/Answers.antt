@@ -13,23 +13,23 @@ put_escape-requires g c = escaped_there c.args.bytes.now _ (sym c.in-Some.ensure
 pub returns-clause-sends : goal.returns-clause-sends
 returns-clause-sends g c = sends_run _ _ _ _ _ _ c.args.bytes.now _ (sym c.in-Some.ensures) c.in_ok-put-2.ensures.sends c.in_ok-put_escape.ensures.sends
 
-pub returns-in_err-put-clause-writes_front : goal.returns-in_err-put-clause-writes_front
-returns-in_err-put-clause-writes_front g c =
+pub returns-in_err-put-clause-loses_rest : goal.returns-in_err-put-clause-loses_rest
+returns-in_err-put-clause-loses_rest g c =
     let cut = on_err_weaker c.put.result
     (λ front. front_plain _ _ c.args.buffer.now.items c.args.bytes.now (printed_all c.args.bytes.now (sym c.in_default.ensures)) front)
-    c.put.ensures.writes_front in
+    c.put.ensures.loses_rest in
     search (rules, cut)
 
-pub returns-in_err-put-2-clause-writes_front : goal.returns-in_err-put-2-clause-writes_front
-returns-in_err-put-2-clause-writes_front g c =
+pub returns-in_err-put-2-clause-loses_rest : goal.returns-in_err-put-2-clause-loses_rest
+returns-in_err-put-2-clause-loses_rest g c =
     let cut = on_err_weaker c.put-2.result
     (λ front. front_run _ _ c.args.buffer.now.items c.args.bytes.now _ (sym c.in-Some.ensures) front)
-    c.put-2.ensures.writes_front in
+    c.put-2.ensures.loses_rest in
     search (rules, cut)
 
-pub returns-in_err-put_escape-clause-writes_front : goal.returns-in_err-put_escape-clause-writes_front
-returns-in_err-put_escape-clause-writes_front g c =
+pub returns-in_err-put_escape-clause-loses_rest : goal.returns-in_err-put_escape-clause-loses_rest
+returns-in_err-put_escape-clause-loses_rest g c =
     let cut = on_err_weaker c.put_escape.result
     (λ front. front_escape _ _ _ c.args.buffer.now.items _ c.args.bytes.now _ (sym c.in-Some.ensures) c.in_ok-put-2.ensures.sends front)
-    c.put_escape.ensures.writes_front in
+    c.put_escape.ensures.loses_rest in
     search (rules, cut)

@@ -92,4 +92,6 @@ returns-in-Err-clause-help_is_no_fault g c = λ asks. (
   helped c.in-Err.why c.refuse_line.result (help_stops (map g.S.AsStr.text c.args.arguments.now) c.in-Err.why asks c.in-Err.ensures.stopped)
       c.refuse_line.ensures.out_of_memory c.refuse_line.ensures.help,
   refl,
+  c.refuse_line.ensures.done_has_not_failed,
+  c.refuse_line.ensures.out_of_memory_prints_nothing,
 )
