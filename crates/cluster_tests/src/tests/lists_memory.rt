@@ -2,10 +2,11 @@
 //! images that are merged, the parts of an image, and escaped bytes. What was given is as it was, and the call succeeds
 //! later.
 
-use crate::tests::copies::{are_added, has_image};
+use crate::tests::copies::are_added;
 use crate::tests::memory::MOST;
 use crate::tests::outside::{LEFT, NONE_OF_TWO, RIGHT, SECOND_OF_TWO, TWO};
 use crate::tests::parts::{batches_of, know_content};
+use batch_codec::encode;
 use cleaner::clean_list;
 use copy_images::fields::{put_crc, put_ranges};
 use image_merge::{MergeFault, merge_images};
@@ -22,36 +23,30 @@ const ONE_WENT: CleanReport = CleanReport {
     batches: 0,
 };
 
-/// A copy made of what a cleaning leaves of the batches of another one; `None` where the report is another.
-fn cleaned<S: BatchStore>(
+/// Whether a cleaning of the batches of a copy leaves the one that the copy of `SECOND_OF_TWO` keeps.
+fn cleans_batches<S: BatchStore>(
     alloc: S::Alloc,
     copy: &PartitionLog<S>,
-) -> Result<Option<PartitionLog<S>>, AllocError> {
+) -> Result<bool, AllocError> {
     know_content(copy);
     let batches = batches_of(alloc, copy)?;
     let (left, report) = clean_list(alloc, &batches, copy.cover(), copy.start(), 2, 0)?;
-    if report != ONE_WENT {
-        return Ok(None);
+    let mut out = Vec::new(alloc);
+    for batch in &left {
+        encode(batch, &mut out).map_err(|_| AllocError)?;
     }
-    let cover = copy.cover().try_clone()?;
-    Ok(Some(PartitionLog::from_parts(alloc, cover, copy.start(), left)?))
+    Ok(report == ONE_WENT && out.as_slice() == &SECOND_OF_TWO[38..108])
 }
 
-/// A copy of two records of one key is cleaned, at the first time or the second.
+/// The batches of a copy of two records of one key are cleaned, at the first time or the second.
 fn cleans_a_list<S: BatchStore>(heap: S::Alloc, ample: S::Alloc) -> bool {
     let mut copy = PartitionLog::<S>::new(ample);
     let is_filled = are_added(&mut copy, &[&TWO]);
-    let made = match cleaned(heap, &copy) {
-        Ok(made) => Ok(made),
-        Err(_) => cleaned(heap, &copy),
+    let is_cleaned = match cleans_batches(heap, &copy) {
+        Ok(is_cleaned) => Ok(is_cleaned),
+        Err(_) => cleans_batches(heap, &copy),
     };
-    match made {
-        Ok(Some(made)) => {
-            let is_right = has_image(&made, &SECOND_OF_TWO) || has_image(&made, &SECOND_OF_TWO);
-            is_filled && is_right
-        }
-        _ => false,
-    }
+    is_filled && is_cleaned == Ok(true)
 }
 
 /// Two images, each behind its size.

@@ -68,17 +68,27 @@ fn with_four<A: Allocator + Copy>(alloc: A) -> Result<(SparseIndex<A>, bool), Al
     Ok((index, has_lacked))
 }
 
+/// Adds a fifth entry, again where memory lacked, and tells whether it did; `None` where the index finds something else
+/// then.
+fn takes_fifth<A: Allocator + Copy>(index: &mut SparseIndex<A>) -> Option<bool>
+    requires { index.old.entries
+        ≡ (pos 0, 0) ∷ (pos 10, 4100) ∷ (pos 20, 8200) ∷ (pos 30, 12300) ∷ [] }
+{
+    match index.push(40, 16_400) {
+        Ok(()) => Some(false),
+        Err(_) => {
+            let is_same = finds(index, &FOUND_OF_FOUR);
+            index.push(40, 16_400).ok()?;
+            if is_same { Some(true) } else { None }
+        }
+    }
+}
+
 /// Whether memory lacked for the first entry of five, and for the last, each added again then; `None` where the index
 /// finds something else.
 fn lacking<A: Allocator + Copy>(alloc: A) -> Option<(bool, bool)> {
     let (mut index, has_first_lacked) = with_four(alloc).ok()?;
-    let has_last_lacked = index.push(40, 16_400).is_err();
-    if has_last_lacked {
-        if !finds(&index, &FOUND_OF_FOUR) {
-            return None;
-        }
-        index.push(40, 16_400).ok()?;
-    }
+    let has_last_lacked = takes_fifth(&mut index)?;
     if finds(&index, &FOUND) {
         Some((has_first_lacked, has_last_lacked))
     } else {
