@@ -18,6 +18,7 @@ mod pieces;
 mod refusing;
 mod request_memory;
 mod script_memory;
+mod session_memory;
 mod sessions;
 mod sinks;
 mod sources;

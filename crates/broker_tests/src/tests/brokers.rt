@@ -45,7 +45,7 @@ fn topics_of<A: Allocator + Copy>(
 }
 
 /// A configuration of a host of so many bytes and so many topics of this name.
-fn configured<A: Allocator + Copy>(
+pub(crate) fn configured<A: Allocator + Copy>(
     alloc: A,
     role: Role,
     bytes: u32,
