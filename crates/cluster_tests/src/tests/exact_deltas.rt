@@ -29,19 +29,25 @@ fn copy_of<S: BatchStore>(heap: S::Alloc, image: &[u8]) -> Result<PartitionLog<S
     }
 }
 
-/// Whether the copy of a row has its delta, and how many allocations that asked for, and how many bytes have room in
-/// it.
-fn made<A: Allocator + Copy>(
-    alloc: A,
+/// Whether the copy of a row, in this heap, has its delta, and how many allocations that asked for, and how many bytes
+/// have room in it.
+fn made_in<S: BatchStore, A: Allocator>(
+    heap: S::Alloc,
+    counted: &Refusing<A>,
     &(_, image, asks, delta): &Row,
 ) -> Result<(bool, u64, usize), AllocError> {
-    let heap = Refusing::new(alloc, MOST);
-    let copy = copy_of::<ProgramStore<_>>(&heap, image)?;
-    let asked = asked_of(&heap, asks)?;
-    let before = heap.calls();
-    let made = write_delta(&heap, &copy, &asked)?;
-    let calls = heap.calls().saturating_sub(before);
+    let copy = copy_of::<S>(heap, image)?;
+    let asked = asked_of(heap, asks)?;
+    let before = counted.calls();
+    let made = write_delta(heap, &copy, &asked)?;
+    let calls = counted.calls().saturating_sub(before);
     Ok((made.as_slice() == delta, calls, made.capacity()))
+}
+
+/// The same in a heap of its own.
+fn made<A: Allocator + Copy>(alloc: A, row: &Row) -> Result<(bool, u64, usize), AllocError> {
+    let heap = Refusing::new(alloc, MOST);
+    made_in::<ProgramStore<_>, A>(&heap, &heap, row)
 }
 
 #[test]
