@@ -14,8 +14,12 @@ pub const MOST_READS: u64 = 4_294_967_296;
 /// The room for a read, in bytes, where no fewer are lacking.
 const READ_ROOM: usize = 65_536;
 
+/// The least room for a read, in bytes, where the buffer holds much already, and no fewer are lacking.
+const LEAST_ROOM: usize = 4_096;
+
 /// Makes room for a read: for the bytes that are lacking, but for no more than `READ_ROOM` or what the
-/// buffer holds already. There is enough where that many bytes, or `READ_ROOM`, fit behind what it holds.
+/// buffer holds already. What is there is enough where the lacking bytes fit, or `READ_ROOM`; or
+/// `LEAST_ROOM`, where the buffer holds more than it is worth to move.
 fn make_room<A: Allocator + Copy>(
     buffer: &mut BytesMut<A>,
     lacking: usize,
@@ -25,7 +29,12 @@ fn make_room<A: Allocator + Copy>(
     ensures room { OnOk result (0 < buffer.new.spare) }
 {
     let held = buffer.len();
-    if lacking.min(READ_ROOM) <= buffer.capacity() - held {
+    let enough = lacking.min(if held < READ_ROOM {
+        READ_ROOM
+    } else {
+        LEAST_ROOM
+    });
+    if enough <= buffer.capacity() - held {
         return Ok(());
     }
     buffer.reserve(lacking.min(READ_ROOM.max(held)))
