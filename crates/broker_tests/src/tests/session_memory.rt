@@ -2,6 +2,7 @@
 
 use crate::tests::brokers::configured;
 use crate::tests::frames::{LIST, LISTED};
+use crate::tests::sessions::READ_ROOM;
 use broker_core::{Config, Role};
 use refusing_alloc::Refusing;
 use std::alloc::Allocator;
@@ -50,7 +51,11 @@ fn runs_without<B: Allocator + Copy>(alloc: B, refused: u64) -> (Came, bool) {
         Ok(config) => runs(&heap, alloc, config),
         Err(_) => Came::Unasked,
     };
-    (came, heap.calls() >= refused)
+    let is_small = heap.largest() <= READ_ROOM;
+    (
+        if is_small { came } else { Came::Wrong },
+        heap.calls() >= refused,
+    )
 }
 
 #[test]
