@@ -26,7 +26,7 @@ def commands_of(text):
     """The commands of a document that runs by itself, each with the output that it shows."""
     found = []
     for block in blocks_of(text):
-        if any("kbroker serve" in line for line in block):
+        if any("kbroker serve" in line or "kbroker start" in line for line in block):
             continue
         for line in block:
             if line.startswith("$ "):

@@ -1,85 +1,66 @@
 -- Frames that a session holds: the first one answered, some and then others, and how many they can be.
-use Rattle.std.proofs.Common.{◌≡◌, ℕ, ◌+◌, ◌^◌, ◌<◌, ◌≤◌, arith, Fits, w64, List, [], ◌∷◌, ◌++◌, length, inl, inr, refl, sym, ap, subst, ◌∙◌, append_assoc, append-nil}
-use Rattle.std.specs.Prelude.{pos}
-use Rattle.std.specs.List.{AllByRecursion}
+use Rattle.std.proofs.Common.{◌≡◌, ℕ, ◌+◌, ◌^◌, ◌<◌, ◌≤◌, arith, Fits, w64, true, List, [], ◌∷◌, ◌++◌, length, inr, refl, sym, ap, subst, ◌∙◌, append_assoc, append-nil}
 use Rattle.std.specs.Io.KnownBytes.{Appends}
 use Rattle.std.proofs.KnownBytes.{Appends-nil, Appends-trans}
-use Rattle.std.proofs.lemmas.Grind.{flat_map-append}
 use Rattle.std.proofs.lemmas.List.{length-append}
-use Rattle.streams.specs.State.{SinkState}
-use Rattle.frame_fields.specs.Fields.{size32, be}
-use Rattle.frame_fields.specs.Frames.{framed, stream, IsWithinLimit, IsFrames, IsFirstFrame}
-use Rattle.request_frames.specs.Requests.{RequestValue, IsRequest}
-use Rattle.broker_node.specs.declared.handling.Answer.{Answer}
+use Rattle.streams.specs.State.{SinkState, LosesRest}
+use Rattle.frame_fields.specs.declared.error.FrameError.{FrameError}
+use Rattle.sessions.specs.declared.replying.NextError.TheVariants as next
+use Rattle.sessions.specs.Turns.{AnswersFirst, StopsFirst}
+use Rattle.sessions.proofs.Frames.{no_frames, one_cut, cut_append, cut_length}
+use Rattle.broker_core.specs.declared.session.SessionError.TheVariants.{Frame, Write, OutOfMemory}
 use Rattle.broker_core.specs.declared.session.SessionError.{SessionError}
-use Rattle.broker_core.specs.declared.session.SessionError.TheVariants.{Frame, Read, Write, OutOfMemory}
 use Rattle.broker_state.specs.State.{State}
-use Rattle.answering.specs.Responding.{sent}
-use Rattle.broker_node.specs.Streams.{IsAnswered, AreAnswered}
-use Rattle.broker_node.specs.Handling.{Handles}
-use Rattle.broker_core.specs.SessionSteps.{StopsTaking, StopsReplying, AnswersFront, StopsNext, StopsWithin}
+use Rattle.broker_node.specs.Streams.{AreAnswered}
+use Rattle.broker_core.specs.SessionSteps.{AnswersFront, StopsNext, StopsWithin}
 
 -- ---- one frame
 
--- what was handled into an empty output answers the frame
-pub frame_answered : (s after : State) (frame slice cleared out reply : List ℕ) (q : RequestValue) (answer : Answer)
-    → slice ≡ frame → IsRequest slice q → cleared ≡ [] → Handles s q cleared out answer after → reply ≡ out → IsAnswered s frame reply after
-frame_answered s after frame slice cleared out reply q answer same reads empty h is = record {
-  request = q;
-  response = h.response;
-  reads = subst (λ bytes. IsRequest bytes q) same reads;
-  replies = h.replies;
-  sends = is ∙ h.appends ∙ ap (λ (x : List ℕ). x ++ sent h.response) empty;
-}
-
-pub one_cut : (held frame rest : List ℕ) → IsFirstFrame frame held rest → IsFrames held (frame ∷ []) rest
-one_cut held frame rest first = record {
-  parts = first.parts ∙ ap (λ (x : List ℕ). x ++ rest) (sym (append-nil (framed frame)));
-  within = (first.within, tt);
-}
-
 -- the first frame is answered, and the sink took its reply
-pub first_answered : (s after : State) (sink sink' : SinkState) (held frame rest reply : List ℕ) (index : ℕ)
-    → IsFirstFrame frame held rest → IsAnswered s frame reply after → Appends sink.taken sink'.taken reply → sink'.failed ≡ sink.failed
+pub first_answered : (s after : State) (sink sink' : SinkState) (held rest cleared out : List ℕ) (index : ℕ)
+    → AnswersFirst s after held rest cleared out → cleared ≡ [] → Appends sink.taken sink'.taken out → sink'.failed ≡ sink.failed
     → AnswersFront s after sink sink' held rest index (index + 1)
-first_answered s after sink sink' held frame rest reply index first answered takes fine = record {
-  frames = frame ∷ [];
-  output = reply;
-  takes = takes;
-  answers = record {
-    cut = one_cut held frame rest first;
-    answers = (reply, [], after, answered, sym (append-nil reply), (refl, refl));
-  };
-  counts = refl;
-  no_write_failed = fine;
-}
+first_answered s after sink sink' held rest cleared out index a empty takes fine =
+    let is : out ≡ a.exchange.reply = a.appends ∙ ap (λ (x : List ℕ). x ++ a.exchange.reply) empty in
+    record {
+      frames = a.exchange.frame ∷ [];
+      output = a.exchange.reply;
+      takes = subst (Appends sink.taken sink'.taken) is takes;
+      answers = record {
+        cut = one_cut held a.exchange.frame rest a.first;
+        answers = (a.exchange.reply, [], after, a.answers, sym (append-nil a.exchange.reply), (refl, refl));
+      };
+      counts = refl;
+      no_write_failed = fine;
+    }
 
 -- ---- a frame that is refused, or for which there is no memory
 
-pub taking_stops : (s : State) (sink : SinkState) (held : List ℕ) (index : ℕ) (e : SessionError) → StopsTaking held index e → StopsNext s s sink sink held index e
-taking_stops s sink held index (Frame n why) stops = (refl, refl, stops.0, inl stops.1)
-taking_stops s sink held index OutOfMemory stops = (refl, refl, inr stops)
-taking_stops s sink held index Read stops = stops
-taking_stops s sink held index Write stops = absurd stops
+pub frame_stops : (s after : State) (sink : SinkState) (held : List ℕ) (index : ℕ) (why : FrameError) → StopsFirst held (next.Frame why) → after ≡ s
+    → StopsNext s after sink sink held index (Frame index why)
+frame_stops s after sink held index why stops same = (same, refl, refl, stops)
 
-pub replying_stops : (s after : State) (sink : SinkState) (held frame rest : List ℕ) (index : ℕ) (e : SessionError) → IsFirstFrame frame held rest → after ≡ s
-    → StopsReplying frame index e → StopsNext s after sink sink held index e
-replying_stops s after sink held frame rest index (Frame n why) first same stops = (same, refl, stops.0, inr (frame, rest, first, stops.1))
-replying_stops s after sink held frame rest index OutOfMemory first same stops = (same, refl, inr (frame, rest, first))
-replying_stops s after sink held frame rest index Read first same stops = stops
-replying_stops s after sink held frame rest index Write first same stops = absurd stops
+pub memory_stops : (s after : State) (sink : SinkState) (held : List ℕ) (index : ℕ) → StopsFirst held next.OutOfMemory → after ≡ s → StopsNext s after sink sink held index OutOfMemory
+memory_stops s after sink held index stops same = (same, refl, inr (stops.0, stops.1, stops.3))
+
+-- a reply of which the sink took only a front
+pub write_stops : (s after : State) (sink sink' : SinkState) (held rest cleared out : List ℕ) (index : ℕ)
+    → AnswersFirst s after held rest cleared out → cleared ≡ [] → LosesRest sink.taken sink'.taken out → sink'.failed ≡ true
+    → StopsNext s after sink sink' held index Write
+write_stops s after sink sink' held rest cleared out index a empty loses failed =
+    let is : out ≡ a.exchange.reply = a.appends ∙ ap (λ (x : List ℕ). x ++ a.exchange.reply) empty in (
+      record {
+        frame = a.exchange.frame;
+        more = rest;
+        reply = a.exchange.reply;
+        first = a.first;
+        answers = a.answers;
+        loses = subst (LosesRest sink.taken sink'.taken) is loses;
+      },
+      failed,
+    )
 
 -- ---- frames, and then others
-
-all_append : {X : Type 0} (P : X → Type 0) (xs ys : List X) → AllByRecursion P xs → AllByRecursion P ys → AllByRecursion P (xs ++ ys)
-all_append P [] ys a b = b
-all_append P (x ∷ xs) ys a b = (a.0, all_append P xs ys a.1 b)
-
-pub cut_append : (held mid rest : List ℕ) (fs gs : List (List ℕ)) → IsFrames held fs mid → IsFrames mid gs rest → IsFrames held (fs ++ gs) rest
-cut_append held mid rest fs gs a b = record {
-  parts = a.parts ∙ ap (λ (x : List ℕ). stream fs ++ x) b.parts ∙ sym (append_assoc (stream fs) (stream gs) rest) ∙ ap (λ (x : List ℕ). x ++ rest) (sym (flat_map-append framed fs gs));
-  within = all_append (λ frame. IsWithinLimit (pos (length frame))) fs gs a.within b.within;
-}
 
 answered_append : (s m after : State) (fs gs : List (List ℕ)) (out more : List ℕ) → AreAnswered s fs out m → AreAnswered m gs more after → AreAnswered s (fs ++ gs) (out ++ more) after
 answered_append s m after [] gs out more a b =
@@ -98,7 +79,7 @@ front_none s sink held count = record {
   frames = [];
   output = [];
   takes = Appends-nil sink.taken;
-  answers = record { cut = record { parts = refl; within = tt }; answers = (refl, refl) };
+  answers = record { cut = no_frames held; answers = (refl, refl) };
   counts = omega arith;
   no_write_failed = refl;
 }
@@ -119,18 +100,11 @@ front_then s m after sink mid_sink sink' held mid rest a b c p q = record {
 
 -- ---- how many they can be
 
-framed_length : (frame : List ℕ) → length (framed frame) ≡ 4 + length frame
-framed_length frame = length-append (be size32 (pos (length frame))) frame
-
-stream_length : (fs : List (List ℕ)) → length fs ≤ length (stream fs)
-stream_length [] = omega arith
-stream_length (f ∷ fs) = omega (arith, stream_length fs, length-append (framed f) (stream fs), framed_length f)
-
 -- a frame is held in four bytes at least, so there are fewer frames than bytes
 pub front_fits : (s after : State) (sink sink' : SinkState) (held rest : List ℕ) (a b : ℕ) → AnswersFront s after sink sink' held rest a b
     → b + length rest ≤ a + length held
 front_fits s after sink sink' held rest a b p =
-    omega (arith, p.counts, stream_length p.frames, ap length p.answers.cut.parts, length-append (stream p.frames) rest)
+    omega (arith, p.counts, cut_length held rest p.frames p.answers.cut)
 
 pub less_is_held : (s after : State) (sink sink' : SinkState) (held rest : List ℕ) (index : ℕ) → AnswersFront s after sink sink' held rest index (index + 1)
     → length rest < length held

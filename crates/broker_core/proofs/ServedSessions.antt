@@ -1,16 +1,17 @@
 -- A session, read by read: what it has answered so far, and how it ends or stops.
-use Rattle.std.proofs.Common.{◌≡◌, inl, inr, ℕ, ◌+◌, ◌^◌, ◌<◌, ◌≤◌, false, arith, List, [], ◌∷◌, ◌++◌, length, sym, ap, subst, ◌∙◌, append_assoc, append-nil, Result, Ok, Err, IfErr}
+use Rattle.std.proofs.Common.{◌≡◌, inl, inr, ℕ, ◌+◌, ◌^◌, ◌<◌, ◌≤◌, false, arith, List, [], ◌∷◌, ◌++◌, length, sym, ap, subst, ◌∙◌, append-nil, Result, Ok, Err, IfErr}
 use Rattle.std.specs.Io.KnownBytes.{Consumes}
 use Rattle.std.proofs.KnownBytes.{Consumes-nil, Consumes-trans, Consumes-kept, Appends-trans}
 use Rattle.streams.specs.State.{SourceState, SinkState, ReadsOnce, ReadsMore, ReadsEnd}
-use Rattle.frame_fields.specs.Frames.{stream, IsIncomplete}
+use Rattle.frame_fields.specs.Frames.{IsIncomplete}
 use Rattle.broker_core.specs.declared.session.SessionError.{SessionError}
 use Rattle.broker_core.specs.declared.session.SessionError.TheVariants.{Frame, Read, Write, OutOfMemory}
 use Rattle.broker_state.specs.State.{State}
 use Rattle.broker_node.specs.Streams.{IsAnswered}
 use Rattle.broker_core.specs.Sessions.{Session, EndsAs, StopsAs}
 use Rattle.broker_core.specs.SessionSteps.{StopsReading, AnswersFront, StopsNext, StopsWithin, Serves}
-use Rattle.broker_core.proofs.ServedFrames.{cut_append, one_cut, front_none, front_then}
+use Rattle.sessions.proofs.Frames.{cut_append, cut_longer, one_cut}
+use Rattle.broker_core.proofs.ServedFrames.{front_none, front_then}
 
 -- ---- one read
 
@@ -22,10 +23,7 @@ front_longer s after sink sink' held rest piece a b p = record {
   output = p.output;
   takes = p.takes;
   answers = record {
-    cut = record {
-      parts = ap (λ (x : List ℕ). x ++ piece) p.answers.cut.parts ∙ append_assoc (stream p.frames) rest piece;
-      within = p.answers.cut.within;
-    };
+    cut = cut_longer held rest piece p.frames p.answers.cut;
     answers = p.answers.answers;
   };
   counts = p.counts;

@@ -1,9 +1,8 @@
 -- A session step by step: what one read did, and what became of the frames that are held. Words of private clauses.
-use Rattle.std.specs.Prelude.{◌≡◌, ℕ, ◌+◌, ◌<◌, ◌^◌, true, false, List, length, ⊤}
+use Rattle.std.specs.Prelude.{◌≡◌, ℕ, ◌+◌, ◌<◌, ◌^◌, true, false, List, length}
 use Rattle.std.specs.Io.KnownBytes.{Consumes, Keeps, Appends}
 use Rattle.streams.specs.State.{SourceState, SinkState, LosesRest}
-use Rattle.frame_fields.specs.Frames.{IsIncomplete, IsFirstFrame, SizeFault}
-use Rattle.request_frames.specs.Requests.{IsRefused}
+use Rattle.frame_fields.specs.Frames.{IsIncomplete, IsFirstFrame}
 use Rattle.broker_core.specs.declared.session.SessionError.{SessionError}
 use Rattle.broker_core.specs.declared.session.SessionError.TheVariants.{Frame, Read, Write, OutOfMemory}
 use Rattle.broker_state.specs.State.{State}
@@ -17,20 +16,6 @@ abbrev pub StopsReading : (source source' : SourceState) → SessionError → Ty
 StopsReading source source' Read = Keeps source.left source'.left × (source'.failed ≡ true)
 StopsReading source source' OutOfMemory = (source' ≡ source) × (source'.failed ≡ false)
 StopsReading source source' _ = ⊥
-
--- ---- one frame
-
--- why the first frame that is held, which has the number `index`, is not taken
-abbrev pub StopsTaking : (held : List ℕ) (index : ℕ) → SessionError → Type 0
-StopsTaking held index (Frame n why) = (n ≡ index) × SizeFault why held
-StopsTaking held index OutOfMemory = (frame rest : List ℕ) × IsFirstFrame frame held rest
-StopsTaking held index _ = ⊥
-
--- why a frame, which has the number `index`, is not handled
-abbrev pub StopsReplying : (frame : List ℕ) (index : ℕ) → SessionError → Type 0
-StopsReplying frame index (Frame n why) = (n ≡ index) × IsRefused why frame
-StopsReplying frame index OutOfMemory = ⊤
-StopsReplying frame index _ = ⊥
 
 -- ---- frames that are held
 

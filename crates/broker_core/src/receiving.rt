@@ -6,12 +6,10 @@ ghost use Rattle.broker_core.specs.SessionSteps.{StopsReading};
 
 use crate::session::SessionError;
 use bytes::BytesMut;
+use frame_fields::SIZE_BYTES;
 use std::alloc::Allocator;
 use std::io::Read;
 use streams::{FillError, Source, fill};
-
-/// How many bytes a frame's size field takes.
-const SIZE_BYTES: usize = 4;
 
 /// How many bytes an incomplete first frame lacks; the most that there are while its size isn't there.
 fn lacking(held: &[u8]) -> usize

@@ -46,6 +46,13 @@ impl<S: BatchStore> Node<S> {
         }
     }
 
+    /// What the broker holds.
+    pub fn state(&self) -> &BrokerState<S>
+        ensures { result.now ≡ self.now }
+    {
+        &self.state
+    }
+
     /// The copy of a topic's partition; none of a topic that isn't configured, or that has no such
     /// partition. It takes no memory.
     pub fn log(&self, topic: &[u8], partition: i32) -> Option<&PartitionLog<S>>

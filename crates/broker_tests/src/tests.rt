@@ -2,6 +2,7 @@
 
 mod both_stores;
 mod brokers;
+mod clients_memory;
 mod command_lines;
 mod copying;
 mod cutting;
@@ -18,8 +19,8 @@ mod pieces;
 mod refusing;
 mod request_memory;
 mod script_memory;
+mod served;
 mod session_memory;
-mod sessions;
 mod sinks;
 mod sources;
 mod stores;

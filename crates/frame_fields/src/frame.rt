@@ -13,7 +13,7 @@ use std::alloc::Allocator;
 pub const MAX_FRAME: i32 = 8_388_608;
 
 /// How many bytes a size field takes.
-const SIZE_BYTES: usize = 4;
+pub const SIZE_BYTES: usize = 4;
 
 /// Takes the first complete frame, without its size field; `None` while it is incomplete. The bytes
 /// of the frame aren't copied.
@@ -59,6 +59,33 @@ pub fn take_frame<A: Allocator + Copy>(
         }
         Err(_) => Err(FrameError::OutOfMemory),
     }
+}
+
+/// The first complete frame where it stands, without its size field; `None` while it is incomplete. It
+/// takes no memory.
+///
+/// ```
+/// while let Some(frame) = first_frame(buffer.as_slice())? {
+///     answer(frame)?;
+///     buffer.advance(SIZE_BYTES + frame.len());
+/// }
+/// ```
+///
+/// # Errors
+///
+/// `NegativeSize` and `TooLarge` as soon as the four bytes of the size are there.
+pub fn first_frame(bytes: &[u8]) -> Result<Option<&[u8]>, FrameError>
+    ensures frame_is_the_first { IfOk result (λ found. MatchOption found (IsIncomplete bytes.now)
+        (λ frame. IsFirstFrame frame.now bytes.now
+        (drop (SIZE_BYTES + length frame.now) bytes.now))) }
+    ensures frame_is_within { IfOk result (λ found. IfSome found
+        (λ frame. SIZE_BYTES + length frame.now ≤ length bytes.now)) }
+    ensures bad_size_is_refused { IfErr result (λ e. SizeFault e bytes.now) }
+{
+    let Some(size) = first_size(bytes)? else {
+        return Ok(None);
+    };
+    Ok(Some(&bytes[SIZE_BYTES..SIZE_BYTES + size]))
 }
 
 /// The size of the first frame, where all of it is there.

@@ -10,7 +10,7 @@ use std::process::ExitCode;
 use std::{env, io};
 use streams::{Sink, Source};
 use tcp_edge::{
-    Connection, FAILED, FAULTY, NO_MEMORY, Replies, Requests, run_line, run_serve, serve_port,
+    CommandLine, Connection, FAILED, FAULTY, NO_MEMORY, PromptStream, Replies, Requests, run_start,
 };
 
 /// The arguments of the command line, the program's name first.
@@ -52,38 +52,42 @@ fn no_memory(rt: &HostRuntime) -> u8
     NO_MEMORY
 }
 
-/// Listens on a port as the arguments ask.
-fn listen(rt: &HostRuntime, port: u16, arguments: &[String]) -> u8
+/// Listens on a port as the command line asks.
+fn listen(rt: &HostRuntime, port: u16, line: CommandLine<'_, String>) -> u8
     ensures { result ≤ 4 }
 {
     let Ok(listener) = TcpListener::bind(rt, (Ipv4Addr::LOCALHOST, port)) else {
         let _ = eprintln!(rt; "kbroker: read failed");
         return FAILED;
     };
-    run_serve(
-        rt.alloc(),
-        &listener,
-        arguments,
-        &mut rt.stdout(),
-        &mut rt.stderr(),
-    )
+    line.serve(rt.alloc(), &listener, &mut rt.stdout(), &mut rt.stderr())
 }
 
-/// Does on the standard streams what the arguments ask for, and answers the status. What is printed
+/// Listens for many connections at once, as the command line asks. Nobody who reads what it prints, or
+/// doesn't, holds it up.
+fn start(rt: &HostRuntime, line: CommandLine<'_, String>) -> u8
+    ensures { result ≤ 4 }
+{
+    match line.start_options() {
+        Ok(Some(options)) => {
+            let mut out = PromptStream::stdout(rt.stdout());
+            let mut err = PromptStream::stderr(rt.stderr());
+            run_start(rt, rt.alloc(), options, &mut out, &mut err)
+        }
+        Ok(None) => FAULTY,
+        Err(_) => no_memory(rt),
+    }
+}
+
+/// Does on the standard streams what the command line asks for, and answers the status. What is printed
 /// leaves in large pieces, and before the next read.
-fn run_on_streams(rt: &HostRuntime, arguments: &[String]) -> u8
+fn run_on_streams(rt: &HostRuntime, line: CommandLine<'_, String>) -> u8
     ensures { result ≤ 4 }
 {
     let connection = Connection::new(rt.alloc(), rt.stdin(), rt.stdout());
     let mut source = Source::new(Requests(&connection));
     let mut sink = Sink::new(Replies(&connection));
-    let status = run_line(
-        rt.alloc(),
-        arguments,
-        &mut source,
-        &mut sink,
-        &mut rt.stderr(),
-    );
+    let status = line.run(rt.alloc(), &mut source, &mut sink, &mut rt.stderr());
     if connection.finish() || status == FAILED {
         return status;
     }
@@ -95,9 +99,13 @@ fn run_on_streams(rt: &HostRuntime, arguments: &[String]) -> u8
 fn run(rt: &HostRuntime, arguments: &[String]) -> u8
     ensures { result ≤ 4 }
 {
-    match serve_port(rt.alloc(), arguments) {
-        Ok(Some(port)) => listen(rt, port, arguments),
-        Ok(None) => run_on_streams(rt, arguments),
+    let line = CommandLine::parse(rt.alloc(), arguments);
+    if line.is_start() {
+        return start(rt, line);
+    }
+    match line.serve_port() {
+        Ok(Some(port)) => listen(rt, port, line),
+        Ok(None) => run_on_streams(rt, line),
         Err(_) => no_memory(rt),
     }
 }

@@ -1,4 +1,4 @@
 pub mod ApiTable
 pub mod WholeFrames
 pub mod OneOutcome
-mod FetchLimit
+mod FetchNumbers

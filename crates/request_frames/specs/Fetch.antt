@@ -22,7 +22,10 @@ pub record FetchPartitionValue : Type 0 where
   pub offset : ℤ
   pub max_bytes : ℤ
 
+-- How long the request may wait, in milliseconds, and for how many bytes of records, concerns nobody who answers it.
 pub record FetchValue : Type 0 where
+  pub max_wait_ms : ℤ
+  pub min_bytes : ℤ
   pub max_bytes : ℤ
   pub topics : List (TopicOf FetchPartitionValue)
 
@@ -33,6 +36,8 @@ fetch_partition_value p = record { partition = p.0; offset = p.1.0; max_bytes = 
 
 abbrev pub fetch_request : Value fetch_fields → FetchValue
 fetch_request v = record {
+  max_wait_ms = v.1.0;
+  min_bytes = v.1.1.0;
   max_bytes = v.1.1.1.0;
   topics = map (topic_request fetch_partition fetch_partition_value) v.1.1.1.1.1.0;
 }
@@ -41,6 +46,8 @@ fetch_request v = record {
 
 abbrev pub fetch_view : FetchRequest → FetchValue
 fetch_view r = record {
+  max_wait_ms = r.max_wait_ms;
+  min_bytes = r.min_bytes;
   max_bytes = r.max_bytes;
   topics = map (topic_request fetch_partition fetch_partition_value) (values (topic fetch_partition) r.topics);
 }

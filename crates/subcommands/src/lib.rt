@@ -1,5 +1,5 @@
 //! What each subcommand does between its input and its output: the table of a topic, a session, a
-//! script, a merge of two images. The command line and connections stand in `tcp_edge`.
+//! script, a merge of two images. The command line stands in `tcp_edge`, connections in `listeners`.
 #![tactic(auto)]
 
 mod error;

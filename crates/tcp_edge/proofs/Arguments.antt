@@ -1,5 +1,5 @@
 -- Lemmas on the program's arguments.
-use Rattle.std.proofs.Common.{◌≡◌, ◌≢◌, ◌≤◌, arith, true, List, [], ◌∷◌, map, ap, refl, sym, subst, inl, inr, false, bytes_eq, ◌∙◌, codes, Option, Some, None}
+use Rattle.std.proofs.Common.{◌≡◌, ◌≢◌, ◌≤◌, arith, Bool, true, List, [], ◌∷◌, map, ap, refl, sym, subst, inl, inr, false, bytes_eq, ◌∙◌, codes, Option, Some, None}
 use Rattle.std.specs.Prelude.{ℕ, ℤ, pos, ◌⊎◌, option_map, unwrap_or, MatchOption, Result, Ok, Err}
 use Rattle.std.specs.Int.{w64}
 use Rattle.std.specs.Str.Parse.{ParsesUnsigned, ParsesSigned}
@@ -9,15 +9,20 @@ use Rattle.clap.specs.Words.{App, IsAmong, Kinds, Row, Text, first_value, first_
 use Rattle.clap.specs.declared.error.Error.{Error}
 use Rattle.clap.specs.declared.error.kind.ErrorKind.TheVariants.{OutOfMemory, DisplayHelp, DisplayVersion}
 use Rattle.clap.specs.declared.error.kind.ErrorKind.{ErrorKind}
-use Rattle.broker_state.specs.Configs.{IsValidConfig}
 use Rattle.broker_state.specs.ConfigValues.{config_value}
 use Rattle.broker_state.specs.State.{ConfigValue}
 use Rattle.tcp_edge.specs.declared.asked.ArgumentsFault.{ArgumentsFault}
-use Rattle.tcp_edge.specs.declared.asked.ArgumentsFault.TheVariants.{Clap, Topic}
+use Rattle.tcp_edge.specs.declared.asked.ArgumentsFault.TheVariants.{Clap, Address, Topic}
 use Rattle.tcp_edge.specs.declared.asked.Asked.{Asked}
-use Rattle.tcp_edge.specs.declared.asked.Asked.TheVariants.{Table, Session, Serve, Replay, Merge}
-use Rattle.tcp_edge.specs.Asked.{IsAsked, IsConfigFault, IsFaulty, IsHelp, IsMistake, IsOutOfMemory, IsListener, IsOptionsOf, IsStop, IfMerge, IfNamed, IfReplay, IfServe, IfSession, IfTable, IsNoTopic, AsksForOther}
-use Rattle.tcp_edge.specs.declared.asked.ServeOptions.{ServeOptions}
+use Rattle.tcp_edge.specs.declared.asked.Asked.TheVariants.{Table, Session, Serve, Start, Replay, Merge}
+use Rattle.tcp_edge.specs.declared.addresses.AddressFault.{AddressFault}
+use Rattle.tcp_edge.specs.declared.addresses.AddressFault.TheVariants.{Listen, Advertise, Unspecified}
+use Rattle.tcp_edge.specs.Addresses.{IsAddressOf, IsUnfit}
+use Rattle.tcp_edge.specs.Asked.{IsAsked, IsAddressFault, IsConfigFault, IsFaulty, IsHelp, IsMistake, IsOutOfMemory, IsParsed, IsListener, IsServeOptionsOf, IsServePortOf, IsStarter, IsStartFault, IsStartOptionsOf, IsStartSaid, IsStop, IfListens, IfMerge, IfNamed, IfReplay, IfSession, IfTable, IsBadValue, AsksForOther, AsksForOtherThan}
+use Rattle.listeners.specs.declared.options.ServeOptions.{ServeOptions}
+use Rattle.listeners.specs.declared.options.StartOptions.{StartOptions}
+use Rattle.std.specs.declared.net.socket_addr.SocketAddr.{SocketAddr}
+use Rattle.std.specs.Net.Grammar.{IsSocketText, Parses}
 use Rattle.clap.specs.declared.parser.matches.Found.{Found}
 use Rattle.clap.specs.declared.parser.matches.ArgMatches.{ArgMatches}
 use Rattle.clap.proofs.OnLiterals.{clap_on_literals}
@@ -88,6 +93,12 @@ rows_by_name : (o : Option (Text × List Row)) (name : Text) → option_map (λ 
 rows_by_name None name is = absurd (none-some name is)
 rows_by_name (Some p) name is = (p.1, ap (λ (t : Text). Some (t, p.1)) (same_Some p.0 name is))
 
+-- what is found in the arguments is in the matches
+pub found_rows : (app : App) (roles : Roles) (arguments : List Text) (m : ArgMatches) (name : Text) (rows : List Row) → IsRoles roles
+    → app ≡ kbroker roles → Finds arguments name rows → HasMatchesOf app arguments m → subcommand_rows_of m ≡ Some (name, rows)
+found_rows app roles arguments m name rows are is finds matches =
+    (matches (is_simple_kbroker app roles is)).1 ∙ (ap (λ (a : App). subcommand_of a arguments) is ∙ finds.found roles are)
+
 -- where a subcommand was found, it is named
 pub subcommand_named : (app : App) (roles : Roles) (arguments : List Text) (m : ArgMatches) → IsRoles roles → app ≡ kbroker roles
     → HasMatchesOf app arguments m → (is_simple_and_free app ≡ true → fault_of app arguments ≡ [])
@@ -106,6 +117,7 @@ pub if_subcommand_named : (asked : Asked) (P Q : Text → Type 0) → IfNamed as
 if_subcommand_named Table P Q is leads = tt
 if_subcommand_named (Session g) P Q is leads = leads (codes "session") is
 if_subcommand_named (Serve options) P Q is leads = tt
+if_subcommand_named (Start options) P Q is leads = tt
 if_subcommand_named Replay P Q is leads = leads (codes "replay") is
 if_subcommand_named Merge P Q is leads = leads (codes "merge") is
 
@@ -131,6 +143,16 @@ pub signed_read : (E : Type 0) (G : List ℕ → Result ℤ E → Type 0) (o : O
 signed_read E G None r parses none value = ap (λ (z : Option ℤ). unwrap_or z (pos 0)) (none refl)
 signed_read E G (Some word) None parses none value = let read = value word refl in inr (parses word (Err read.0) read.1, refl)
 signed_read E G (Some word) (Some z) parses none value = inl (parses word (Ok z) (value word refl))
+
+-- and so is an address
+pub address_read : (E : Type 0) (G : List ℕ → Result SocketAddr E → Type 0) (o : Option Text) (r : Option SocketAddr)
+    → ((word : Text) (x : Result SocketAddr E) → G word x → Parses IsSocketText word x)
+    → (o ≡ None → r ≡ None) → ((word : Text) → o ≡ Some word → ReadsOne G word r)
+    → MatchOption r ((a : SocketAddr) → ¬ IsAddressOf o a) (IsAddressOf o)
+address_read E G None None parses none value = λ a is. is
+address_read E G None (Some a) parses none value = absurd (none-some a (sym (none refl)))
+address_read E G (Some word) None parses none value = let read = value word refl in parses word (Err read.0) read.1
+address_read E G (Some word) (Some a) parses none value = parses word (Ok a) (value word refl)
 
 -- ---- faults
 
@@ -158,6 +180,7 @@ stop_said app roles arguments kinds error are is stops said =
 -- or memory ran out
 pub memory_stops : (kinds : Kinds) (fault : ArgumentsFault) → IsOutOfMemory fault → IsStop kinds fault
 memory_stops kinds (Clap error) is = inl is
+memory_stops kinds (Address why) is = is
 memory_stops kinds (Topic why) is = is
 
 -- what clap stops with is no help where none was asked for
@@ -178,6 +201,7 @@ pub mistake_stops : (arguments : List Text) (fault : ArgumentsFault) → HasMist
     → ((kinds : Kinds) → Stops arguments kinds → IsStop kinds fault) → IsMistake fault
 mistake_stops arguments (Clap error) has stops =
     elim (stops has.kinds has.stops) [ inl memory ↦ no_memory_help error memory | inr among ↦ no_help_among has.kinds _ has.no_help has.no_version among ]
+mistake_stops arguments (Address why) has stops = tt
 mistake_stops arguments (Topic why) has stops = tt
 
 -- where help is asked for, it is help, or memory ran out
@@ -192,6 +216,8 @@ help_stops arguments (Clap error) (inl help) stops =
     elim (one_kind DisplayHelp error (stops _ help)) [ inl memory ↦ inl memory | inr is ↦ inr (inl is) ]
 help_stops arguments (Clap error) (inr version) stops =
     elim (one_kind DisplayVersion error (stops _ version)) [ inl memory ↦ inl memory | inr is ↦ inr (inr is) ]
+help_stops arguments (Address why) (inl help) stops = absurd (stops _ help)
+help_stops arguments (Address why) (inr version) stops = absurd (stops _ version)
 help_stops arguments (Topic why) (inl help) stops = absurd (stops _ help)
 help_stops arguments (Topic why) (inr version) stops = absurd (stops _ version)
 
@@ -208,6 +234,7 @@ no_help arguments (inr version) stops = stops _ version
 pub session_fault : (name : Text) (rows : List Row) (fault : ArgumentsFault) → name ≡ codes "session" → IsConfigFault (topic_words rows) fault
     → IsFaulty name rows fault
 session_fault name rows (Clap error) is h = h
+session_fault name rows (Address why) is h = absurd h
 session_fault name rows (Topic why) is h = (
   λ table. let bad : true ≡ false = ap (bytes_eq (codes "session")) (sym is ∙ table) in cc,
   λ merge. let bad : true ≡ false = ap (bytes_eq (codes "session")) (sym is ∙ merge) in cc,
@@ -218,11 +245,23 @@ session_fault name rows (Topic why) is h = (
 pub serve_fault : (name : Text) (rows : List Row) (fault : ArgumentsFault) → name ≡ codes "serve" → IsConfigFault (topic_words rows) fault
     → IsFaulty name rows fault
 serve_fault name rows (Clap error) is h = h
+serve_fault name rows (Address why) is h = absurd h
 serve_fault name rows (Topic why) is h = (
   λ table. let bad : true ≡ false = ap (bytes_eq (codes "serve")) (sym is ∙ table) in cc,
   λ merge. let bad : true ≡ false = ap (bytes_eq (codes "serve")) (sym is ∙ merge) in cc,
   λ replay. let bad : true ≡ false = ap (bytes_eq (codes "serve")) (sym is ∙ replay) in cc,
   h,
+)
+
+pub start_fault : (name : Text) (rows : List Row) (fault : ArgumentsFault) → name ≡ codes "start" → IsStartFault rows fault
+    → IsFaulty name rows fault
+start_fault name rows (Clap error) is h = h
+start_fault name rows (Address why) is h = (is, h)
+start_fault name rows (Topic why) is h = (
+  λ table. let bad : true ≡ false = ap (bytes_eq (codes "start")) (sym is ∙ table) in cc,
+  λ merge. let bad : true ≡ false = ap (bytes_eq (codes "start")) (sym is ∙ merge) in cc,
+  λ replay. let bad : true ≡ false = ap (bytes_eq (codes "start")) (sym is ∙ replay) in cc,
+  h.1,
 )
 
 -- ---- what a parse gives, where the table is asked for
@@ -234,6 +273,8 @@ if_table arguments (Session g) P asks is fact =
     let bad : true ≡ false = ap (bytes_eq (codes "table")) (is (codes "table") [] (finds_table arguments asks)).0 in cc
 if_table arguments (Serve options) P asks is fact =
     let bad : true ≡ false = ap (bytes_eq (codes "table")) (is (codes "table") [] (finds_table arguments asks)).0 in cc
+if_table arguments (Start options) P asks is fact =
+    let bad : true ≡ false = ap (bytes_eq (codes "table")) (is (codes "table") [] (finds_table arguments asks)).0 in cc
 if_table arguments Replay P asks is fact =
     let bad : true ≡ false = ap (bytes_eq (codes "table")) (is (codes "table") [] (finds_table arguments asks)) in cc
 if_table arguments Merge P asks is fact =
@@ -242,6 +283,8 @@ if_table arguments Merge P asks is fact =
 pub table_fault : (arguments : List Text) (fault : ArgumentsFault) → AsksForTable arguments
     → ((name : Text) (rows : List Row) → Finds arguments name rows → IsFaulty name rows fault) → IsOutOfMemory fault
 table_fault arguments (Clap error) asks is = is (codes "table") [] (finds_table arguments asks)
+table_fault arguments (Address why) asks is =
+    let bad : true ≡ false = ap (bytes_eq (codes "table")) (is (codes "table") [] (finds_table arguments asks)).0 in cc
 table_fault arguments (Topic why) asks is = absurd ((is (codes "table") [] (finds_table arguments asks)).0 refl)
 
 -- ---- and where a merge is
@@ -249,10 +292,12 @@ table_fault arguments (Topic why) asks is = absurd ((is (codes "table") [] (find
 pub if_merge : (arguments : List Text) (asked : Asked) (P : Type 0) → AsksForMerge arguments
     → ((name : Text) (rows : List Row) → Finds arguments name rows → IsAsked name rows asked) → IfMerge asked P → P
 if_merge arguments Merge P asks is fact = fact
-if_merge arguments Table P asks is fact = absurd ((is (codes "merge") [] (finds_merge arguments asks)).3 refl)
+if_merge arguments Table P asks is fact = absurd ((is (codes "merge") [] (finds_merge arguments asks)).4 refl)
 if_merge arguments (Session g) P asks is fact =
     let bad : true ≡ false = ap (bytes_eq (codes "merge")) (is (codes "merge") [] (finds_merge arguments asks)).0 in cc
 if_merge arguments (Serve options) P asks is fact =
+    let bad : true ≡ false = ap (bytes_eq (codes "merge")) (is (codes "merge") [] (finds_merge arguments asks)).0 in cc
+if_merge arguments (Start options) P asks is fact =
     let bad : true ≡ false = ap (bytes_eq (codes "merge")) (is (codes "merge") [] (finds_merge arguments asks)).0 in cc
 if_merge arguments Replay P asks is fact =
     let bad : true ≡ false = ap (bytes_eq (codes "merge")) (is (codes "merge") [] (finds_merge arguments asks)) in cc
@@ -260,6 +305,8 @@ if_merge arguments Replay P asks is fact =
 pub merge_fault : (arguments : List Text) (fault : ArgumentsFault) → AsksForMerge arguments
     → ((name : Text) (rows : List Row) → Finds arguments name rows → IsFaulty name rows fault) → IsOutOfMemory fault
 merge_fault arguments (Clap error) asks is = is (codes "merge") [] (finds_merge arguments asks)
+merge_fault arguments (Address why) asks is =
+    let bad : true ≡ false = ap (bytes_eq (codes "merge")) (is (codes "merge") [] (finds_merge arguments asks)).0 in cc
 merge_fault arguments (Topic why) asks is = absurd ((is (codes "merge") [] (finds_merge arguments asks)).1 refl)
 
 -- ---- and where a session, a script or a broker that listens is: it is asked for
@@ -269,89 +316,204 @@ pub if_session : (rows : List Row) (asked : Asked) (P : ConfigValue → Type 0) 
 if_session rows Table P is fact = absurd (is.0 refl)
 if_session rows (Session g) P is fact = (config_value g, is.1, fact)
 if_session rows (Serve options) P is fact = let bad : true ≡ false = ap (bytes_eq (codes "session")) is.0 in cc
+if_session rows (Start options) P is fact = let bad : true ≡ false = ap (bytes_eq (codes "session")) is.0 in cc
 if_session rows Replay P is fact = let bad : true ≡ false = ap (bytes_eq (codes "session")) is in cc
 if_session rows Merge P is fact = let bad : true ≡ false = ap (bytes_eq (codes "session")) is in cc
 
 pub if_replay : (rows : List Row) (asked : Asked) (P : Type 0) → IsAsked (codes "replay") rows asked → IfReplay asked P → P
-if_replay rows Table P is fact = absurd (is.2 refl)
+if_replay rows Table P is fact = absurd (is.3 refl)
 if_replay rows (Session g) P is fact = let bad : true ≡ false = ap (bytes_eq (codes "replay")) is.0 in cc
 if_replay rows (Serve options) P is fact = let bad : true ≡ false = ap (bytes_eq (codes "replay")) is.0 in cc
+if_replay rows (Start options) P is fact = let bad : true ≡ false = ap (bytes_eq (codes "replay")) is.0 in cc
 if_replay rows Replay P is fact = fact
 if_replay rows Merge P is fact = let bad : true ≡ false = ap (bytes_eq (codes "replay")) is in cc
 
-pub if_serve : (rows : List Row) (asked : Asked) (P : Type 0) → IsAsked (codes "serve") rows asked → IfServe asked P → P
+pub if_serve : (rows : List Row) (asked : Asked) (P : Type 0) → IsAsked (codes "serve") rows asked → IfListens asked P → P
 if_serve rows Table P is fact = absurd (is.1 refl)
 if_serve rows (Session g) P is fact = let bad : true ≡ false = ap (bytes_eq (codes "serve")) is.0 in cc
 if_serve rows (Serve options) P is fact = fact
+if_serve rows (Start options) P is fact = let bad : true ≡ false = ap (bytes_eq (codes "serve")) is.0 in cc
 if_serve rows Replay P is fact = let bad : true ≡ false = ap (bytes_eq (codes "serve")) is in cc
 if_serve rows Merge P is fact = let bad : true ≡ false = ap (bytes_eq (codes "serve")) is in cc
 
+pub if_start : (rows : List Row) (asked : Asked) (P : Type 0) → IsAsked (codes "start") rows asked → IfListens asked P → P
+if_start rows Table P is fact = absurd (is.2 refl)
+if_start rows (Session g) P is fact = let bad : true ≡ false = ap (bytes_eq (codes "start")) is.0 in cc
+if_start rows (Start options) P is fact = fact
+if_start rows (Serve options) P is fact = let bad : true ≡ false = ap (bytes_eq (codes "start")) is.0 in cc
+if_start rows Replay P is fact = let bad : true ≡ false = ap (bytes_eq (codes "start")) is in cc
+if_start rows Merge P is fact = let bad : true ≡ false = ap (bytes_eq (codes "start")) is in cc
+
 -- what was done, by what was asked for
 pub done_by : (arguments : List Text) (asked : Asked) (status : ℕ) (Help T M A B : Type 0) → IfTable asked A → (A → status ≡ 0 → T)
-    → IfMerge asked B → (B → status ≡ 0 → M) → IfServe asked (status ≡ 2) → IfNamed asked (λ name. Names arguments name) → status ≡ 0
+    → IfMerge asked B → (B → status ≡ 0 → M) → IfListens asked (status ≡ 2) → IfNamed asked (λ name. Names arguments name) → status ≡ 0
     → Help ⊎ T ⊎ M ⊎ NamesSession arguments ⊎ NamesReplay arguments
 done_by arguments Table status Help T M A B table prints merge prints_merge serve named done = inr (inl (prints table done))
 done_by arguments (Session g) status Help T M A B table prints merge prints_merge serve named done = inr (inr (inr (inl named)))
 done_by arguments (Serve options) status Help T M A B table prints merge prints_merge serve named done = absurd (omega (arith, serve, done))
+done_by arguments (Start options) status Help T M A B table prints merge prints_merge serve named done = absurd (omega (arith, serve, done))
 done_by arguments Replay status Help T M A B table prints merge prints_merge serve named done = inr (inr (inr (inr named)))
 done_by arguments Merge status Help T M A B table prints merge prints_merge serve named done = inr (inr (inl (prints_merge merge done)))
 
 -- only a word in the place of a topic is at fault, or memory is short
-pub topic_or_memory : (name : Text) (rows : List Row) (fault : ArgumentsFault) → IsFaulty name rows fault
-    → IsOutOfMemory fault ⊎ (IsNoTopic fault × ¬ HasTopics (topic_words rows))
-topic_or_memory name rows (Clap error) is = inl is
-topic_or_memory name rows (Topic why) is = inr (tt, is.3)
+pub topic_or_memory : (name : Text) (rows : List Row) (fault : ArgumentsFault) → name ≢ codes "start" → IsFaulty name rows fault
+    → IsOutOfMemory fault ⊎ (IsBadValue fault × ¬ HasTopics (topic_words rows))
+topic_or_memory name rows (Clap error) other is = inl is
+topic_or_memory name rows (Address why) other is = absurd (other is.0)
+topic_or_memory name rows (Topic why) other is = inr (tt, is.3)
+
+pub session_is_no_start : codes "session" ≢ codes "start"
+session_is_no_start is = let bad : true ≡ false = ap (bytes_eq (codes "session")) is in cc
+
+pub serve_is_no_start : codes "serve" ≢ codes "start"
+serve_is_no_start is = let bad : true ≡ false = ap (bytes_eq (codes "serve")) is in cc
+
+-- where many connections are asked for, also an address is
+unfit_address : (rows : List Row) (why : AddressFault) → IsAddressFault rows why → IsUnfit rows
+unfit_address rows Listen is = inl is
+unfit_address rows Advertise is = inr (inl is)
+unfit_address rows Unspecified is = inr (inl is)
+
+pub unfit_or_memory : (name : Text) (rows : List Row) (fault : ArgumentsFault) → IsFaulty name rows fault
+    → IsOutOfMemory fault ⊎ (IsBadValue fault × IsUnfit rows)
+unfit_or_memory name rows (Clap error) is = inl is
+unfit_or_memory name rows (Address why) is = inr (tt, unfit_address rows why is.1)
+unfit_or_memory name rows (Topic why) is = inr (tt, inr (inr is.3))
 
 -- so the status is 3, or it says that a word is none
-pub refused_left : (fault : ArgumentsFault) (status : ℕ) (P H : Type 0) → IsOutOfMemory fault ⊎ (IsNoTopic fault × H)
-    → (IsOutOfMemory fault → status ≡ 3) → (status ≡ 3 → P) → (IsNoTopic fault → (2 ≤ status) × (status ≤ 3) × P)
+pub refused_left : (fault : ArgumentsFault) (status : ℕ) (P H : Type 0) → IsOutOfMemory fault ⊎ (IsBadValue fault × H)
+    → (IsOutOfMemory fault → status ≡ 3) → (status ≡ 3 → P) → (IsBadValue fault → (2 ≤ status) × (status ≤ 3) × P)
     → (2 ≤ status) × (status ≤ 3) × P
 refused_left fault status P H (inl memory) three nothing topic =
     let is : status ≡ 3 = three memory in (omega (arith, is), omega (arith, is), nothing is)
 refused_left fault status P H (inr word) three nothing topic = topic word.0
 
-pub refused_topic : (fault : ArgumentsFault) (status : ℕ) (H : Type 0) → IsOutOfMemory fault ⊎ (IsNoTopic fault × H)
+pub refused_topic : (fault : ArgumentsFault) (status : ℕ) (H : Type 0) → IsOutOfMemory fault ⊎ (IsBadValue fault × H)
     → (IsOutOfMemory fault → status ≡ 3) → status ≡ 2 → H
 refused_topic fault status H (inl memory) three two = let is : status ≡ 3 = three memory in absurd (omega (arith, is, two))
 refused_topic fault status H (inr word) three two = word.1
 
 pub replay_fault : (rows : List Row) (fault : ArgumentsFault) → IsFaulty (codes "replay") rows fault → IsOutOfMemory fault
 replay_fault rows (Clap error) is = is
+replay_fault rows (Address why) is = let bad : true ≡ false = ap (bytes_eq (codes "replay")) is.0 in cc
 replay_fault rows (Topic why) is = absurd (is.2 refl)
 
 -- ---- and where something else than a broker that listens is
 
 pub no_options : (arguments : List Text) (asked : Asked) (options : Option ServeOptions) → AsksForOther arguments
     → ((name : Text) (rows : List Row) → Finds arguments name rows → IsAsked name rows asked)
-    → ((kinds : Kinds) → Stops arguments kinds → ⊥) → IsOptionsOf asked options → options ≡ None
+    → ((kinds : Kinds) → Stops arguments kinds → ⊥) → IsServeOptionsOf asked options → options ≡ None
 no_options arguments Table options asks is stops of = of
 no_options arguments (Session g) options asks is stops of = of
 no_options arguments (Serve p) options (inl asks) is stops of = absurd (asks.3 (is asks.0 asks.1 asks.2).0)
 no_options arguments (Serve p) options (inr stopped) is stops of = absurd (stops stopped.0 stopped.1)
+no_options arguments (Start p) options asks is stops of = of
 no_options arguments Replay options asks is stops of = of
 no_options arguments Merge options asks is stops of = of
+
+pub no_start : (arguments : List Text) (asked : Asked) (options : Option StartOptions) → AsksForOtherThan (codes "start") arguments
+    → ((name : Text) (rows : List Row) → Finds arguments name rows → IsAsked name rows asked)
+    → ((kinds : Kinds) → Stops arguments kinds → ⊥) → IsStartOptionsOf asked options → options ≡ None
+no_start arguments Table options asks is stops of = of
+no_start arguments (Session g) options asks is stops of = of
+no_start arguments (Serve p) options asks is stops of = of
+no_start arguments (Start p) options (inl asks) is stops of = absurd (asks.3 (is asks.0 asks.1 asks.2).0)
+no_start arguments (Start p) options (inr stopped) is stops of = absurd (stops stopped.0 stopped.1)
+no_start arguments Replay options asks is stops of = of
+no_start arguments Merge options asks is stops of = of
+
+-- ---- what a parsed line asks for
+
+pub parsed_ok : (words arguments : List Text) (parsed : Result Asked ArgumentsFault) (asked : Asked) → words ≡ arguments → parsed ≡ Ok asked
+    → IsParsed words parsed → IsParsed arguments (Ok asked)
+parsed_ok words arguments parsed asked same is of =
+    subst (λ (ws : List Text). IsParsed ws (Ok asked)) same (subst (IsParsed words) is of)
+
+pub parsed_err : (words arguments : List Text) (parsed : Result Asked ArgumentsFault) (why : ArgumentsFault) → words ≡ arguments → parsed ≡ Err why
+    → IsParsed words parsed → IsParsed arguments (Err why)
+parsed_err words arguments parsed why same is of =
+    subst (λ (ws : List Text). IsParsed ws (Err why)) same (subst (IsParsed words) is of)
+
+pub not_said : (arguments : List Text) (asked : Asked) (said : Bool) → AsksForOtherThan (codes "start") arguments
+    → ((name : Text) (rows : List Row) → Finds arguments name rows → IsAsked name rows asked)
+    → ((kinds : Kinds) → Stops arguments kinds → ⊥) → IsStartSaid asked said → said ≡ false
+not_said arguments Table said asks is stops of = of
+not_said arguments (Session g) said asks is stops of = of
+not_said arguments (Serve p) said asks is stops of = of
+not_said arguments (Start p) said (inl asks) is stops of = absurd (asks.3 (is asks.0 asks.1 asks.2).0)
+not_said arguments (Start p) said (inr stopped) is stops of = absurd (stops stopped.0 stopped.1)
+not_said arguments Replay said asks is stops of = of
+not_said arguments Merge said asks is stops of = of
 
 -- ---- and where one is
 
 pub options_found : (arguments : List Text) (rows : List Row) (asked : Asked) (options : Option ServeOptions) → Finds arguments (codes "serve") rows
-    → ((name : Text) (rows : List Row) → Finds arguments name rows → IsAsked name rows asked) → IsOptionsOf asked options
+    → ((name : Text) (rows : List Row) → Finds arguments name rows → IsAsked name rows asked) → IsServeOptionsOf asked options
     → MatchOption options (¬ HasTopics (topic_words rows)) (IsListener rows)
 options_found arguments rows Table options finds is of = absurd ((is (codes "serve") rows finds).1 refl)
 options_found arguments rows (Session g) options finds is of =
     let bad : true ≡ false = ap (bytes_eq (codes "serve")) (is (codes "serve") rows finds).0 in cc
 options_found arguments rows (Serve asked) options finds is of =
     subst (λ (p : Option ServeOptions). MatchOption p (¬ HasTopics (topic_words rows)) (IsListener rows)) (sym of) (is (codes "serve") rows finds).1
+options_found arguments rows (Start asked) options finds is of =
+    let bad : true ≡ false = ap (bytes_eq (codes "serve")) (is (codes "serve") rows finds).0 in cc
 options_found arguments rows Replay options finds is of =
     let bad : true ≡ false = ap (bytes_eq (codes "serve")) (is (codes "serve") rows finds) in cc
 options_found arguments rows Merge options finds is of =
     let bad : true ≡ false = ap (bytes_eq (codes "serve")) (is (codes "serve") rows finds) in cc
 
+pub start_found : (arguments : List Text) (rows : List Row) (asked : Asked) (options : Option StartOptions) → Finds arguments (codes "start") rows
+    → ((name : Text) (rows : List Row) → Finds arguments name rows → IsAsked name rows asked) → IsStartOptionsOf asked options
+    → MatchOption options (IsUnfit rows) (IsStarter rows)
+start_found arguments rows Table options finds is of = absurd ((is (codes "start") rows finds).2 refl)
+start_found arguments rows (Session g) options finds is of =
+    let bad : true ≡ false = ap (bytes_eq (codes "start")) (is (codes "start") rows finds).0 in cc
+start_found arguments rows (Serve asked) options finds is of =
+    let bad : true ≡ false = ap (bytes_eq (codes "start")) (is (codes "start") rows finds).0 in cc
+start_found arguments rows (Start asked) options finds is of =
+    subst (λ (p : Option StartOptions). MatchOption p (IsUnfit rows) (IsStarter rows)) (sym of) (is (codes "start") rows finds).1
+start_found arguments rows Replay options finds is of =
+    let bad : true ≡ false = ap (bytes_eq (codes "start")) (is (codes "start") rows finds) in cc
+start_found arguments rows Merge options finds is of =
+    let bad : true ≡ false = ap (bytes_eq (codes "start")) (is (codes "start") rows finds) in cc
+
 -- where memory isn't short, only a topic is at fault
 pub topic_fault : (arguments : List Text) (rows : List Row) (fault : ArgumentsFault) → Finds arguments (codes "serve") rows
     → ((name : Text) (rows : List Row) → Finds arguments name rows → IsFaulty name rows fault) → ¬ IsOutOfMemory fault
     → ¬ HasTopics (topic_words rows)
-topic_fault arguments rows (Clap error) finds is enough = absurd (enough (is (codes "serve") rows finds))
-topic_fault arguments rows (Topic why) finds is enough = (is (codes "serve") rows finds).3
+topic_fault arguments rows fault finds is enough =
+    elim (topic_or_memory (codes "serve") rows fault serve_is_no_start (is (codes "serve") rows finds)) [ inl memory ↦ absurd (enough memory) | inr topic ↦ topic.1 ]
 
-pub port_found : (rows : List Row) (options : ServeOptions) → IsListener rows options → IsPort rows options.config.port × HasTopics (topic_words rows)
-port_found rows options is = (subst (IsPort rows) (sym is.config.port_is) is.is_port, (_, is.config.topics))
+-- or an address
+pub start_fault_is : (arguments : List Text) (rows : List Row) (fault : ArgumentsFault) → Finds arguments (codes "start") rows
+    → ((name : Text) (rows : List Row) → Finds arguments name rows → IsFaulty name rows fault) → ¬ IsOutOfMemory fault → IsUnfit rows
+start_fault_is arguments rows fault finds is enough =
+    elim (unfit_or_memory (codes "start") rows fault (is (codes "start") rows finds)) [ inl memory ↦ absurd (enough memory) | inr value ↦ value.1 ]
+
+pub port_found : (arguments : List Text) (rows : List Row) (asked : Asked) (port : Option ℕ) → Finds arguments (codes "serve") rows
+    → ((name : Text) (rows : List Row) → Finds arguments name rows → IsAsked name rows asked) → IsServePortOf asked port
+    → MatchOption port (¬ HasTopics (topic_words rows)) (λ port. IsPort rows port × HasTopics (topic_words rows))
+port_found arguments rows Table port finds is of = absurd ((is (codes "serve") rows finds).1 refl)
+port_found arguments rows (Session g) port finds is of =
+    let bad : true ≡ false = ap (bytes_eq (codes "serve")) (is (codes "serve") rows finds).0 in cc
+port_found arguments rows (Serve asked) port finds is of =
+    let listens = (is (codes "serve") rows finds).1 in
+    subst (λ (p : Option ℕ). MatchOption p (¬ HasTopics (topic_words rows)) (λ port. IsPort rows port × HasTopics (topic_words rows))) (sym of)
+    (subst (IsPort rows) (sym listens.config.port_is) listens.is_port, (_, listens.config.topics))
+port_found arguments rows (Start asked) port finds is of =
+    let bad : true ≡ false = ap (bytes_eq (codes "serve")) (is (codes "serve") rows finds).0 in cc
+port_found arguments rows Replay port finds is of =
+    let bad : true ≡ false = ap (bytes_eq (codes "serve")) (is (codes "serve") rows finds) in cc
+port_found arguments rows Merge port finds is of =
+    let bad : true ≡ false = ap (bytes_eq (codes "serve")) (is (codes "serve") rows finds) in cc
+
+pub no_port_asked : (arguments : List Text) (asked : Asked) (port : Option ℕ) → AsksForOther arguments
+    → ((name : Text) (rows : List Row) → Finds arguments name rows → IsAsked name rows asked)
+    → ((kinds : Kinds) → Stops arguments kinds → ⊥) → IsServePortOf asked port → port ≡ None
+no_port_asked arguments Table port asks is stops of = of
+no_port_asked arguments (Session g) port asks is stops of = of
+no_port_asked arguments (Serve p) port (inl asks) is stops of = absurd (asks.3 (is asks.0 asks.1 asks.2).0)
+no_port_asked arguments (Serve p) port (inr stopped) is stops of = absurd (stops stopped.0 stopped.1)
+no_port_asked arguments (Start p) port asks is stops of = of
+no_port_asked arguments Replay port asks is stops of = of
+no_port_asked arguments Merge port asks is stops of = of

@@ -1,2 +1,4 @@
 mod Arguments
+mod TextAndNumber
 mod TopicLists
+mod Hosts

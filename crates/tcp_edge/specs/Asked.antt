@@ -1,15 +1,20 @@
 -- What a parse of the command line gives, by the subcommand that clap found and its values.
-use Rattle.std.specs.Prelude.{◌≡◌, ◌≢◌, ◌⊎◌, ℕ, List, codes, ⊤, Option, Some, None}
-use Rattle.clap.specs.Words.{HasKind, Kinds, Row, Text, kind_of}
+use Rattle.std.specs.Prelude.{◌≡◌, ◌≢◌, ◌⊎◌, ℕ, Bool, true, false, List, codes, ⊤, Option, Some, None, Result, IfOk, IsErrAnd, MatchResult}
+use Rattle.clap.specs.Words.{HasKind, Kinds, Row, Text, kind_of, one_of}
 use Rattle.clap.specs.declared.error.kind.ErrorKind.TheVariants as kind
 use Rattle.broker_state.specs.ConfigValues.{config_value}
 use Rattle.broker_state.specs.State.{ConfigValue}
 use Rattle.tcp_edge.specs.declared.asked.Asked.{Asked}
-use Rattle.tcp_edge.specs.declared.asked.Asked.TheVariants.{Table, Session, Serve, Replay, Merge}
-use Rattle.tcp_edge.specs.declared.asked.ServeOptions.{ServeOptions}
+use Rattle.tcp_edge.specs.declared.asked.Asked.TheVariants.{Table, Session, Serve, Start, Replay, Merge}
+use Rattle.listeners.specs.declared.options.ServeOptions.{ServeOptions}
+use Rattle.listeners.specs.declared.options.StartOptions.{StartOptions}
+use Rattle.tcp_edge.specs.declared.addresses.AddressFault.{AddressFault}
+use Rattle.tcp_edge.specs.declared.addresses.AddressFault.TheVariants.{Listen, Advertise, Unspecified}
 use Rattle.tcp_edge.specs.declared.asked.ArgumentsFault.{ArgumentsFault}
-use Rattle.tcp_edge.specs.declared.asked.ArgumentsFault.TheVariants.{Clap, Topic}
-use Rattle.tcp_edge.specs.CommandLine.{HasTopics, IsConfigOf, IsPort, IsConnections, Finds, Stops, topic_words}
+use Rattle.std.specs.declared.net.socket_addr.SocketAddr.{SocketAddr}
+use Rattle.tcp_edge.specs.declared.asked.ArgumentsFault.TheVariants.{Clap, Address, Topic}
+use Rattle.tcp_edge.specs.Addresses.{Advertises, HasNoAdvertised, HasNoListen, IsListen}
+use Rattle.tcp_edge.specs.CommandLine.{HasTopics, IsConfigAt, IsConfigOf, IsNumberOf, IsPort, IsConnections, Finds, Names, Stops, topic_words}
 
 -- a broker that listens: at first its configuration has the port that was asked for
 pub record IsListener (rows : List Row) (options : ServeOptions) : Type 0 where
@@ -18,10 +23,23 @@ pub record IsListener (rows : List Row) (options : ServeOptions) : Type 0 where
   pub config : IsConfigOf rows port (config_value options.config)
   pub connections : IsConnections rows options.connections
 
+-- a broker that listens for many connections: each option as it is given, or its default
+pub record IsStarter (rows : List Row) (options : StartOptions) : Type 0 where
+  pub listen : IsListen rows options.listen
+  pub host : Text
+  pub port : ℕ
+  pub advertises : Advertises rows options.listen host port
+  pub config : IsConfigAt rows host port (config_value options.config)
+  pub most_connections : IsNumberOf 32 (one_of (codes "most-connections") rows) options.most_connections
+  pub most_held : IsNumberOf 64 (one_of (codes "most-held") rows) options.most_held
+  pub idle : IsNumberOf 64 (one_of (codes "idle") rows) options.idle
+
 abbrev pub IsAsked : Text → List Row → Asked → Type 0
-IsAsked name rows Table = (name ≢ codes "session") × (name ≢ codes "serve") × (name ≢ codes "replay") × (name ≢ codes "merge")
+IsAsked name rows Table = (name ≢ codes "session") × (name ≢ codes "serve") × (name ≢ codes "start") × (name ≢ codes "replay")
+    × (name ≢ codes "merge")
 IsAsked name rows (Session g) = (name ≡ codes "session") × IsConfigOf rows 9092 (config_value g)
 IsAsked name rows (Serve options) = (name ≡ codes "serve") × IsListener rows options
+IsAsked name rows (Start options) = (name ≡ codes "start") × IsStarter rows options
 IsAsked name rows Replay = name ≡ codes "replay"
 IsAsked name rows Merge = name ≡ codes "merge"
 
@@ -30,6 +48,7 @@ abbrev pub IfNamed : Asked → (Text → Type 0) → Type 0
 IfNamed Table P = ⊤
 IfNamed (Session g) P = P (codes "session")
 IfNamed (Serve options) P = ⊤
+IfNamed (Start options) P = ⊤
 IfNamed Replay P = P (codes "replay")
 IfNamed Merge P = P (codes "merge")
 
@@ -54,55 +73,105 @@ IfMerge Merge P = P
 IfMerge asked P = ⊤
 
 -- a fact, where a broker that listens is
-abbrev pub IfServe : Asked → Type 0 → Type 0
-IfServe (Serve options) P = P
-IfServe asked P = ⊤
+abbrev pub IfListens : Asked → Type 0 → Type 0
+IfListens (Serve options) P = P
+IfListens (Start options) P = P
+IfListens asked P = ⊤
 
 -- there was no memory to look at the arguments
 abbrev pub IsOutOfMemory : ArgumentsFault → Type 0
 IsOutOfMemory (Clap error) = kind_of error ≡ kind.OutOfMemory
+IsOutOfMemory (Address why) = ⊥
 IsOutOfMemory (Topic why) = ⊥
 
 -- what clap stopped with: memory ran out, or its error is of one of these kinds
 abbrev pub IsStop : Kinds → ArgumentsFault → Type 0
 IsStop kinds (Clap error) = HasKind kinds error
+IsStop kinds (Address why) = ⊥
 IsStop kinds (Topic why) = ⊥
 
 -- neither help nor the version was asked for
 abbrev pub IsMistake : ArgumentsFault → Type 0
 IsMistake (Clap error) = (kind_of error ≢ kind.DisplayHelp) × (kind_of error ≢ kind.DisplayVersion)
+IsMistake (Address why) = ⊤
 IsMistake (Topic why) = ⊤
 
 -- help was asked for, or the version
 abbrev pub IsHelp : ArgumentsFault → Type 0
 IsHelp (Clap error) = (kind_of error ≡ kind.DisplayHelp) ⊎ (kind_of error ≡ kind.DisplayVersion)
+IsHelp (Address why) = ⊥
 IsHelp (Topic why) = ⊥
 
--- a word in the place of a topic is none
-abbrev pub IsNoTopic : ArgumentsFault → Type 0
-IsNoTopic (Clap error) = ⊥
-IsNoTopic (Topic why) = ⊤
+-- a word in the place of an address or a topic is none
+abbrev pub IsBadValue : ArgumentsFault → Type 0
+IsBadValue (Clap error) = ⊥
+IsBadValue (Address why) = ⊤
+IsBadValue (Topic why) = ⊤
 
 -- memory ran out, or one of the words in the place of topics is none
 abbrev pub IsConfigFault : List Text → ArgumentsFault → Type 0
 IsConfigFault words (Clap error) = kind_of error ≡ kind.OutOfMemory
+IsConfigFault words (Address why) = ⊥
 IsConfigFault words (Topic why) = ¬ HasTopics words
 
--- no fault of clap's: memory ran out, or an argument in the place of a topic is none
+-- what is wrong with the addresses: that to listen at comes first
+abbrev pub IsAddressFault : List Row → AddressFault → Type 0
+IsAddressFault rows Listen = HasNoListen rows
+IsAddressFault rows Advertise = HasNoAdvertised rows
+IsAddressFault rows Unspecified = HasNoAdvertised rows
+
+-- memory ran out, or an address to advertise is none for this reason
+abbrev pub IsMemoryOr : Type 0 → ArgumentsFault → Type 0
+IsMemoryOr P (Clap error) = kind_of error ≡ kind.OutOfMemory
+IsMemoryOr P (Address Listen) = ⊥
+IsMemoryOr P (Address Advertise) = P
+IsMemoryOr P (Address Unspecified) = P
+IsMemoryOr P (Topic why) = ⊥
+
+-- Memory ran out, or this is the first fault of what `start` is given: the topics are looked at where the addresses are right.
+abbrev pub IsStartFault : List Row → ArgumentsFault → Type 0
+IsStartFault rows (Clap error) = kind_of error ≡ kind.OutOfMemory
+IsStartFault rows (Address why) = IsAddressFault rows why
+IsStartFault rows (Topic why) = ((listen : SocketAddr) × (host : Text) × (port : ℕ) × IsListen rows listen × Advertises rows listen host port)
+    × ¬ HasTopics (topic_words rows)
+
+-- no fault of clap's: memory ran out, or an argument in the place of an address or a topic is none
 abbrev pub IsFaulty : Text → List Row → ArgumentsFault → Type 0
 IsFaulty name rows (Clap error) = kind_of error ≡ kind.OutOfMemory
+IsFaulty name rows (Address why) = (name ≡ codes "start") × IsAddressFault rows why
 IsFaulty name rows (Topic why) =
     (name ≢ codes "table") × (name ≢ codes "merge") × (name ≢ codes "replay") × ¬ HasTopics (topic_words rows)
 
--- the broker that listens, where one is asked for
-abbrev pub IsOptionsOf : Asked → Option ServeOptions → Type 0
-IsOptionsOf Table options = options ≡ None
-IsOptionsOf (Session g) options = options ≡ None
-IsOptionsOf (Serve asked) options = options ≡ Some asked
-IsOptionsOf Replay options = options ≡ None
-IsOptionsOf Merge options = options ≡ None
+-- the broker that listens for one connection after the other, where it is asked for
+abbrev pub IsServeOptionsOf : Asked → Option ServeOptions → Type 0
+IsServeOptionsOf (Serve asked) options = options ≡ Some asked
+IsServeOptionsOf asked options = options ≡ None
 
--- the arguments ask for something else than a broker that listens, or clap stops at them
-abbrev pub AsksForOther : List Text → Type 0
-AsksForOther arguments = ((name : Text) × (rows : List Row) × Finds arguments name rows × (name ≢ codes "serve"))
+abbrev pub IsServePortOf : Asked → Option ℕ → Type 0
+IsServePortOf (Serve asked) port = port ≡ Some asked.config.port
+IsServePortOf asked port = port ≡ None
+
+-- the broker that listens for many, where it is
+abbrev pub IsStartOptionsOf : Asked → Option StartOptions → Type 0
+IsStartOptionsOf (Start asked) options = options ≡ Some asked
+IsStartOptionsOf asked options = options ≡ None
+
+-- whether it is
+abbrev pub IsStartSaid : Asked → Bool → Type 0
+IsStartSaid (Start asked) said = said ≡ true
+IsStartSaid asked said = said ≡ false
+
+-- what a parse of the arguments gives
+pub record IsParsed (arguments : List Text) (parsed : Result Asked ArgumentsFault) : Type 0 where
+  pub asked : (name : Text) (rows : List Row) → Finds arguments name rows → MatchResult parsed (IsAsked name rows) (IsFaulty name rows)
+  pub named : IfOk parsed (λ asked. IfNamed asked (λ name. Names arguments name))
+  pub stopped : (kinds : Kinds) → Stops arguments kinds → IsErrAnd parsed (IsStop kinds)
+
+-- the arguments ask for something else than this subcommand, or clap stops at them
+abbrev pub AsksForOtherThan : Text → List Text → Type 0
+AsksForOtherThan wanted arguments = ((name : Text) × (rows : List Row) × Finds arguments name rows × (name ≢ wanted))
     ⊎ ((kinds : Kinds) × Stops arguments kinds)
+
+-- the arguments ask for something else than a broker that listens for one connection after the other, or clap stops at them
+abbrev pub AsksForOther : List Text → Type 0
+AsksForOther arguments = AsksForOtherThan (codes "serve") arguments

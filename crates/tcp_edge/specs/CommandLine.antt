@@ -16,9 +16,13 @@ use Rattle.clap.specs.declared.error.kind.ErrorKind.TheVariants as kind
 
 -- ---- arguments
 
+-- `--NAME VALUE`, any text
+abbrev pub text_rule : Text → Rule
+text_rule name = record (new_rule name) { long = Some name; value_names = 1 }
+
 -- `--NAME VALUE`
 abbrev pub option_rule : Text → ValueParser → Rule
-option_rule name parser = record (new_rule name) { long = Some name; value_names = 1; parser = Some parser }
+option_rule name parser = record (text_rule name) { parser = Some parser }
 
 -- the words of a role, however they lie in memory
 abbrev pub Roles : Type 0
@@ -40,6 +44,30 @@ port_rule = record (option_rule (codes "port") (parsers.Signed (pos 0) (pos 6553
 abbrev pub connections_rule : Rule
 connections_rule = record (option_rule (codes "connections") (parsers.Signed (pos 0) (pos 4294967295))) { required = true }
 
+-- `--listen ADDRESS:PORT`; 127.0.0.1:9092 where it isn't given
+abbrev pub listen_rule : Rule
+listen_rule = record (text_rule (codes "listen")) { defaults = codes "127.0.0.1:9092" ∷ [] }
+
+-- `--advertise HOST:PORT`
+abbrev pub advertise_rule : Rule
+advertise_rule = text_rule (codes "advertise")
+
+-- `--most-connections N`, from 1 to the greatest number of `u32`; 10,000 where it isn't given
+abbrev pub most_connections_rule : Rule
+most_connections_rule = record (option_rule (codes "most-connections") (parsers.Signed (pos 1) (pos 4294967295))) {
+  defaults = codes "10000" ∷ [];
+}
+
+-- `--most-held BYTES`, from 1 to the greatest number of `i64`; 1 GiB where it isn't given
+abbrev pub most_held_rule : Rule
+most_held_rule = record (option_rule (codes "most-held") (parsers.Signed (pos 1) (pos 9223372036854775807))) {
+  defaults = codes "1073741824" ∷ [];
+}
+
+-- `--idle SECONDS`, from 1 to the greatest number of `u32`; 600 where it isn't given
+abbrev pub idle_rule : Rule
+idle_rule = record (option_rule (codes "idle") (parsers.Signed (pos 1) (pos 4294967295))) { defaults = codes "600" ∷ [] }
+
 -- the topics, at least one
 abbrev pub topics_rule : Rule
 topics_rule = record (new_rule (codes "topics")) {
@@ -58,6 +86,10 @@ abbrev pub serve_app : Roles → App
 serve_app roles = with_rule (with_rule (with_rule (with_rule (with_rule (new_app (codes "serve"))
     port_rule) (role_rule roles)) first_producer_rule) connections_rule) topics_rule
 
+abbrev pub start_app : Roles → App
+start_app roles = with_rule (with_rule (with_rule (with_rule (with_rule (with_rule (with_rule (with_rule (new_app (codes "start"))
+    listen_rule) advertise_rule) (role_rule roles)) first_producer_rule) most_connections_rule) most_held_rule) idle_rule) topics_rule
+
 -- added to a command, it is a subcommand with these rules
 abbrev pub IsSubcommand : App → Command → Type 0
 IsSubcommand app command = (old new : Command) → AddsSubcommand old command new
@@ -69,8 +101,9 @@ top = record (new_app (codes "kbroker")).top { has_version = true; subcommand_re
 
 -- the command `kbroker`, with its subcommands
 abbrev pub kbroker : Roles → App
-kbroker roles = with_subcommand (with_subcommand (with_subcommand (with_subcommand (with_subcommand (record { top = top; subs = [] })
-    (new_app (codes "table")).top) (session_app roles).top) (serve_app roles).top)
+kbroker roles = with_subcommand (with_subcommand (with_subcommand (with_subcommand (with_subcommand (with_subcommand
+    (record { top = top; subs = [] })
+    (new_app (codes "table")).top) (session_app roles).top) (serve_app roles).top) (start_app roles).top)
     (new_app (codes "replay")).top) (new_app (codes "merge")).top
 
 -- the two words that clap takes for a role
@@ -116,14 +149,17 @@ role_of rows = if option_map_or (λ word. bytes_eq word (codes "follower")) (fir
 abbrev pub topic_words : List Row → List Text
 topic_words rows = unwrap_or (all_of (codes "topics") rows) []
 
--- A topic's name, `:`, and the number of its partitions in decimal digits, no more than 32 bits hold. The last `:` is meant,
--- since no digit is one.
-pub record IsTopic (word : Text) (t : TopicConfig) : Type 0 where
+-- Some text, `:`, and a number in decimal digits, no more than so many bits hold. The last `:` is meant, since no digit is one.
+pub record IsTextAndNumber (bits : ℕ) (word text : Text) (n : ℕ) : Type 0 where
   pub digits : Text
-  pub parts : word ≡ t.name ++ codes ":" ++ digits
+  pub parts : word ≡ text ++ codes ":" ++ digits
   pub are_digits : IsNumeral 10 digits
-  pub number : t.partitions ≡ digits_value 10 digits
-  pub fits : digits_value 10 digits < 2 ^ 32
+  pub number : n ≡ digits_value 10 digits
+  pub fits : digits_value 10 digits < 2 ^ bits
+
+-- a topic's name, `:`, and the number of its partitions
+abbrev pub IsTopic : Text → TopicConfig → Type 0
+IsTopic word t = IsTextAndNumber 32 word t.name t.partitions
 
 -- one more topic, the one that the word says
 abbrev pub AddsTopic : Text → (topics topics' : List TopicConfig) → Type 0
@@ -169,18 +205,18 @@ IsSignedOf (Some word) z = (SaysSigned word × (z ≡ signed_digits_value 10 wor
 abbrev pub IsFirstProducer : List Row → ℤ → Type 0
 IsFirstProducer rows id = IsSignedOf (one_of (codes "first-producer") rows) id
 
--- the program's broker, at a port
-pub record IsConfigOf (rows : List Row) (port : ℕ) (g : ConfigValue) : Type 0 where
+-- the program's broker, which clients reach at a host and a port
+pub record IsConfigAt (rows : List Row) (host : Text) (port : ℕ) (g : ConfigValue) : Type 0 where
   pub role : g.role ≡ role_of rows
   pub node_id : g.node_id ≡ pos 1
-  pub host : g.host ≡ codes "127.0.0.1"
+  pub host_is : g.host ≡ host
   pub port_is : g.port ≡ port
   pub topics : AreTopics (topic_words rows) g.topics
   pub first_producer : IsFirstProducer rows g.first_producer
 
--- the same broker at another port
-abbrev pub at_port : ConfigValue → ℕ → ConfigValue
-at_port g port = record g { port = port }
+-- the program's broker, at a port
+abbrev pub IsConfigOf : List Row → ℕ → ConfigValue → Type 0
+IsConfigOf rows port g = IsConfigAt rows (codes "127.0.0.1") port g
 
 -- Clap finds no fault in the arguments, and finds the subcommand of this name in them, where the words of roles lie somewhere
 -- in memory.

@@ -3,15 +3,17 @@
 ghost use Rattle.std.specs.Prelude.{◌≡◌, ◌≢◌, ℕ, pos, List, Some, IfOk, IfErr, IsErrAnd, MatchResult, codes, map};
 ghost use Rattle.std.specs.Bool.{MatchBool};
 ghost use Rattle.broker_state.specs.ConfigValues.{config_value};
-ghost use Rattle.clap.specs.Words.{Kinds, Row, Text, found_of, rows_of, subcommand_name_of, subcommand_rows_of};
-ghost use Rattle.tcp_edge.specs.Asked.{IfNamed, IsAsked, IsConfigFault, IsFaulty, IsListener, IsOutOfMemory, IsOptionsOf, IsStop};
-ghost use Rattle.tcp_edge.specs.CommandLine.{Finds, IsConfigOf, IsConnections, IsFirstProducer, IsPort, Names, Stops, role_of, topic_words};
+ghost use Rattle.clap.specs.Words.{Kinds, Row, Text, found_of, one_of, rows_of, subcommand_name_of, subcommand_rows_of};
+ghost use Rattle.tcp_edge.specs.Asked.{IfNamed, IsAsked, IsConfigFault, IsFaulty, IsListener, IsOutOfMemory, IsServeOptionsOf, IsServePortOf, IsStarter, IsStartFault, IsStartOptionsOf, IsStartSaid, IsStop};
+ghost use Rattle.tcp_edge.specs.CommandLine.{Finds, IsConfigAt, IsFirstProducer, IsNumberOf, IsPort, Names, Stops, role_of, topic_words};
 
+use crate::addresses::{AddressFault, advertised_of, listen_of};
 use crate::commands::command;
 use crate::topics::topics_of;
 use broker_core::{Config, ConfigError, Role};
 use clap::error::ErrorKind;
 use clap::{ArgMatches, Error};
+use listeners::{ServeOptions, StartOptions};
 use std::alloc::{AllocError, Global};
 use std::convert::AsStr;
 use std::string::String;
@@ -32,20 +34,14 @@ pub(crate) enum Asked {
     Table,
     /// The replies to a stream of requests, by a broker of this configuration.
     Session(Config<Global>),
-    /// A broker that listens.
+    /// A broker that listens for one connection after the other.
     Serve(ServeOptions),
+    /// A broker that listens for many connections at once.
+    Start(StartOptions),
     /// What comes of a script's lines.
     Replay,
     /// Two images merged.
     Merge,
-}
-
-/// A broker that listens, at the port of its configuration.
-#[derive(Drop)]
-pub(crate) struct ServeOptions {
-    pub(crate) config: Config<Global>,
-    /// How many connections it serves.
-    pub(crate) connections: u32,
 }
 
 /// Why a command line asks for nothing.
@@ -53,19 +49,52 @@ pub(crate) struct ServeOptions {
 pub(crate) enum ArgumentsFault {
     /// What `clap` says of it; requests for help, and out of memory.
     Clap(Error),
+    /// An address that is none.
+    Address(AddressFault),
     /// The first argument in the place of a topic that is none.
     Topic(ConfigError),
 }
 
 impl Asked {
-    /// The broker that listens, if one was asked for.
+    /// The port of the broker that listens for one connection after the other, if it was asked for.
+    pub(crate) fn serve_port(&self) -> Option<u16>
+        ensures { IsServePortOf self.now result }
+    {
+        match self {
+            Asked::Serve(options) => Some(options.config.port),
+            _ => None,
+        }
+    }
+
+    /// The broker that listens for one connection after the other, if it was asked for.
     pub(crate) fn serve_options(self) -> Option<ServeOptions>
-        ensures { IsOptionsOf self result }
+        ensures { IsServeOptionsOf self result }
     {
         match self {
             Asked::Serve(options) => Some(options),
             Asked::Table => None,
             Asked::Session(_config) => None,
+            Asked::Start(_options) => None,
+            Asked::Replay | Asked::Merge => None,
+        }
+    }
+
+    /// Whether a broker that listens for many connections at once was asked for.
+    pub(crate) fn is_start(&self) -> bool
+        ensures { IsStartSaid self.now result }
+    {
+        matches!(self, Asked::Start(_))
+    }
+
+    /// The broker that listens for many connections at once, if it was asked for.
+    pub(crate) fn start_options(self) -> Option<StartOptions>
+        ensures { IsStartOptionsOf self result }
+    {
+        match self {
+            Asked::Start(options) => Some(options),
+            Asked::Table => None,
+            Asked::Session(_config) => None,
+            Asked::Serve(_options) => None,
             Asked::Replay | Asked::Merge => None,
         }
     }
@@ -78,7 +107,7 @@ impl ArgumentsFault {
     {
         match self {
             ArgumentsFault::Clap(error) => matches!(error.kind(), ErrorKind::OutOfMemory),
-            ArgumentsFault::Topic(_) => false,
+            ArgumentsFault::Address(_) | ArgumentsFault::Topic(_) => false,
         }
     }
 }
@@ -109,21 +138,22 @@ fn first_producer_of(matches: &ArgMatches<'_>) -> i64
     matches.get_one::<i64>("first-producer").unwrap_or(0)
 }
 
-/// The configuration of a broker at a port.
+/// The configuration of a broker that clients reach at a host and a port.
 fn config_of(
     alloc: Global,
     matches: &ArgMatches<'_>,
+    host: &str,
     port: u16,
 ) -> Result<Config<Global>, ArgumentsFault>
     ensures config { IfOk result (λ config.
-        IsConfigOf (rows_of (found_of matches.now)) port (config_value config)) }
+        IsConfigAt (rows_of (found_of matches.now)) host.now port (config_value config)) }
     ensures fault { IfErr result (IsConfigFault (topic_words (rows_of (found_of matches.now)))) }
 {
     let arguments = matches.get_strs("topics").unwrap_or(&[]);
     Ok(Config {
         role: role_of(matches),
         node_id: NODE_ID,
-        host: String::from_str(alloc, HOST)?,
+        host: String::from_str(alloc, host)?,
         port,
         topics: topics_of(alloc, arguments)?,
         first_producer: first_producer_of(matches),
@@ -137,24 +167,56 @@ fn port_of(matches: &ArgMatches<'_>) -> u16
     matches.get_one::<u16>("port").unwrap_or(0)
 }
 
-/// How many connections to serve; 0 where the matches don't say.
-fn connections_of(matches: &ArgMatches<'_>) -> u32
-    ensures { IsConnections (rows_of (found_of matches.now)) result }
+/// A count; 0 where there is none in the matches.
+fn count_of(matches: &ArgMatches<'_>, name: &str) -> u32
+    ensures { IsNumberOf 32 (one_of name.now (rows_of (found_of matches.now))) result }
 {
-    matches.get_one::<u32>("connections").unwrap_or(0)
+    matches.get_one::<u32>(name).unwrap_or(0)
 }
 
-/// A broker that listens.
+/// An amount of bytes or of seconds; 0 where there is none in the matches.
+fn amount_of(matches: &ArgMatches<'_>, name: &str) -> u64
+    ensures { IsNumberOf 64 (one_of name.now (rows_of (found_of matches.now))) result }
+{
+    matches.get_one::<u64>(name).unwrap_or(0)
+}
+
+/// A broker that listens for one connection after the other.
 fn serve_options_of(alloc: Global, matches: &ArgMatches<'_>) -> Result<ServeOptions, ArgumentsFault>
     ensures options { IfOk result (IsListener (rows_of (found_of matches.now))) }
     ensures fault { IfErr result (IsConfigFault (topic_words (rows_of (found_of matches.now)))) }
 {
     let port = port_of(matches);
-    let connections = connections_of(matches);
-    let config = config_of(alloc, matches, port)?;
+    let connections = count_of(matches, "connections");
+    let config = config_of(alloc, matches, HOST, port)?;
     Ok(ServeOptions {
         config,
         connections,
+    })
+}
+
+/// A broker that listens for many connections at once.
+///
+/// # Errors
+///
+/// The first fault, of the address to listen at, that to advertise, and the topics, in this order; out
+/// of memory.
+fn start_options_of(alloc: Global, matches: &ArgMatches<'_>) -> Result<StartOptions, ArgumentsFault>
+    ensures options { IfOk result (IsStarter (rows_of (found_of matches.now))) }
+    ensures fault { IfErr result (IsStartFault (rows_of (found_of matches.now))) }
+{
+    let most_connections = count_of(matches, "most-connections");
+    let most_held = amount_of(matches, "most-held");
+    let idle = amount_of(matches, "idle");
+    let listen = listen_of(matches)?;
+    let advertised = advertised_of(alloc, matches, listen)?;
+    let config = config_of(alloc, matches, &advertised.host, advertised.port)?;
+    Ok(StartOptions {
+        config,
+        listen,
+        most_connections,
+        most_held,
+        idle,
     })
 }
 
@@ -163,7 +225,8 @@ fn serve_options_of(alloc: Global, matches: &ArgMatches<'_>) -> Result<ServeOpti
 fn asked_plainly(matches: &ArgMatches<'_>) -> Asked
     ensures asked { (name : Text) (rows : List Row)
         → subcommand_rows_of matches.now ≡ Some (name, rows)
-        → name ≢ codes "session" → name ≢ codes "serve" → IsAsked name rows result }
+        → name ≢ codes "session" → name ≢ codes "serve" → name ≢ codes "start"
+        → IsAsked name rows result }
     ensures named { IfNamed result (λ name. subcommand_name_of matches.now ≡ Some name) }
 {
     match matches.subcommand_matches("replay") {
@@ -177,7 +240,7 @@ fn asked_plainly(matches: &ArgMatches<'_>) -> Asked
 }
 
 /// What the matches ask for.
-#[tactic(auto, using(crate::proofs::Arguments::name_found, crate::proofs::Arguments::session_fault, crate::proofs::Arguments::serve_fault))]
+#[tactic(auto, using(crate::proofs::Arguments::name_found, crate::proofs::Arguments::session_fault, crate::proofs::Arguments::serve_fault, crate::proofs::Arguments::start_fault))]
 fn asked_by(alloc: Global, matches: &ArgMatches<'_>) -> Result<Asked, ArgumentsFault>
     ensures asked { (name : Text) (rows : List Row)
         → subcommand_rows_of matches.now ≡ Some (name, rows)
@@ -186,11 +249,15 @@ fn asked_by(alloc: Global, matches: &ArgMatches<'_>) -> Result<Asked, ArgumentsF
         IfNamed asked (λ name. subcommand_name_of matches.now ≡ Some name)) }
 {
     match matches.subcommand_matches("session") {
-        Some(inner) => return Ok(Asked::Session(config_of(alloc, inner, SESSION_PORT)?)),
+        Some(inner) => return Ok(Asked::Session(config_of(alloc, inner, HOST, SESSION_PORT)?)),
         None => {}
     }
     match matches.subcommand_matches("serve") {
-        Some(inner) => Ok(Asked::Serve(serve_options_of(alloc, inner)?)),
+        Some(inner) => return Ok(Asked::Serve(serve_options_of(alloc, inner)?)),
+        None => {}
+    }
+    match matches.subcommand_matches("start") {
+        Some(inner) => Ok(Asked::Start(start_options_of(alloc, inner)?)),
         None => Ok(asked_plainly(matches)),
     }
 }

@@ -2,7 +2,7 @@
 
 ghost use Rattle.std.specs.Prelude.{◌≡◌, [], IfOk, codes, false};
 ghost use Rattle.clap.specs.Words.{App, app_of, new_app, rule_of, with_subcommand};
-ghost use Rattle.tcp_edge.specs.CommandLine.{IsRoles, IsSubcommand, Roles, kbroker, session_app, serve_app, role_rule, first_producer_rule, top, topics_rule, port_rule, connections_rule};
+ghost use Rattle.tcp_edge.specs.CommandLine.{IsRoles, IsSubcommand, Roles, kbroker, session_app, serve_app, role_rule, first_producer_rule, top, topics_rule, port_rule, connections_rule, start_app, listen_rule, advertise_rule, most_connections_rule, most_held_rule, idle_rule};
 
 use clap::{Arg, Command, value_parser};
 use std::alloc::{AllocError, Global};
@@ -18,6 +18,10 @@ frames on standard output, as a new broker with these topics";
 
 const ABOUT_SERVE: &str = "Listens on 127.0.0.1 as a new broker with these topics, answers the \
 requests of one connection after the other, and prints a line for each";
+
+const ABOUT_START: &str =
+    "Listens as a new broker with these topics, and answers the requests of many \
+connections at once, until it is ended";
 
 const ABOUT_REPLAY: &str =
     "Reads a script of events from standard input, makes them happen to the copies \
@@ -46,6 +50,9 @@ const EXAMPLE_SESSION: &str = "Example: kbroker session orders:3 prices:1 < requ
 
 const EXAMPLE_SERVE: &str = "Example: kbroker serve --port 9092 --connections 10 orders:3 prices:1";
 
+const EXAMPLE_START: &str =
+    "Example: kbroker start --listen 0.0.0.0:9092 --advertise broker.example.com:9092 orders:3 prices:1";
+
 const HELP_TOPICS: &str = "A topic's name and the number of its partitions, as orders:3";
 
 const HELP_ROLE: &str = "What the broker is to its partitions: a leader gives out their offsets, a \
@@ -56,6 +63,22 @@ const HELP_PORT: &str = "The port to listen on; 0 for any that is free";
 const HELP_FIRST_PRODUCER: &str = "The producer id that the broker gives out first";
 
 const HELP_CONNECTIONS: &str = "How many connections to serve before it ends";
+
+const HELP_LISTEN: &str =
+    "The IP address and the port to listen on, an IPv6 address in brackets; port 0 \
+for any that is free";
+
+const HELP_ADVERTISE: &str =
+    "Where clients are told to reach the broker, if that isn't the address \
+that it listens on";
+
+const HELP_MOST_CONNECTIONS: &str = "How many connections it holds at most";
+
+const HELP_MOST_HELD: &str =
+    "How many bytes of requests and replies all connections together hold at \
+most; above it the one that holds most ends";
+
+const HELP_IDLE: &str = "After how many seconds without a request or a reply a connection ends";
 
 static ROLES: [&str; 2] = ["leader", "follower"];
 
@@ -130,6 +153,68 @@ fn connections_arg<'a>(alloc: Global) -> Arg<'a>
         .value_parser(value_parser!(u32))
 }
 
+/// The address to listen at.
+fn listen_arg<'a>(alloc: Global) -> Arg<'a>
+    ensures rule { rule_of result ≡ listen_rule }
+    ensures local { result.global ≡ false }
+{
+    Arg::new(alloc, "listen")
+        .long("listen")
+        .value_name("ADDRESS:PORT")
+        .help(HELP_LISTEN)
+        .default_value("127.0.0.1:9092")
+}
+
+/// The address that clients are told.
+fn advertise_arg<'a>(alloc: Global) -> Arg<'a>
+    ensures rule { rule_of result ≡ advertise_rule }
+    ensures local { result.global ≡ false }
+{
+    Arg::new(alloc, "advertise")
+        .long("advertise")
+        .value_name("HOST:PORT")
+        .help(HELP_ADVERTISE)
+}
+
+/// The most connections.
+fn most_connections_arg<'a>(alloc: Global) -> Arg<'a>
+    ensures rule { rule_of result ≡ most_connections_rule }
+    ensures local { result.global ≡ false }
+{
+    Arg::new(alloc, "most-connections")
+        .long("most-connections")
+        .value_name("N")
+        .help(HELP_MOST_CONNECTIONS)
+        .value_parser(value_parser!(u32).range(1..))
+        .default_value("10000")
+}
+
+/// The most bytes that are held.
+fn most_held_arg<'a>(alloc: Global) -> Arg<'a>
+    ensures rule { rule_of result ≡ most_held_rule }
+    ensures local { result.global ≡ false }
+{
+    Arg::new(alloc, "most-held")
+        .long("most-held")
+        .value_name("BYTES")
+        .help(HELP_MOST_HELD)
+        .value_parser(value_parser!(i64).range(1..))
+        .default_value("1073741824")
+}
+
+/// The seconds after which an idle connection ends.
+fn idle_arg<'a>(alloc: Global) -> Arg<'a>
+    ensures rule { rule_of result ≡ idle_rule }
+    ensures local { result.global ≡ false }
+{
+    Arg::new(alloc, "idle")
+        .long("idle")
+        .value_name("SECONDS")
+        .help(HELP_IDLE)
+        .value_parser(value_parser!(u32).range(1..))
+        .default_value("600")
+}
+
 /// The subcommand `session`.
 fn session<'a>(alloc: Global, roles: &'a [&'a str]) -> Result<Command<'a>, AllocError>
     ensures { IfOk result (IsSubcommand (session_app roles.entry)) }
@@ -153,6 +238,23 @@ fn serve<'a>(alloc: Global, roles: &'a [&'a str]) -> Result<Command<'a>, AllocEr
         .arg(role_arg(alloc, roles))?
         .arg(first_producer_arg(alloc))?
         .arg(connections_arg(alloc))?
+        .arg(topics_arg(alloc))
+}
+
+/// The subcommand `start`.
+fn start<'a>(alloc: Global, roles: &'a [&'a str]) -> Result<Command<'a>, AllocError>
+    ensures { IfOk result (IsSubcommand (start_app roles.entry)) }
+{
+    Command::new(alloc, "start")
+        .about(ABOUT_START)
+        .after_help(EXAMPLE_START)
+        .arg(listen_arg(alloc))?
+        .arg(advertise_arg(alloc))?
+        .arg(role_arg(alloc, roles))?
+        .arg(first_producer_arg(alloc))?
+        .arg(most_connections_arg(alloc))?
+        .arg(most_held_arg(alloc))?
+        .arg(idle_arg(alloc))?
         .arg(topics_arg(alloc))
 }
 
@@ -214,6 +316,7 @@ pub(crate) fn command<'a>(alloc: Global) -> Result<Command<'a>, AllocError>
     let first = add_subcommand(Ok(alone(alloc)), Ok(table(alloc)));
     let second = add_subcommand(first, session(alloc, roles));
     let third = add_subcommand(second, serve(alloc, roles));
-    let fourth = add_subcommand(third, Ok(replay(alloc)));
-    add_subcommand(fourth, Ok(merge(alloc)))
+    let fourth = add_subcommand(third, start(alloc, roles));
+    let fifth = add_subcommand(fourth, Ok(replay(alloc)));
+    add_subcommand(fifth, Ok(merge(alloc)))
 }

@@ -6,7 +6,7 @@ use crate::tests::frames::{
     DESCRIBE, DESCRIBED, FETCH, FETCHED, LIST, LISTED_AT_1, NOT_STORED, PRODUCE, STORED, repeated,
 };
 use crate::tests::pieces::{reader_of, writer_of};
-use crate::tests::sessions::{READ_ROOM, session};
+use crate::tests::served::{READ_ROOM, session};
 use crate::tests::stores::{BOTH, Kept};
 use broker_core::{Answer, Node};
 use refusing_alloc::Refusing;

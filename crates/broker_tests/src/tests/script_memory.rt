@@ -1,5 +1,5 @@
 //! Scripts and merges under each allocation failing in turn.
-use crate::tests::sessions::READ_ROOM;
+use crate::tests::served::READ_ROOM;
 use refusing_alloc::Refusing;
 use std::alloc::Allocator;
 use std::test::Fail;

@@ -2,7 +2,7 @@
 
 use crate::tests::brokers::configured;
 use crate::tests::frames::{LIST, LISTED};
-use crate::tests::sessions::READ_ROOM;
+use crate::tests::served::READ_ROOM;
 use broker_core::{Config, Role};
 use refusing_alloc::Refusing;
 use std::alloc::Allocator;

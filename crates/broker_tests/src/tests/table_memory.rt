@@ -1,6 +1,6 @@
 //! A table under each allocation failing in turn: nothing is printed, and a run with memory prints it, or one that
 //! does without it.
-use crate::tests::sessions::READ_ROOM;
+use crate::tests::served::READ_ROOM;
 use refusing_alloc::Refusing;
 use sample_batches::THREE;
 use std::alloc::Allocator;

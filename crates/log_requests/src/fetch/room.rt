@@ -20,7 +20,7 @@ pub const MAX_FETCH_BYTES: usize = 8_388_608;
 /// What is left of the room that a Fetch response has for records, and whether the response has a
 /// batch yet.
 #[derive(Drop)]
-pub(crate) struct FetchRoom {
+pub struct FetchRoom {
     left: usize,
     given: bool,
 }
@@ -44,8 +44,8 @@ fn fetch_limit(limit: i32) -> usize
 }
 
 impl FetchRoom {
-    /// The room of a response of at most so many bytes of records.
-    pub(crate) fn new(max_bytes: i32) -> FetchRoom
+    /// The room of a response of at most so many bytes of records. A negative number counts as 0.
+    pub fn new(max_bytes: i32) -> FetchRoom
         ensures { result ≡ fetch_room max_bytes }
     {
         FetchRoom {
@@ -59,7 +59,7 @@ impl FetchRoom {
     /// # Errors
     ///
     /// The offset that is asked for lies outside the copy.
-    pub(crate) fn run_within<S: BatchStore>(
+    pub fn run_within<S: BatchStore>(
         &self,
         copy: &PartitionLog<S>,
         entry: FetchPartition,
@@ -77,7 +77,7 @@ impl FetchRoom {
     }
 
     /// Takes the room of so many bytes of records. `has_batch` says whether they have a batch.
-    pub(crate) fn take(&mut self, bytes: usize, has_batch: bool)
+    pub fn take(&mut self, bytes: usize, has_batch: bool)
         ensures { self.new ≡ record {
           left = self.old.left - bytes;
           given = self.old.given || has_batch;

@@ -18,7 +18,7 @@ returns-clause-config c =
     record {
       role = c.role_of.ensures;
       node_id = refl;
-      host = search rules;
+      host_is = search rules;
       port_is = refl;
       topics = subst (λ (ws : List Text). AreTopics ws (map topic_config c.in_ok-topics_of.field-0.items)) words c.in_ok-topics_of.ensures.reads;
       first_producer = subst (IsFirstProducer (rows_of (found_of c.args.matches.now))) kept c.first_producer_of.ensures;

@@ -1,0 +1,128 @@
+//! Two clients' sessions under each allocation failing in turn: one of them lacks memory, or neither does, and the other is
+//! answered.
+
+use crate::tests::brokers::configured;
+use crate::tests::frames::{LIST, LISTED};
+use crate::tests::served::READ_ROOM;
+use broker_core::{Node, Role};
+use refusing_alloc::Refusing;
+use segment::{BatchStore, ProgramStore};
+use sessions::{Seat, Sessions, Then, Visit, Why};
+use std::alloc::Allocator;
+use std::test::Fail;
+
+/// More allocations than any run below asks for.
+const MOST: u64 = 100;
+
+/// What came of a call in memory of which one allocation fails.
+#[derive(Clone, Copy, Debug, PartialEq, Eq)]
+enum Came {
+    /// What is wanted.
+    Done,
+    /// Memory was wanting, and nothing was done.
+    Lacked,
+    /// Something else.
+    Wrong,
+}
+
+/// What came of two calls, of which one may have lacked memory.
+fn both(first: Came, second: Came) -> Came {
+    match (first, second) {
+        (Came::Done, it) | (it, Came::Done) => it,
+        _ => Came::Wrong,
+    }
+}
+
+/// Opens a session; where memory is wanting, once more, and it has the number that it would have had.
+fn opens<S: BatchStore, A: Allocator + Copy>(sessions: &mut Sessions<S, A>, number: u64) -> Came {
+    match sessions.open() {
+        Ok(given) if given == number => return Came::Done,
+        Ok(_) => return Came::Wrong,
+        Err(_) => {}
+    }
+    match (sessions.session(number).is_none(), sessions.open()) {
+        (true, Ok(given)) if given == number => Came::Lacked,
+        _ => Came::Wrong,
+    }
+}
+
+/// What a visit and what it wrote say of a request that came.
+fn came_of(visit: &Visit, written: &[u8]) -> Came {
+    match &visit.then {
+        Then::Again if visit.answered == 1 && written == LISTED => Came::Done,
+        Then::Over(Why::OutOfMemory) if visit.answered == 0 && written.is_empty() => Came::Lacked,
+        _ => Came::Wrong,
+    }
+}
+
+/// Visits a session to which a request came.
+fn visits<S: BatchStore, A: Allocator + Copy, B: Allocator + Copy>(
+    sessions: &mut Sessions<S, A>,
+    alloc: B,
+    number: u64,
+) -> Came {
+    let mut seat = Seat::new();
+    seat.may_read = true;
+    let mut from = LIST;
+    let mut to = Vec::new(alloc);
+    match sessions.visit(number, &mut seat, &mut from, &mut to) {
+        Some(visit) => came_of(&visit, &to),
+        None => Came::Wrong,
+    }
+}
+
+/// Opens two sessions and visits them.
+fn serves<S: BatchStore, A: Allocator + Copy, B: Allocator + Copy>(
+    sessions: &mut Sessions<S, A>,
+    alloc: B,
+) -> Came {
+    let opened = both(opens(sessions, 0), opens(sessions, 1));
+    let visited = both(visits(sessions, alloc, 0), visits(sessions, alloc, 1));
+    both(opened, visited)
+}
+
+/// What comes of a broker with two clients; that memory was wanting, if there is no broker.
+fn runs<A: Allocator + Copy, B: Allocator + Copy>(heap: A, alloc: B) -> Came {
+    let Ok(config) = configured(heap, Role::Leader, 3, "t", 1) else {
+        return Came::Lacked;
+    };
+    let Ok(node) = Node::<ProgramStore<A>>::new(heap, config) else {
+        return Came::Lacked;
+    };
+    match Sessions::new(heap, node) {
+        Ok(mut sessions) => serves(&mut sessions, alloc),
+        Err(_) => Came::Lacked,
+    }
+}
+
+/// What comes of it in memory of which this allocation fails, and whether that is asked for.
+fn runs_without<B: Allocator + Copy>(alloc: B, refused: u64) -> (Came, bool) {
+    let heap = Refusing::new(alloc, refused);
+    let came = runs(&heap, alloc);
+    let is_small = heap.largest() <= READ_ROOM;
+    (
+        if is_small { came } else { Came::Wrong },
+        heap.calls() >= refused,
+    )
+}
+
+#[test]
+fn a_client_lacks_memory_by_itself(rt: HostRuntime) -> Result<(), Fail> {
+    let mut came = Came::Wrong;
+    let mut lacked = 0_u64;
+    for refused in 1..MOST {
+        let (now, is_asked) = runs_without(rt.alloc(), refused);
+        came = now;
+        // All that is asked for is needed.
+        assert!(rt;
+            (came == Came::Done) == !is_asked && came != Came::Wrong,
+            "allocation {refused} fails: {came:?}"
+        );
+        lacked = lacked.saturating_add(u64::from(came == Came::Lacked));
+        if came == Came::Done {
+            break;
+        }
+    }
+    assert!(rt; came == Came::Done && lacked > 0, "{came:?}, {lacked}");
+    Ok(())
+}

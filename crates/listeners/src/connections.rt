@@ -1,0 +1,256 @@
+//! The connections that are open, and which of them are to be visited.
+
+use crate::ending::{Ended, Ending, ending_of};
+use crate::incoming::Incoming;
+use broker_core::Node;
+use indexmap::IndexMap;
+use mio::event::Event;
+use mio::net::TcpStream;
+use mio::{Interest, Registry, Token};
+use segment::BatchStore;
+use sessions::{MOST_OWED, Seat, Session, Sessions, Then, Visit, Why};
+use std::alloc::Global;
+use std::collections::VecDeque;
+use std::io::Result;
+use std::net::SocketAddr;
+use std::time::{Duration, Instant};
+
+/// A connection that is open.
+#[derive(Drop)]
+struct Connection {
+    stream: TcpStream,
+    address: SocketAddr,
+    seat: Seat,
+    /// Whether the client has closed its side, or the connection has failed: the end is to be read then.
+    is_closing: bool,
+    /// Whether it stands among those to be visited.
+    is_ready: bool,
+    /// How many bytes it holds and is owed.
+    held: u64,
+    /// When a frame was answered or a byte left, or when it was opened.
+    moved: Instant,
+}
+
+impl Connection {
+    /// One that was just accepted. Nothing is read before an event says that something came.
+    fn new(stream: TcpStream, address: SocketAddr, now: Instant) -> Connection {
+        Connection {
+            stream,
+            address,
+            seat: Seat::new(),
+            is_closing: false,
+            is_ready: false,
+            held: 0,
+            moved: now,
+        }
+    }
+}
+
+/// The sessions of a broker and their connections, each by the number of its session.
+#[derive(Drop)]
+pub(crate) struct Connections<S: BatchStore> {
+    sessions: Sessions<S, Global>,
+    by_number: IndexMap<u64, Connection>,
+    /// The numbers of those to be visited, each once, and of some that have ended.
+    ready: VecDeque<u64>,
+    /// How many bytes all hold and are owed.
+    held: u64,
+}
+
+/// Whether a visit that read all that was there left nothing to do. So much that answering stopped was not
+/// owed: all that was owed left, and that was less.
+fn is_done(visit: &Visit, session: &Session<Global>) -> bool {
+    session.owed() == 0 && visit.sent < MOST_OWED
+}
+
+/// Has a connection visited, where there is room for its number.
+fn make_ready(ready: &mut VecDeque<u64>, number: u64, connection: &mut Connection) {
+    if !connection.is_ready {
+        connection.is_ready = ready.push_back(number).is_ok();
+    }
+}
+
+/// The token of a connection. No two have the same, since no number is used twice.
+fn token_of(number: u64) -> Token {
+    Token(number as usize)
+}
+
+impl<S: BatchStore> Connections<S> {
+    /// No connection, of a broker.
+    ///
+    /// # Errors
+    ///
+    /// Out of memory.
+    pub(crate) fn new(alloc: Global, node: Node<S>) -> Result<Connections<S>> {
+        let sessions = Sessions::new(alloc, node)?;
+        Ok(Connections {
+            sessions,
+            by_number: IndexMap::new(alloc),
+            ready: VecDeque::new(alloc),
+            held: 0,
+        })
+    }
+
+    /// How many are open.
+    pub(crate) fn count(&self) -> usize {
+        self.by_number.len()
+    }
+
+    /// How many are to be visited, and perhaps some that have ended.
+    pub(crate) fn ready_count(&self) -> usize {
+        self.ready.len()
+    }
+
+    /// How many bytes all hold and are owed.
+    pub(crate) fn held(&self) -> u64 {
+        self.held
+    }
+
+    /// Opens a connection, to be visited once something came.
+    ///
+    /// # Errors
+    ///
+    /// Out of memory, or the system reports no events of it: the stream is closed.
+    pub(crate) fn open(
+        &mut self,
+        registry: &Registry,
+        stream: TcpStream,
+        address: SocketAddr,
+        now: Instant,
+    ) -> Result<()> {
+        let number = self.sessions.open()?;
+        let opened = self.add(registry, number, Connection::new(stream, address, now));
+        if opened.is_err() {
+            self.sessions.close(number);
+        }
+        opened
+    }
+
+    /// Adds the connection of a session.
+    fn add(&mut self, registry: &Registry, number: u64, connection: Connection) -> Result<()> {
+        let mut added = connection;
+        let _ = added.stream.set_nodelay(true);
+        registry.register(
+            &mut added.stream,
+            token_of(number),
+            Interest::READABLE | Interest::WRITABLE,
+        )?;
+        self.by_number.insert(number, added)?;
+        Ok(())
+    }
+
+    /// Notes what an event says of a connection, which is to be visited if there is something to do.
+    pub(crate) fn note(&mut self, event: &Event) {
+        let number = event.token().0 as u64;
+        let Some(connection) = self.by_number.get_mut(&number) else {
+            return;
+        };
+        let is_error = event.is_error();
+        if is_error || event.is_read_closed() {
+            connection.is_closing = true;
+        }
+        if connection.is_closing || event.is_readable() {
+            connection.seat.may_read = true;
+        }
+        if is_error || event.is_writable() || event.is_write_closed() {
+            connection.seat.may_write = true;
+        }
+        if connection.seat.may_read || connection.held > 0 {
+            make_ready(&mut self.ready, number, connection);
+        }
+    }
+
+    /// Visits the connection that waited the longest. Gives its end, if that was its last visit.
+    pub(crate) fn visit_next(&mut self, now: Instant) -> Option<Ended> {
+        let number = self.ready.pop_front()?;
+        let why = self.visit(number, now)?;
+        let why = ending_of(self.sessions.session(number)?, why);
+        self.end(number, why)
+    }
+
+    /// Visits a connection, if it is open, and gives why it is over, if it is.
+    fn visit(&mut self, number: u64, now: Instant) -> Option<Why> {
+        let connection = self.by_number.get_mut(&number)?;
+        connection.is_ready = false;
+        let (mut from, mut to) = (Incoming::new(&connection.stream), &connection.stream);
+        let visit = self
+            .sessions
+            .visit(number, &mut connection.seat, &mut from, &mut to)?;
+        let is_drained = from.is_drained() && !connection.is_closing;
+        if is_drained {
+            connection.seat.may_read = false;
+        }
+        if visit.answered > 0 || visit.sent > 0 {
+            connection.moved = now;
+        }
+        let session = self.sessions.session(number)?;
+        let held = (session.held() as u64).saturating_add(session.owed() as u64);
+        self.held = self
+            .held
+            .saturating_sub(connection.held)
+            .saturating_add(held);
+        connection.held = held;
+        match visit.then {
+            Then::Again if is_drained && is_done(&visit, session) => None,
+            Then::Again => {
+                make_ready(&mut self.ready, number, connection);
+                None
+            }
+            Then::Idle => None,
+            Then::Over(why) => Some(why),
+        }
+    }
+
+    /// Ends a connection.
+    fn end(&mut self, number: u64, why: Ending) -> Option<Ended> {
+        self.sessions.close(number);
+        let connection = self.by_number.swap_remove(&number)?;
+        self.held = self.held.saturating_sub(connection.held);
+        Some(Ended {
+            number,
+            address: connection.address,
+            why,
+        })
+    }
+
+    /// Ends the connection that holds the most.
+    pub(crate) fn end_largest(&mut self) -> Option<Ended> {
+        let mut largest = None;
+        let mut most = 0;
+        for (number, connection) in &self.by_number {
+            if connection.held >= most {
+                most = connection.held;
+                largest = Some(*number);
+            }
+        }
+        self.end(largest?, Ending::MostHeld)
+    }
+
+    /// Ends the connection with this index among those that are open, if nothing moved on it for so
+    /// many seconds. The last one comes in its place.
+    pub(crate) fn end_if_idle(&mut self, index: usize, now: Instant, idle: u64) -> Option<Ended> {
+        let (number, connection) = self.by_number.get_index(index)?;
+        if now.duration_since(connection.moved) < Duration::from_secs(idle) {
+            return None;
+        }
+        let number = *number;
+        self.end(number, Ending::Idle(idle))
+    }
+
+    /// When the first connection will be idle for so many seconds, if nothing moves until then.
+    pub(crate) fn first_idle(&self, idle: u64) -> Option<Instant> {
+        let mut first = None;
+        for (_, connection) in &self.by_number {
+            first = sooner(first, Some(connection.moved));
+        }
+        first?.checked_add(Duration::from_secs(idle))
+    }
+}
+
+/// The first of two times, where there are any.
+pub(crate) fn sooner(a: Option<Instant>, b: Option<Instant>) -> Option<Instant> {
+    match (a, b) {
+        (Some(a), Some(b)) => Some(if a < b { a } else { b }),
+        (None, time) | (time, None) => time,
+    }
+}

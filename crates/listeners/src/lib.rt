@@ -1,0 +1,21 @@
+//! Brokers that listen: one that serves connections one after the other, and one that serves many at
+//! once.
+#![tactic(auto)]
+
+mod accepting;
+mod connection;
+mod connections;
+mod ending;
+mod incoming;
+mod options;
+mod reports;
+mod rounds;
+mod serving;
+mod standard_streams;
+mod starting;
+
+pub use connection::{Connection, Replies, Requests};
+pub use options::{ServeOptions, StartOptions};
+pub use serving::listen;
+pub use standard_streams::PromptStream;
+pub use starting::start;

@@ -1,0 +1,28 @@
+//! What brokers that listen are asked for.
+
+use broker_core::Config;
+use std::alloc::Global;
+use std::net::SocketAddr;
+
+/// A broker that listens for one connection after the other, at the port of its configuration.
+#[derive(Drop)]
+pub struct ServeOptions {
+    pub config: Config<Global>,
+    /// How many connections it serves.
+    pub connections: u32,
+}
+
+/// A broker that listens for many connections at once.
+#[derive(Drop)]
+pub struct StartOptions {
+    /// Its host and port are those that clients are told; port 0 stands for the port that it gets.
+    pub config: Config<Global>,
+    /// Where it listens; port 0 for any that is free.
+    pub listen: SocketAddr,
+    /// The most connections at once, from 1.
+    pub most_connections: u32,
+    /// The most bytes that all connections together hold and are owed, from 1.
+    pub most_held: u64,
+    /// After how many seconds a connection ends on which nothing moved, from 1.
+    pub idle: u64,
+}

@@ -1,0 +1,126 @@
+//! Lines on standard error about connections: never many in a second, and never waited for.
+
+use crate::ending::Ended;
+use std::alloc::Global;
+use std::fmt;
+use std::fmt::Display;
+use std::io::{Error, ErrorKind, Write};
+use std::net::SocketAddr;
+use std::time::{Duration, Instant};
+
+/// The most lines about ended connections in a second.
+const MOST_LINES: u32 = 100;
+
+/// Why a call of the system failed: its kind in words, or what the system says where it has no kind.
+#[derive(Clone, Copy)]
+pub(crate) struct Reason<'a>(pub(crate) &'a Error);
+
+impl fmt::Display for Reason<'_> {
+    fn fmt<W: fmt::Write>(&self, f: &mut fmt::Formatter<W>) -> fmt::Result {
+        match self.0.kind() {
+            ErrorKind::Uncategorized => Display::fmt(self.0, f),
+            kind => Display::fmt(&kind, f),
+        }
+    }
+}
+
+/// Whether a time is over. One that there is none of is.
+pub(crate) fn is_over(time: Option<Instant>, now: Instant) -> bool {
+    match time {
+        Some(time) => now >= time,
+        None => true,
+    }
+}
+
+/// Writes a line in one piece. Tells whether it, or another line in its place, is worth a later try: where
+/// it wasn't written because it would have had to wait, or for lack of memory.
+fn is_unsaid<E: Write>(line: Option<String>, err: &mut E) -> bool {
+    let Some(line) = line else {
+        return true;
+    };
+    match err.write_all(line.as_bytes()) {
+        Ok(()) => false,
+        Err(why) => matches!(why.kind(), ErrorKind::WouldBlock),
+    }
+}
+
+/// What was said of connections lately, and what is still to be said.
+#[derive(Drop)]
+pub(crate) struct Reports {
+    alloc: Global,
+    /// The end of the second in which lines are counted.
+    second_ends: Option<Instant>,
+    /// How many lines there were in it.
+    lines: u32,
+    /// How many ends were not said.
+    unsaid: u64,
+    /// Until when no failed accept is said.
+    accepts_silent_until: Option<Instant>,
+}
+
+impl Reports {
+    /// Nothing was said yet.
+    pub(crate) fn new(alloc: Global) -> Reports {
+        Reports {
+            alloc,
+            second_ends: None,
+            lines: 0,
+            unsaid: 0,
+            accepts_silent_until: None,
+        }
+    }
+
+    /// When something is to be said, if nothing happens until then.
+    pub(crate) fn due(&self) -> Option<Instant> {
+        if self.unsaid == 0 {
+            return None;
+        }
+        self.second_ends
+    }
+
+    /// Says that a connection ended, or counts it.
+    pub(crate) fn connection_ended<E: Write>(&mut self, now: Instant, ended: &Ended, err: &mut E) {
+        self.catch_up(now, err);
+        if self.lines >= MOST_LINES || is_unsaid(format!(in self.alloc; "{ended}\n").ok(), err) {
+            self.unsaid = self.unsaid.saturating_add(1);
+        }
+        self.lines = self.lines.saturating_add(1);
+    }
+
+    /// Begins a new second where the one before is over, and says how many ends were not said.
+    pub(crate) fn catch_up<E: Write>(&mut self, now: Instant, err: &mut E) {
+        if !is_over(self.second_ends, now) {
+            return;
+        }
+        self.second_ends = now.checked_add(Duration::from_secs(1));
+        self.lines = 0;
+        let unsaid = self.unsaid;
+        if unsaid > 0
+            && !is_unsaid(
+                format!(in self.alloc; "{unsaid} more connections ended\n").ok(),
+                err,
+            )
+        {
+            self.unsaid = 0;
+        }
+    }
+
+    /// Says why nothing can be accepted at an address, at most once in a second.
+    pub(crate) fn accept_failed<E: Write>(
+        &mut self,
+        now: Instant,
+        address: SocketAddr,
+        why: &Error,
+        err: &mut E,
+    ) {
+        if !is_over(self.accepts_silent_until, now) {
+            return;
+        }
+        self.accepts_silent_until = now.checked_add(Duration::from_secs(1));
+        let why = Reason(why);
+        is_unsaid(
+            format!(in self.alloc; "accept {address}: {why}\n").ok(),
+            err,
+        );
+    }
+}

@@ -1,0 +1,203 @@
+//! The rounds of a broker that listens: wait, accept, visit.
+
+use crate::accepting::{Accepted, Acceptor, LISTENER};
+use crate::connections::{Connections, sooner};
+use crate::ending::Ended;
+use crate::reports::{Reports, is_over};
+use mio::net::TcpStream;
+use mio::{Events, Poll};
+use segment::BatchStore;
+use std::io::{Error, Result, Write};
+use std::net::SocketAddr;
+use std::time::{Clock, Duration, Instant};
+
+/// The most clients that are accepted in a round.
+const MOST_ACCEPTED: u32 = 64;
+
+/// For how long, in seconds, no two looks for idle connections are made.
+const BETWEEN_LOOKS: u64 = 1;
+
+/// What bounds the connections of a broker.
+#[derive(Clone, Copy)]
+pub(crate) struct Bounds {
+    /// The most bytes that all hold and are owed.
+    pub(crate) most_held: u64,
+    /// After how many seconds without movement a connection ends.
+    pub(crate) idle: u64,
+}
+
+/// A broker that listens, between two rounds.
+#[derive(Drop)]
+pub(crate) struct Rounds<S: BatchStore> {
+    poll: Poll,
+    events: Events,
+    acceptor: Acceptor,
+    connections: Connections<S>,
+    reports: Reports,
+    bounds: Bounds,
+    /// The time of the round.
+    now: Instant,
+    /// When to look for idle connections; never while there is none.
+    look_at: Option<Instant>,
+}
+
+/// What the clock says; where it can't be read, the time before.
+fn time<R: Clock>(rt: &R, before: Instant) -> Instant {
+    match Instant::now(rt) {
+        Ok(now) => now,
+        Err(_) => before,
+    }
+}
+
+impl<S: BatchStore> Rounds<S> {
+    /// A broker before its first round.
+    pub(crate) fn new(
+        poll: Poll,
+        events: Events,
+        acceptor: Acceptor,
+        connections: Connections<S>,
+        reports: Reports,
+        bounds: Bounds,
+        now: Instant,
+    ) -> Rounds<S> {
+        Rounds {
+            poll,
+            events,
+            acceptor,
+            connections,
+            reports,
+            bounds,
+            now,
+            look_at: None,
+        }
+    }
+
+    /// Makes rounds without end.
+    ///
+    /// # Errors
+    ///
+    /// The system gives no more events or connections.
+    pub(crate) fn run<R: Clock, E: Write>(&mut self, rt: &R, err: &mut E) -> Result<()> {
+        for _ in 0..u64::MAX {
+            self.wait(rt)?;
+            self.accept(err)?;
+            self.visit_ready(err);
+            self.look_for_idle(err);
+            self.reports.catch_up(self.now, err);
+        }
+        Ok(())
+    }
+
+    /// How long the next wait may take; without an end where nothing is to be done before an event.
+    fn patience(&self) -> Option<Duration> {
+        if self.connections.ready_count() > 0 {
+            return Some(Duration::ZERO);
+        }
+        let accept_at = self.acceptor.due(self.connections.count(), self.now);
+        let first = sooner(accept_at, sooner(self.look_at, self.reports.due()))?;
+        Some(first.duration_since(self.now))
+    }
+
+    /// Waits for events, and notes whom they concern.
+    fn wait<R: Clock>(&mut self, rt: &R) -> Result<()> {
+        self.now = time(rt, self.now);
+        let patience = self.patience();
+        self.poll.poll(&mut self.events, patience)?;
+        self.now = time(rt, self.now);
+        for event in &self.events {
+            if event.token() == LISTENER {
+                self.acceptor.note();
+            } else {
+                self.connections.note(event);
+            }
+        }
+        Ok(())
+    }
+
+    /// Accepts clients while some are there, but not too many of them.
+    ///
+    /// # Errors
+    ///
+    /// The socket is none to accept from.
+    fn accept<E: Write>(&mut self, err: &mut E) -> Result<()> {
+        for _ in 0..MOST_ACCEPTED {
+            let due = self.acceptor.due(self.connections.count(), self.now);
+            if due.is_none() || !is_over(due, self.now) {
+                break;
+            }
+            match self.acceptor.accept()? {
+                Accepted::Client(stream, address) => self.open(stream, address, err),
+                Accepted::Failed(why) => self.pause(&why, err),
+                Accepted::Nobody => {}
+            }
+        }
+        Ok(())
+    }
+
+    /// Opens a connection to a client that was accepted; where it can't, no other is accepted for a while.
+    fn open<E: Write>(&mut self, stream: TcpStream, address: SocketAddr, err: &mut E) {
+        let registry = self.poll.registry();
+        if let Err(why) = self.connections.open(registry, stream, address, self.now) {
+            self.pause(&why, err);
+        }
+        if self.look_at.is_none() {
+            self.look_at = self.now.checked_add(Duration::from_secs(self.bounds.idle));
+        }
+    }
+
+    /// Accepts nothing for a while, and says why.
+    fn pause<E: Write>(&mut self, why: &Error, err: &mut E) {
+        self.acceptor.pause(self.now);
+        self.reports
+            .accept_failed(self.now, self.acceptor.address(), why, err);
+    }
+
+    /// Visits each connection that is ready once.
+    fn visit_ready<E: Write>(&mut self, err: &mut E) {
+        for _ in 0..self.connections.ready_count() {
+            let ended = self.connections.visit_next(self.now);
+            self.note_end(ended, err);
+            self.keep_bounds(err);
+        }
+    }
+
+    /// Ends connections, the largest first, while all together hold too much.
+    fn keep_bounds<E: Write>(&mut self, err: &mut E) {
+        for _ in 0..self.connections.count() {
+            if self.connections.held() <= self.bounds.most_held {
+                break;
+            }
+            let ended = self.connections.end_largest();
+            self.note_end(ended, err);
+        }
+    }
+
+    /// Ends connections that were idle for too long, where it is time to look for them.
+    fn look_for_idle<E: Write>(&mut self, err: &mut E) {
+        if self.look_at.is_none() || !is_over(self.look_at, self.now) {
+            return;
+        }
+        for index in (0..self.connections.count()).rev() {
+            let ended = self
+                .connections
+                .end_if_idle(index, self.now, self.bounds.idle);
+            self.note_end(ended, err);
+        }
+        self.look_at = self.next_look();
+    }
+
+    /// When to look for idle connections after a look now.
+    fn next_look(&self) -> Option<Instant> {
+        let first = self.connections.first_idle(self.bounds.idle)?;
+        let earliest = self.now.checked_add(Duration::from_secs(BETWEEN_LOOKS))?;
+        Some(if first < earliest { earliest } else { first })
+    }
+
+    /// Says that a connection ended, if one did.
+    fn note_end<E: Write>(&mut self, ended: Option<Ended>, err: &mut E) {
+        if let Some(ended) = ended {
+            self.acceptor.note_end();
+            self.reports.connection_ended(self.now, &ended, err);
+        }
+    }
+}

@@ -1,0 +1,21 @@
+//! Many clients of one broker: [`Sessions`] holds the broker and, of each client, the bytes that came and
+//! aren't answered, and the replies that are owed and aren't sent.
+//!
+//! Whoever has the connections opens a session for each, visits one after the other, in any order, and
+//! closes those that are over. What a visit does is defined by `specs/Visits`; that all visits together
+//! answer one list of requests, one after the other, is a law of `specs/Orders`:
+//! [`many_clients_are_one_list`].
+#![tactic(auto)]
+
+mod laws;
+mod outbox;
+mod replying;
+mod session;
+mod sessions;
+mod visiting;
+
+pub use laws::many_clients_are_one_list;
+pub use replying::{NextError, answer_first};
+pub use session::Session;
+pub use sessions::Sessions;
+pub use visiting::{MOST_OWED, READ_PIECE, Seat, Then, Visit, Why};

@@ -1,0 +1,148 @@
+//! A broker, and the sessions of its clients.
+
+ghost use Rattle.std.specs.Prelude.{◌≡◌, None, IfNone, IfOk, IfSome, MatchBool, OnErr};
+ghost use Rattle.std.specs.Option.{option_copied};
+ghost use Rattle.sessions.specs.Orders.{IsInOrder, Step, VisitsAt, new_world, session_at};
+ghost use Rattle.sessions.specs.Orders.Event.{Closes, Opens};
+
+use crate::session::Session;
+use crate::visiting::{READ_PIECE, Seat, Visit, visit_session};
+use broker_node::Node;
+use indexmap::IndexMap;
+use segment::BatchStore;
+use std::alloc::{AllocError, Allocator};
+use std::hash::{BuildHasherDefault, FoldHasher};
+use std::io::{Read, Write};
+use std::marker::Model;
+
+/// A broker and the sessions of its clients, each with a number that is never used twice.
+///
+/// ```
+/// let mut sessions = Sessions::new(alloc, node)?;
+/// let number = sessions.open()?;
+/// let mut seat = Seat::new();
+/// match sessions.visit(number, &mut seat, &mut reader, &mut writer) {
+///     Some(Visit { then: Then::Over(_), .. }) => sessions.close(number),
+///     _ => true, // another visit, at once or once something can be read or written
+/// }
+/// ```
+#[derive(Drop)]
+pub struct Sessions<S: BatchStore, A: Allocator + Copy> {
+    alloc: A,
+    node: Node<S>,
+    sessions: IndexMap<u64, Session<A>, BuildHasherDefault<FoldHasher>, A>,
+    next: u64,
+    /// What a read is made into.
+    piece: Vec<u8, A>,
+}
+
+impl<S: BatchStore, A: Allocator + Copy> Model for Sessions<S, A> {
+    ghost use Rattle.std.specs.Prelude.{◌≡◌, length};
+    ghost use Rattle.sessions.specs.declared.visiting.TheConstants.{READ_PIECE};
+    ghost use Rattle.sessions.specs.Orders.{World, IsReached};
+
+    ghost Value = { World };
+
+    ghost view = { λ b. record { state = b.node; sessions = b.sessions.entries; next = b.next } };
+
+    ghost invariant = { λ b. (length b.piece.items ≡ READ_PIECE) × IsReached
+        (record { state = b.node; sessions = b.sessions.entries; next = b.next }) };
+}
+
+impl<S: BatchStore + Drop, A: Allocator + Copy> Sessions<S, A> {
+    /// A broker without a client. It takes memory for the piece that one read may bring.
+    ///
+    /// # Errors
+    ///
+    /// Out of memory.
+    pub fn new(alloc: A, node: Node<S>) -> Result<Sessions<S, A>, AllocError>
+        ensures { IfOk result (λ sessions. sessions ≡ new_world node) }
+    {
+        let piece = vec![in alloc; 0; READ_PIECE]?;
+        Ok(Sessions {
+            alloc,
+            node,
+            sessions: IndexMap::new(alloc),
+            next: 0,
+            piece,
+        })
+    }
+}
+
+impl<S: BatchStore, A: Allocator + Copy> Sessions<S, A> {
+    /// Opens a session, and gives its number: 0, and then one more for each that was opened before.
+    ///
+    /// # Errors
+    ///
+    /// Out of memory, or 2^64 - 1 sessions were opened: nothing has changed.
+    pub fn open(&mut self) -> Result<u64, AllocError>
+        ensures opens { IfOk result (λ number. Step self.old (Opens number) self.new) }
+        ensures unchanged_on_error { OnErr result (self.new ≡ self.old) }
+    {
+        let number = self.next;
+        let Some(next) = number.checked_add(1) else {
+            return Err(AllocError);
+        };
+        self.sessions.insert(number, Session::new(self.alloc))?;
+        self.next = next;
+        Ok(number)
+    }
+
+    /// Visits the session with this number: makes at most one read, where a read may be made and no
+    /// complete frame is held; answers complete frames in order, until 256 KiB or more are owed; makes at
+    /// most four writes. `None` if there is no such session.
+    pub fn visit<R: Read, W: Write>(
+        &mut self,
+        number: u64,
+        seat: &mut Seat,
+        from: &mut R,
+        to: &mut W,
+    ) -> Option<Visit>
+        ensures visits { IfSome result (VisitsAt number seat.old self.old seat.new self.new
+            (R.remaining from.old) (R.remaining from.new)
+            (W.contents to.old) (W.contents to.new)) }
+        ensures none_is_absent { IfNone result (session_at self.old number ≡ None) }
+        ensures none_changes_nothing { IfNone result ((self.new ≡ self.old)
+            × (seat.new ≡ seat.old) × (from.new ≡ from.old) × (to.new ≡ to.old)) }
+    {
+        match self.sessions.get_mut(&number) {
+            Some(session) => Some(visit_session(
+                &mut self.node,
+                session,
+                seat,
+                from,
+                to,
+                &mut self.piece,
+            )),
+            None => None,
+        }
+    }
+
+    /// Closes the session with this number, with all that it holds and owes, and tells whether there was
+    /// one.
+    pub fn close(&mut self, number: u64) -> bool
+        ensures { MatchBool result (Step self.old (Closes number) self.new)
+            ((session_at self.old number ≡ None) × (self.new ≡ self.old)) }
+    {
+        match self.sessions.swap_remove(&number) {
+            Some(_) => true,
+            None => false,
+        }
+    }
+
+    /// A law: whatever calls were made since the broker had no client, all frames that were answered are one
+    /// list, as [`many_clients_are_one_list`](crate::many_clients_are_one_list) says.
+    pub fn are_one_list(&self)
+        ensures { IsInOrder self.now }
+    {
+        // What is known of the fields is known where one of them is looked at.
+        let _next = self.next;
+    }
+
+    /// The session with this number.
+    pub fn session(&self, number: u64) -> Option<&Session<A>>
+        ensures { option_copied result ≡ session_at self.now number }
+    {
+        self.sessions.get(&number)
+    }
+}

@@ -1,0 +1,328 @@
+//! A visit of a session: what may be read is read, what is complete is answered, and what is owed is sent.
+
+ghost use Rattle.std.specs.Prelude.{◌≡◌, ◌⊎◌, ℕ, ◌<◌, ◌≤◌, true, false, List, length, IfErr, MatchBool, OnErr, OnOk};
+ghost use Rattle.frame_fields.specs.Frames.{IsIncomplete};
+ghost use Rattle.sessions.specs.Turns.{StopsNext};
+ghost use Rattle.sessions.specs.Visits.{CannotWrite, GoesOn, WantsMore};
+ghost use Rattle.sessions.specs.Steps.{ComesIn, FailsToRead, FailsToWrite, GoesOut, HasStopped, IsFailure, IsNoRead, VisitsSession, WriteFault, Writes};
+
+use crate::replying::NextError;
+use crate::session::{ReceiveError, Session, Stop};
+use broker_node::Node;
+use frame_fields::FrameError;
+use segment::BatchStore;
+use std::alloc::Allocator;
+use std::io::{ErrorKind, Read, Write};
+
+/// The most bytes that a visit reads.
+pub const READ_PIECE: usize = 65_536;
+
+/// A visit answers no further frame where so many bytes are owed.
+pub const MOST_OWED: usize = 262_144;
+
+/// The most writes of a visit.
+const MOST_WRITES: u32 = 4;
+
+/// What is known of a connection beside its session.
+#[derive(Clone, Copy, Debug, PartialEq, Eq)]
+pub struct Seat {
+    /// Whether a read may give something. A read that would wait clears it; an event sets it.
+    pub may_read: bool,
+    /// Whether a write may take something. A write that would wait clears it; an event sets it.
+    pub may_write: bool,
+    /// Whether the input has come to its end.
+    pub at_end: bool,
+}
+
+/// What came of a visit.
+#[derive(Drop)]
+pub struct Visit {
+    /// How many frames were answered.
+    pub answered: u64,
+    /// How many bytes left.
+    pub sent: usize,
+    /// What is to be done with the session.
+    pub then: Then,
+}
+
+/// What is to be done with a session after a visit.
+#[derive(Drop)]
+pub enum Then {
+    /// There is more to do: another visit, after the others.
+    Again,
+    /// There is nothing to do until a read or a write may be made again.
+    Idle,
+    /// It is over, and can be closed.
+    Over(Why),
+}
+
+/// Why a session is over.
+#[derive(Drop)]
+pub enum Why {
+    /// The input ended, its complete frames were answered, and all that was owed left.
+    End,
+    /// A read failed.
+    Read(ErrorKind),
+    /// A write failed.
+    Write(ErrorKind),
+    /// The first frame that is held is refused; all that was owed left.
+    Frame(FrameError),
+    /// There is no memory for what was read, which is lost; or for a response, and all that was owed left.
+    OutOfMemory,
+}
+
+impl Seat {
+    /// A connection that was just opened. Nothing is read before something is known to have come.
+    pub fn new() -> Seat
+        ensures { result ≡ record { may_read = false; may_write = true; at_end = false } }
+    {
+        Seat {
+            may_read: false,
+            may_write: true,
+            at_end: false,
+        }
+    }
+}
+
+/// What is to be done where a call of the system failed.
+#[derive(Drop)]
+enum Failure {
+    /// The call is to be made again.
+    Again,
+    /// It would have waited.
+    Wait,
+    /// All else.
+    Fault(ErrorKind),
+}
+
+/// What is to be done for a failure of this kind.
+fn failure_of(kind: ErrorKind) -> Failure
+    ensures { IsFailure kind result }
+{
+    match kind {
+        ErrorKind::Interrupted => Failure::Again,
+        ErrorKind::WouldBlock => Failure::Wait,
+        fault => Failure::Fault(fault),
+    }
+}
+
+// ---- how a session goes on
+
+/// Whether something is owed and may be written.
+fn can_write<A: Allocator + Copy>(seat: &Seat, session: &Session<A>) -> bool
+    ensures { MatchBool result ((0 < length session.now.owed) × (seat.now.may_write ≡ true))
+        (CannotWrite seat.now session.now) }
+{
+    session.owed() > 0 && seat.may_write
+}
+
+/// What is to be done with a session that holds no complete frame, where nothing can be written.
+fn after_short<A: Allocator + Copy>(seat: &Seat, session: &Session<A>) -> Then
+    ensures goes_on { (owing : List ℕ) → IsIncomplete session.now.held
+        → CannotWrite seat.now session.now → GoesOn owing seat.now session.now result }
+    ensures reads_nothing { IsNoRead result }
+{
+    if seat.at_end {
+        return if session.owed() == 0 {
+            Then::Over(Why::End)
+        } else {
+            Then::Idle
+        };
+    }
+    if seat.may_read && session.owed() < MOST_OWED {
+        return Then::Again;
+    }
+    Then::Idle
+}
+
+/// What is to be done with a session to which so much was owed, where nothing can be written.
+fn after_full<A: Allocator + Copy>(seat: &Seat, session: &Session<A>) -> Then
+    ensures goes_on { (owing : List ℕ) → MOST_OWED ≤ length owing
+        → CannotWrite seat.now session.now → GoesOn owing seat.now session.now result }
+    ensures reads_nothing { IsNoRead result }
+{
+    if session.owed() >= MOST_OWED {
+        return Then::Idle;
+    }
+    if session.is_short() {
+        return after_short(seat, session);
+    }
+    Then::Again
+}
+
+/// What is to be done with a session whose first frame isn't answered, where nothing can be written.
+fn after_stop<A: Allocator + Copy>(why: NextError, seat: &Seat, session: &Session<A>) -> Then
+    ensures goes_on { (owing : List ℕ) → StopsNext session.now why
+        → CannotWrite seat.now session.now → GoesOn owing seat.now session.now result }
+    ensures reads_nothing { IsNoRead result }
+{
+    if session.owed() > 0 {
+        return Then::Idle;
+    }
+    match why {
+        NextError::Frame(why) => Then::Over(Why::Frame(why)),
+        NextError::OutOfMemory => Then::Over(Why::OutOfMemory),
+    }
+}
+
+/// What is to be done with a session whose turn stopped so, if that came of its writes.
+fn what_then<A: Allocator + Copy>(
+    seat: &Seat,
+    session: &Session<A>,
+    stop: Stop,
+    written: Result<(), Why>,
+) -> Then
+    ensures goes_on { (owing : List ℕ) → HasStopped owing session.now stop
+        → IfErr written (FailsToWrite seat.now session.now)
+        → GoesOn owing seat.now session.now result }
+    ensures fault_ends { IfErr written (λ why. result ≡ Then.Over why) }
+    ensures reads_nothing { IfErr written (FailsToWrite seat.now session.now) → IsNoRead result }
+{
+    match written {
+        Ok(()) => {}
+        Err(why) => return Then::Over(why),
+    }
+    if can_write(seat, session) {
+        return Then::Again;
+    }
+    match stop {
+        Stop::Full => after_full(seat, session),
+        Stop::Short => after_short(seat, session),
+        Stop::Over(why) => after_stop(why, seat, session),
+    }
+}
+
+// ---- reads and writes
+
+/// Whether no complete frame is held, not too much is owed, and more may be read.
+fn wants_more<A: Allocator + Copy>(seat: &Seat, session: &Session<A>) -> bool
+    ensures wants { result ≡ true → WantsMore session.now
+        × ((seat.now.may_read ≡ true) × (seat.now.at_end ≡ false)) }
+    ensures wants_none { result ≡ false → WantsMore session.now → seat.now.may_read ≡ true
+        → seat.now.at_end ≡ true }
+{
+    seat.may_read && !seat.at_end && session.owed() < MOST_OWED && session.is_short()
+}
+
+/// Makes one read, if one may be made, where no complete frame is held and not too much is owed.
+#[tactic(auto, using(crate::proofs::Passing::nothing_comes, crate::proofs::Passing::something_comes, crate::proofs::Passing::no_change))]
+fn read_once<A: Allocator + Copy, R: Read>(
+    session: &mut Session<A>,
+    seat: &mut Seat,
+    from: &mut R,
+    piece: &mut [u8],
+) -> Result<(), Why>
+    ensures comes { length piece.old ≡ READ_PIECE
+        → OnOk result (ComesIn seat.old seat.new session.old session.new
+        (R.remaining from.old) (R.remaining from.new)) }
+    ensures fails { IfErr result (FailsToRead seat.new session.old session.new
+        (R.remaining from.old) (R.remaining from.new)) }
+    ensures reads { seat.new.may_read ≡ true → seat.old.may_read ≡ true }
+    ensures writes { seat.new.may_write ≡ seat.old.may_write }
+    ensures ended { seat.old.at_end ≡ true → seat.new.at_end ≡ true }
+    ensures fault_is_no_end { OnErr result (seat.new ≡ seat.old) }
+{
+    if !wants_more(seat, session) {
+        return Ok(());
+    }
+    match session.receive(from, piece) {
+        Ok(count) => {
+            seat.at_end = count == 0;
+            Ok(())
+        }
+        Err(ReceiveError::OutOfMemory) => Err(Why::OutOfMemory),
+        Err(ReceiveError::Read(kind)) => match failure_of(kind) {
+            Failure::Again => Ok(()),
+            Failure::Wait => {
+                seat.may_read = false;
+                Ok(())
+            }
+            Failure::Fault(kind) => Err(Why::Read(kind)),
+        },
+    }
+}
+
+/// Makes one write of what is owed.
+#[tactic(auto, using(crate::proofs::Passing::none_sent))]
+fn write_once<A: Allocator + Copy, W: Write>(
+    session: &mut Session<A>,
+    may_write: &mut bool,
+    to: &mut W,
+) -> Result<(), Why>
+    ensures goes { GoesOut session.old session.new (W.contents to.old) (W.contents to.new) }
+    ensures fails { 0 < length session.old.owed → IfErr result (WriteFault session.new) }
+    ensures stays { OnErr result (may_write.new ≡ may_write.old) }
+    ensures writes { may_write.new ≡ true → may_write.old ≡ true }
+    ensures waits { may_write.new ≡ false → (may_write.old ≡ false)
+        ⊎ (session.new ≡ session.old) }
+{
+    match session.send(to) {
+        Ok(0) => Err(Why::Write(ErrorKind::WriteZero)),
+        Ok(_) => Ok(()),
+        Err(why) => match failure_of(why.kind()) {
+            Failure::Again => Ok(()),
+            Failure::Wait => {
+                *may_write = false;
+                Ok(())
+            }
+            Failure::Fault(kind) => Err(Why::Write(kind)),
+        },
+    }
+}
+
+/// Writes what is owed, at most four times.
+#[tactic(auto, using(crate::proofs::Passing::nothing_written))]
+fn write_some<A: Allocator + Copy, W: Write>(
+    session: &mut Session<A>,
+    may_write: &mut bool,
+    to: &mut W,
+) -> Result<(), Why>
+    ensures goes { Writes may_write.old may_write.new session.old session.new
+        (W.contents to.old) (W.contents to.new) }
+    ensures fails { IfErr result (λ why. WriteFault session.new why × (may_write.new ≡ true)) }
+{
+    for _ in 0..MOST_WRITES {
+        if !*may_write || session.owed() == 0 {
+            return Ok(());
+        }
+        write_once(session, may_write, to)?;
+    }
+    Ok(())
+}
+
+/// Visits a session: reads once, answers, and writes.
+pub(crate) fn visit_session<S: BatchStore, A: Allocator + Copy, R: Read, W: Write>(
+    node: &mut Node<S>,
+    session: &mut Session<A>,
+    seat: &mut Seat,
+    from: &mut R,
+    to: &mut W,
+    piece: &mut [u8],
+) -> Visit
+    ensures { length piece.old ≡ READ_PIECE
+        → VisitsSession node.old seat.old session.old node.new seat.new session.new
+        (R.remaining from.old) (R.remaining from.new) (W.contents to.old) (W.contents to.new)
+        result }
+{
+    match read_once(session, seat, from, piece) {
+        Ok(()) => {}
+        Err(why) => {
+            return Visit {
+                answered: 0,
+                sent: 0,
+                then: Then::Over(why),
+            };
+        }
+    }
+    let before = session.answered();
+    let stop = session.turn(node, MOST_OWED);
+    let answered = session.answered() - before;
+    let owing = session.owed();
+    let written = write_some(session, &mut seat.may_write, to);
+    session.release();
+    Visit {
+        answered,
+        sent: owing - session.owed(),
+        then: what_then(seat, session, stop, written),
+    }
+}
