@@ -85,8 +85,9 @@ def produce(words, root):
 
 
 def fetch(words, root):
-    given, words = options(words, ("max",))
-    head = struct.pack(">iiiib", -1, 500, 1, int(given.get("max", 1 << 20)), 0)
+    given, words = options(words, ("max", "wait", "min"))
+    wait, least, most = (int(given.get(name, usual)) for name, usual in (("wait", 500), ("min", 1), ("max", 1 << 20)))
+    head = struct.pack(">iiiib", -1, wait, least, most, 0)
 
     def entry(rest):
         offset, _, limit = rest.partition(" ")

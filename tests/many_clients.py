@@ -79,7 +79,7 @@ def two_that_stay(program):
     """A producer and a consumer that are both connected, and a third that does nothing."""
     with Started(program) as broker, broker.client(), broker.client() as producer, broker.client() as consumer:
         for offset in range(20):
-            consumer.ask(f"fetch t:0 {offset}", f"fetched t:0 0 {offset}")
+            consumer.ask(f"fetch wait=0 t:0 {offset}", f"fetched t:0 0 {offset}")
             producer.ask(f"produce t:0 batch k={offset}", f"produced t:0 0 {offset}")
             consumer.ask(f"fetch t:0 {offset}", f"fetched t:0 0 {offset + 1} batch base:{offset} k={offset}")
         consumer.ask("commit t:0 20", "committed t:0 0")

@@ -101,7 +101,7 @@ class Draws:
             return [rarely(numbers, None, b"x"), acks, 1000, self.topics(lambda: [self.batch()])]
         if kind == FETCH:
             entries = self.topics(lambda: [self.offset(), numbers.one_of(LIMITS)])
-            return [-1, 500, 1, numbers.one_of(LIMITS), 0, entries]
+            return [-1, numbers.one_of([0, 0, 1, 10]), numbers.one_of([1, 1, 0, 300]), numbers.one_of(LIMITS), 0, entries]
         if kind == LISTOFFSETS:
             return [-1, self.topics(lambda: [numbers.one_of([-1, -2, -3, 0, 10, 20])])]
         if kind == METADATA:

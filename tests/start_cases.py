@@ -17,8 +17,9 @@ import listening
 import many_clients
 import random_clients
 import started
+import waiting
 
-CASES = [*listening.CASES, *many_clients.CASES, *limits.CASES, *random_clients.CASES]
+CASES = [*listening.CASES, *many_clients.CASES, *limits.CASES, *waiting.CASES, *random_clients.CASES]
 
 
 def fault_of(program, name, case):

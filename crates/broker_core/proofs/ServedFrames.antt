@@ -1,5 +1,5 @@
 -- Frames that a session holds: the first one answered, some and then others, and how many they can be.
-use Rattle.std.proofs.Common.{◌≡◌, ℕ, ◌+◌, ◌^◌, ◌<◌, ◌≤◌, arith, Fits, w64, true, List, [], ◌∷◌, ◌++◌, length, inr, refl, sym, ap, subst, ◌∙◌, append_assoc, append-nil}
+use Rattle.std.proofs.Common.{◌≡◌, ℕ, ◌+◌, ◌^◌, ◌<◌, ◌≤◌, arith, Fits, w64, true, false, List, [], ◌∷◌, ◌++◌, length, inr, refl, sym, ap, subst, ◌∙◌, append_assoc, append-nil}
 use Rattle.std.specs.Io.KnownBytes.{Appends}
 use Rattle.std.proofs.KnownBytes.{Appends-nil, Appends-trans}
 use Rattle.std.proofs.lemmas.List.{length-append}
@@ -18,7 +18,7 @@ use Rattle.broker_core.specs.SessionSteps.{AnswersFront, StopsNext, StopsWithin}
 
 -- the first frame is answered, and the sink took its reply
 pub first_answered : (s after : State) (sink sink' : SinkState) (held rest cleared out : List ℕ) (index : ℕ)
-    → AnswersFirst s after held rest cleared out → cleared ≡ [] → Appends sink.taken sink'.taken out → sink'.failed ≡ sink.failed
+    → AnswersFirst false s after held rest cleared out → cleared ≡ [] → Appends sink.taken sink'.taken out → sink'.failed ≡ sink.failed
     → AnswersFront s after sink sink' held rest index (index + 1)
 first_answered s after sink sink' held rest cleared out index a empty takes fine =
     let is : out ≡ a.exchange.reply = a.appends ∙ ap (λ (x : List ℕ). x ++ a.exchange.reply) empty in
@@ -45,7 +45,7 @@ memory_stops s after sink held index stops same = (same, refl, inr (stops.0, sto
 
 -- a reply of which the sink took only a front
 pub write_stops : (s after : State) (sink sink' : SinkState) (held rest cleared out : List ℕ) (index : ℕ)
-    → AnswersFirst s after held rest cleared out → cleared ≡ [] → LosesRest sink.taken sink'.taken out → sink'.failed ≡ true
+    → AnswersFirst false s after held rest cleared out → cleared ≡ [] → LosesRest sink.taken sink'.taken out → sink'.failed ≡ true
     → StopsNext s after sink sink' held index Write
 write_stops s after sink sink' held rest cleared out index a empty loses failed =
     let is : out ≡ a.exchange.reply = a.appends ∙ ap (λ (x : List ℕ). x ++ a.exchange.reply) empty in (

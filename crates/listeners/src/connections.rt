@@ -15,17 +15,22 @@ use std::io::Result;
 use std::net::SocketAddr;
 use std::time::{Duration, Instant};
 
+/// How many bytes a partition counts for which a frame waits: what the sessions keep of it takes as much.
+const AWAITED_BYTES: u64 = 64;
+
 /// A connection that is open.
 #[derive(Drop)]
 struct Connection {
     stream: TcpStream,
     address: SocketAddr,
+    /// It is closing where the client has closed its side, or the connection has failed: the end is to be
+    /// read then.
     seat: Seat,
-    /// Whether the client has closed its side, or the connection has failed: the end is to be read then.
-    is_closing: bool,
     /// Whether it stands among those to be visited.
     is_ready: bool,
-    /// How many bytes it holds and is owed.
+    /// Whether an event said that it has failed.
+    is_failed: bool,
+    /// How many bytes it holds and is owed, and what is kept of a frame that waits.
     held: u64,
     /// When a frame was answered or a byte left, or when it was opened.
     moved: Instant,
@@ -38,8 +43,8 @@ impl Connection {
             stream,
             address,
             seat: Seat::new(),
-            is_closing: false,
             is_ready: false,
+            is_failed: false,
             held: 0,
             moved: now,
         }
@@ -146,10 +151,11 @@ impl<S: BatchStore> Connections<S> {
             return;
         };
         let is_error = event.is_error();
+        connection.is_failed |= is_error;
         if is_error || event.is_read_closed() {
-            connection.is_closing = true;
+            connection.seat.is_closing = true;
         }
-        if connection.is_closing || event.is_readable() {
+        if connection.seat.is_closing || event.is_readable() {
             connection.seat.may_read = true;
         }
         if is_error || event.is_writable() || event.is_write_closed() {
@@ -160,23 +166,53 @@ impl<S: BatchStore> Connections<S> {
         }
     }
 
-    /// Visits the connection that waited the longest. Gives its end, if that was its last visit.
-    pub(crate) fn visit_next(&mut self, now: Instant) -> Option<Ended> {
+    /// Has those connections visited whose frame waited and may be due. `clock` counts milliseconds.
+    pub(crate) fn wake(&mut self, clock: u64) {
+        for _ in 0..u64::MAX {
+            let Some(number) = self.sessions.next_woken(clock) else {
+                break;
+            };
+            if let Some(connection) = self.by_number.get_mut(&number) {
+                make_ready(&mut self.ready, number, connection);
+            }
+        }
+    }
+
+    /// When the first frame that waits will be due, in milliseconds.
+    pub(crate) fn next_due(&self) -> Option<u128> {
+        self.sessions.next_due()
+    }
+
+    /// Visits the connection that was ready first. Gives its end, if that was its last visit.
+    pub(crate) fn visit_next(&mut self, now: Instant, clock: u64) -> Option<Ended> {
         let number = self.ready.pop_front()?;
-        let why = self.visit(number, now)?;
+        if let Some(why) = self.failure(number) {
+            return self.end(number, why);
+        }
+        let why = self.visit(number, now, clock)?;
         let why = ending_of(self.sessions.session(number)?, why);
         self.end(number, why)
     }
 
+    /// Why a connection has failed whose frame waits: nothing that is held behind it is answered.
+    fn failure(&self, number: u64) -> Option<Ending> {
+        let connection = self.by_number.get(&number)?;
+        if !connection.is_failed || self.sessions.awaited(number) == 0 {
+            return None;
+        }
+        let why = connection.stream.take_error().ok()??;
+        Some(Ending::Read(why.kind()))
+    }
+
     /// Visits a connection, if it is open, and gives why it is over, if it is.
-    fn visit(&mut self, number: u64, now: Instant) -> Option<Why> {
+    fn visit(&mut self, number: u64, now: Instant, clock: u64) -> Option<Why> {
         let connection = self.by_number.get_mut(&number)?;
         connection.is_ready = false;
         let (mut from, mut to) = (Incoming::new(&connection.stream), &connection.stream);
         let visit = self
             .sessions
-            .visit(number, &mut connection.seat, &mut from, &mut to)?;
-        let is_drained = from.is_drained() && !connection.is_closing;
+            .visit(number, clock, &mut connection.seat, &mut from, &mut to)?;
+        let is_drained = from.is_drained() && !connection.seat.is_closing;
         if is_drained {
             connection.seat.may_read = false;
         }
@@ -184,7 +220,10 @@ impl<S: BatchStore> Connections<S> {
             connection.moved = now;
         }
         let session = self.sessions.session(number)?;
-        let held = (session.held() as u64).saturating_add(session.owed() as u64);
+        let awaited = (self.sessions.awaited(number) as u64).saturating_mul(AWAITED_BYTES);
+        let held = (session.held() as u64)
+            .saturating_add(session.owed() as u64)
+            .saturating_add(awaited);
         self.held = self
             .held
             .saturating_sub(connection.held)
@@ -227,13 +266,20 @@ impl<S: BatchStore> Connections<S> {
     }
 
     /// Ends the connection with this index among those that are open, if nothing moved on it for so
-    /// many seconds. The last one comes in its place.
+    /// many seconds. The last one comes in its place. One whose frame waits counts as moved until now, and is
+    /// visited: so it is found to be due at last, should memory have lacked to wake it.
     pub(crate) fn end_if_idle(&mut self, index: usize, now: Instant, idle: u64) -> Option<Ended> {
         let (number, connection) = self.by_number.get_index(index)?;
         if now.duration_since(connection.moved) < Duration::from_secs(idle) {
             return None;
         }
         let number = *number;
+        if self.sessions.awaited(number) > 0 {
+            let waiting = self.by_number.get_mut(&number)?;
+            waiting.moved = now;
+            make_ready(&mut self.ready, number, waiting);
+            return None;
+        }
         self.end(number, Ending::Idle(idle))
     }
 

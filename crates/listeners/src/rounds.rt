@@ -35,6 +35,8 @@ pub(crate) struct Rounds<S: BatchStore> {
     connections: Connections<S>,
     reports: Reports,
     bounds: Bounds,
+    /// When the first round began: from then on the clock of those that wait counts.
+    began: Instant,
     /// The time of the round.
     now: Instant,
     /// When to look for idle connections; never while there is none.
@@ -67,6 +69,7 @@ impl<S: BatchStore> Rounds<S> {
             connections,
             reports,
             bounds,
+            began: now,
             now,
             look_at: None,
         }
@@ -81,7 +84,9 @@ impl<S: BatchStore> Rounds<S> {
         for _ in 0..u64::MAX {
             self.wait(rt)?;
             self.accept(err)?;
+            self.wake();
             self.visit_ready(err);
+            self.wake();
             self.look_for_idle(err);
             self.reports.catch_up(self.now, err);
         }
@@ -94,8 +99,21 @@ impl<S: BatchStore> Rounds<S> {
             return Some(Duration::ZERO);
         }
         let accept_at = self.acceptor.due(self.connections.count(), self.now);
-        let first = sooner(accept_at, sooner(self.look_at, self.reports.due()))?;
+        let first = sooner(accept_at, sooner(self.look_at, self.reports.due()));
+        let first = sooner(first, self.next_due())?;
         Some(first.duration_since(self.now))
+    }
+
+    /// What the clock says of those that wait: the milliseconds since the first round.
+    fn clock(&self) -> u64 {
+        let passed = self.now.duration_since(self.began).as_millis();
+        u64::try_from(passed).unwrap_or(u64::MAX)
+    }
+
+    /// When the first frame that waits will be due.
+    fn next_due(&self) -> Option<Instant> {
+        let due = u64::try_from(self.connections.next_due()?).ok()?;
+        self.began.checked_add(Duration::from_millis(due))
     }
 
     /// Waits for events, and notes whom they concern.
@@ -152,10 +170,17 @@ impl<S: BatchStore> Rounds<S> {
             .accept_failed(self.now, self.acceptor.address(), why, err);
     }
 
+    /// Has those connections visited whose frame waited and may be due.
+    fn wake(&mut self) {
+        let clock = self.clock();
+        self.connections.wake(clock);
+    }
+
     /// Visits each connection that is ready once.
     fn visit_ready<E: Write>(&mut self, err: &mut E) {
+        let clock = self.clock();
         for _ in 0..self.connections.ready_count() {
-            let ended = self.connections.visit_next(self.now);
+            let ended = self.connections.visit_next(self.now, clock);
             self.note_end(ended, err);
             self.keep_bounds(err);
         }

@@ -1,5 +1,6 @@
 pub mod Frames
 pub mod Turning
+pub mod Owing
 pub mod Going
 pub mod Passing
 pub mod OneOrder

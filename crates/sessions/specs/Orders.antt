@@ -75,11 +75,11 @@ Step old (Opens who) new = IsOpened who old new
 Step old (Visits who moved) new = IsVisited who moved old new
 Step old (Closes who) new = IsClosed who old new
 
--- the session with a number was visited, over this connection
-pub record VisitsAt (who : ℕ) (seat : Seat) (old : World) (seat' : Seat) (new : World) (left left' taken taken' : Option (List ℕ)) (visit : Visit) : Type 0 where
+-- the session with a number was visited, over this connection, at this clock value
+pub record VisitsAt (who clock : ℕ) (seat : Seat) (old : World) (seat' : Seat) (new : World) (left left' taken taken' : Option (List ℕ)) (visit : Visit) : Type 0 where
   pub moved : Moved
   pub visited : IsVisited who moved old new
-  pub made : IsMade seat seat' visited.before moved visited.after left left' taken taken' visit
+  pub made : IsMade clock old.state seat seat' visited.before moved new.state visited.after left left' taken taken' visit
 
 -- events one after the other
 abbrev pub Run : World → List Event → World → Type 0

@@ -1,10 +1,14 @@
 -- A visit step by step. Words of private clauses.
-use Rattle.std.specs.Prelude.{◌≡◌, ◌⊎◌, ℕ, ◌+◌, ◌<◌, ◌≤◌, ⊤, Bool, true, false, List, [], ◌∷◌, ◌++◌, length, Option}
+use Rattle.std.specs.Option.{unwrap_or}
+use Rattle.std.specs.Prelude.{◌≡◌, ◌⊎◌, ℕ, ◌+◌, ◌<◌, ◌≤◌, ⊤, Bool, true, false, List, [], ◌∷◌, ◌++◌, length, Option, Some, None}
 use Rattle.std.specs.Io.KnownBytes.{Consumes, Keeps, Appends, IsAtEnd}
 use Rattle.std_io.specs.declared.io.kind.ErrorKind.{ErrorKind}
 use Rattle.std_io.specs.declared.io.kind.ErrorKind.TheVariants as kind
 use Rattle.frame_fields.specs.Frames.{IsFrames, IsIncomplete}
-use Rattle.request_frames.specs.Requests.{RequestValue, IsRequest, IsRefused}
+use Rattle.request_frames.specs.Fetch.{FetchValue}
+use Rattle.request_frames.specs.Requests.{BodyValue, RequestValue, IsRequest, IsRefused}
+use Rattle.request_frames.specs.Requests.BodyValue.{fetch}
+use Rattle.fetch_waits.specs.Waiting.{fetch_waits, body_waits, wait_of}
 use Rattle.broker_state.specs.State.{State}
 use Rattle.broker_node.specs.Streams.{IsAnswered}
 use Rattle.sessions.specs.declared.replying.NextError.{NextError}
@@ -12,7 +16,7 @@ use Rattle.sessions.specs.declared.replying.NextError.TheVariants as next
 use Rattle.sessions.specs.declared.session.ReceiveError.{ReceiveError}
 use Rattle.sessions.specs.declared.session.ReceiveError.TheVariants as receive
 use Rattle.sessions.specs.declared.session.Stop.{Stop}
-use Rattle.sessions.specs.declared.session.Stop.TheVariants.{Short, Full, Over as Stopped}
+use Rattle.sessions.specs.declared.session.Stop.TheVariants.{Short, Full, Waits as Waiting, Over as Stopped}
 use Rattle.sessions.specs.declared.visiting.TheConstants.{MOST_OWED, READ_PIECE}
 use Rattle.sessions.specs.declared.visiting.Seat.{Seat}
 use Rattle.sessions.specs.declared.visiting.Failure.{Failure}
@@ -22,14 +26,25 @@ use Rattle.sessions.specs.declared.visiting.Then.TheVariants.{Over}
 use Rattle.sessions.specs.declared.visiting.Visit.{Visit}
 use Rattle.sessions.specs.declared.visiting.Why.{Why}
 use Rattle.sessions.specs.declared.visiting.Why.TheVariants.{Read, Write, OutOfMemory}
-use Rattle.sessions.specs.Turns.{Exchange, SessionState, StopsNext, IsOwedBelow, InTurn, frames_of, replied}
-use Rattle.sessions.specs.Visits.{Moved, Moves, WantsMore, IsFault, IsMade}
+use Rattle.sessions.specs.Turns.{Exchange, SessionState, StopsNext, IsOwedBelow, IsWaiting, WaitsFirst, InTurn, InTime, Times, frames_of, is_over, replied}
+use Rattle.sessions.specs.Visits.{Moment, Moved, Moves, WantsMore, IsFault, IsMade, Waits}
 
 -- ---- one frame
 
--- a frame is answered, and its reply stands behind what was written
-abbrev pub AnswersFrame : (s after : State) (frame out out' : List ℕ) → Type 0
-AnswersFrame s after frame out out' = (reply : List ℕ) × IsAnswered s frame reply after × (out' ≡ out ++ reply)
+-- A frame is answered, and its reply stands behind what was written. Where it may wait it isn't a Fetch that waits.
+pub record AnswersFrame (may_wait : Bool) (s after : State) (frame out out' : List ℕ) : Type 0 where
+  pub reply : List ℕ
+  pub answers : IsAnswered s frame reply after
+  pub in_time : may_wait ≡ true → body_waits s answers.request.body ≡ false
+  pub appends : out' ≡ out ++ reply
+
+-- what is asked is a Fetch that waits, for so many milliseconds at the most
+abbrev pub BodyWaits : State → BodyValue → (most : ℕ) → Type 0
+BodyWaits s body most = (asked : FetchValue) × (body ≡ fetch asked) × (fetch_waits s asked ≡ true) × (most ≡ wait_of asked)
+
+-- so is what a frame asks
+abbrev pub FrameWaits : State → (frame : List ℕ) → (most : ℕ) → Type 0
+FrameWaits s frame most = (request : RequestValue) × IsRequest frame request × BodyWaits s request.body most
 
 -- why a frame isn't answered
 abbrev pub StopsAnswer : List ℕ → NextError → Type 0
@@ -46,27 +61,47 @@ pub record Turn (s : State) (old : SessionState) (es : List Exchange) (after : S
   pub in_turn : InTurn s es after
 
 -- one frame, the first that was held
-abbrev pub AnswersNext : State → SessionState → State → SessionState → Type 0
-AnswersNext s old after new = (e : Exchange) × Turn s old (e ∷ []) after new
+pub record AnswersNext (ended over : Bool) (s : State) (old : SessionState) (after : State) (new : SessionState) : Type 0 where
+  pub exchange : Exchange
+  pub turn : Turn s old (exchange ∷ []) after new
+  pub in_time : InTime ended over s (exchange ∷ []) after
+  pub no_time : new.due ≡ None
 
--- why a turn stopped: no complete frame is held, so much is owed, or the first frame that is held isn't answered
-abbrev pub StopsTurn : (most : ℕ) → SessionState → Stop → Type 0
-StopsTurn most now Short = IsIncomplete now.held
-StopsTurn most now Full = most ≤ length now.owed
-StopsTurn most now (Stopped why) = StopsNext now why
+-- the session in which the first frame waits, for so long at the most: from now on, if it didn't yet
+abbrev pub waiting_for : (clock : ℕ) → SessionState → (most : ℕ) → SessionState
+waiting_for clock now most = record now { due = Some (unwrap_or now.due (clock + most)) }
+
+-- nothing has made the first frame due, which waits
+pub record WaitsNext (clock : ℕ) (ended : Bool) (s : State) (old : SessionState) (after : State) (new : SessionState) (most : ℕ) : Type 0 where
+  pub same : after ≡ s
+  pub waits : WaitsFirst s old.held most
+  pub some : 0 < most
+  pub not_ended : ended ≡ false
+  pub not_over : is_over clock old.due ≡ false
+  pub is : new ≡ waiting_for clock old most
+
+-- why a turn stopped: no complete frame is held, so much is owed, the first frame that is held waits, or it isn't answered
+abbrev pub StopsTurn : (most clock : ℕ) (ended : Bool) → State → SessionState → Stop → Type 0
+StopsTurn most clock ended s now Short = IsIncomplete now.held
+StopsTurn most clock ended s now Full = most ≤ length now.owed
+StopsTurn most clock ended s now Waiting = (ended ≡ false) × IsWaiting clock s now
+StopsTurn most clock ended s now (Stopped why) = StopsNext now why
 
 -- Frames were answered until the turn stopped.
-pub record TurnsUntil (most : ℕ) (s : State) (old : SessionState) (after : State) (new : SessionState) (stop : Stop) : Type 0 where
+pub record TurnsUntil (most clock : ℕ) (ended : Bool) (s : State) (old : SessionState) (after : State) (new : SessionState) (stop : Stop) : Type 0 where
   pub exchanges : List Exchange
   pub turn : Turn s old exchanges after new
   pub below : IsOwedBelow most old.owed exchanges
-  pub stops : StopsTurn most new stop
+  pub in_time : InTime ended (is_over clock old.due) s exchanges after
+  pub times : Times clock most old exchanges after new.owed new
+  pub stops : StopsTurn most clock ended after new stop
 
--- what a turn that stopped so left, where so much was owed then: it stays where some of it is sent
-abbrev pub HasStopped : (owing : List ℕ) → SessionState → Stop → Type 0
-HasStopped owing now Short = IsIncomplete now.held
-HasStopped owing now Full = MOST_OWED ≤ length owing
-HasStopped owing now (Stopped why) = StopsNext now why
+-- what a turn that stopped so left: it stays where some of what was owed then is sent
+abbrev pub HasStopped : Moment → Seat → SessionState → Stop → Type 0
+HasStopped at seat now Short = IsIncomplete now.held
+HasStopped at seat now Full = MOST_OWED ≤ length at.owing
+HasStopped at seat now Waiting = Waits at seat now
+HasStopped at seat now (Stopped why) = StopsNext now why
 
 -- ---- reads and writes
 
@@ -78,6 +113,7 @@ pub record Receives (old new : SessionState) (left left' : Option (List ℕ)) (c
   pub holds : new.held ≡ old.held ++ piece
   pub owes : new.owed ≡ old.owed
   pub counts : new.answered ≡ old.answered
+  pub waits : new.due ≡ old.due
 
 -- where a read failed, nothing left the reader; where memory lacks for what came, it is lost
 abbrev pub FailsToReceive : (left left' : Option (List ℕ)) → ReceiveError → Type 0
@@ -92,6 +128,7 @@ pub record Sends (old new : SessionState) (taken taken' : Option (List ℕ)) (co
   pub owes : old.owed ≡ front ++ new.owed
   pub holds : new.held ≡ old.held
   pub counts : new.answered ≡ old.answered
+  pub waits : new.due ≡ old.due
 
 -- More was wanted and may be read: that came, one piece at the most, or nothing did.
 pub record ComesIn (seat seat' : Seat) (old new : SessionState) (left left' : Option (List ℕ)) : Type 0 where
@@ -142,7 +179,7 @@ IsNoRead (Over (Read why)) = ⊥
 IsNoRead _ = ⊤
 
 -- a visit moved these bytes and frames, and no others
-pub record VisitsSession (s : State) (seat : Seat) (old : SessionState) (after : State) (seat' : Seat) (new : SessionState) (left left' taken taken' : Option (List ℕ)) (visit : Visit) : Type 0 where
+pub record VisitsSession (clock : ℕ) (s : State) (seat : Seat) (old : SessionState) (after : State) (seat' : Seat) (new : SessionState) (left left' taken taken' : Option (List ℕ)) (visit : Visit) : Type 0 where
   pub moved : Moved
   pub moves : Moves s old moved after new
-  pub made : IsMade seat seat' old moved new left left' taken taken' visit
+  pub made : IsMade clock s seat seat' old moved after new left left' taken taken' visit

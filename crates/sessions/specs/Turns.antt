@@ -1,12 +1,17 @@
 -- A client's session, and its frames answered. Kafka's documentation, "Protocol Guide", section "Network": requests of a
 -- connection are answered in the order in which they were sent, and a client may send further ones before a reply came.
-use Rattle.std.specs.Prelude.{◌≡◌, ◌⊎◌, ℕ, ◌-◌, ◌^◌, ◌<◌, ⊤, List, [], ◌∷◌, ◌++◌, length, map}
+use Rattle.std.specs.Prelude.{◌≡◌, ◌⊎◌, ℕ, ◌+◌, ◌-◌, ◌^◌, ◌<◌, ⊤, Bool, true, false, nat_le, List, [], ◌∷◌, ◌++◌, length, map, Option, Some, None}
 use Rattle.std.specs.List.{flat_map}
 use Rattle.frame_fields.specs.declared.error.FrameError.{FrameError}
 use Rattle.frame_fields.specs.Frames.{IsFirstFrame, SizeFault, stream}
+use Rattle.request_frames.specs.Fetch.{FetchValue}
 use Rattle.request_frames.specs.Requests.{RequestValue, IsRequest}
+use Rattle.request_frames.specs.Requests.BodyValue.{fetch}
+use Rattle.fetch_waits.specs.Waiting.{fetch_waits, body_waits, wait_of}
 use Rattle.broker_state.specs.State.{State}
 use Rattle.broker_node.specs.Streams.{IsAnswered, RefusesNext}
+use Rattle.sessions.specs.declared.replying.Next.{Next}
+use Rattle.sessions.specs.declared.replying.Next.TheVariants.{Answered, Short, Waits}
 use Rattle.sessions.specs.declared.replying.NextError.{NextError}
 use Rattle.sessions.specs.declared.replying.NextError.TheVariants.{Frame, OutOfMemory}
 
@@ -31,14 +36,41 @@ abbrev pub InTurn : State → List Exchange → State → Type 0
 InTurn s [] after = s ≡ after
 InTurn s (e ∷ es) after = (m : State) × IsAnswered s e.frame e.reply m × InTurn m es after
 
+-- The same, and a Fetch that waits is answered only where the input has ended, or, if it is the first one, its time is over.
+abbrev pub InTime : (ended over : Bool) → State → List Exchange → State → Type 0
+InTime ended over s [] after = s ≡ after
+InTime ended over s (e ∷ es) after =
+    (m : State) × (a : IsAnswered s e.frame e.reply m)
+    × (body_waits s a.request.body ≡ true → (ended ≡ true) ⊎ (over ≡ true)) × InTime ended false m es after
+
 -- ---- one frame
 
--- The first frame that was held is answered, the rest is held, and its reply stands behind what was written.
-pub record AnswersFirst (s after : State) (held rest out out' : List ℕ) : Type 0 where
+-- The first frame that was held is answered, the rest is held, and its reply stands behind what was written. Where it may
+-- wait it isn't a Fetch that waits.
+pub record AnswersFirst (may_wait : Bool) (s after : State) (held rest out out' : List ℕ) : Type 0 where
   pub exchange : Exchange
   pub first : IsFirstFrame exchange.frame held rest
   pub answers : IsAnswered s exchange.frame exchange.reply after
+  pub in_time : may_wait ≡ true → body_waits s answers.request.body ≡ false
   pub appends : out' ≡ out ++ exchange.reply
+
+-- the first frame that is held is a Fetch that waits, for so many milliseconds at the most
+pub record WaitsFirst (s : State) (held : List ℕ) (most : ℕ) : Type 0 where
+  pub frame : List ℕ
+  pub rest : List ℕ
+  pub request : RequestValue
+  pub asked : FetchValue
+  pub first : IsFirstFrame frame held rest
+  pub reads : IsRequest frame request
+  pub is_fetch : request.body ≡ fetch asked
+  pub waits : fetch_waits s asked ≡ true
+  pub most_is : most ≡ wait_of asked
+
+-- what holds where the first frame was answered, where none is complete, and where it waits for so long
+abbrev pub MatchNext : Next → Type 0 → Type 0 → (ℕ → Type 0) → Type 0
+MatchNext Answered A S W = A
+MatchNext Short A S W = S
+MatchNext (Waits most) A S W = W most
 
 -- a frame is there, or its size is refused
 abbrev pub HasFirst : List ℕ → Type 0
@@ -52,16 +84,17 @@ StopsFirst held OutOfMemory =
 
 -- ---- a session
 
--- A client's session: the bytes that came and aren't answered, those that are owed and aren't sent, and how many frames
--- were answered.
+-- A client's session: the bytes that came and aren't answered, those that are owed and aren't sent, how many frames were
+-- answered, and until when the first one that is held waits, once it was found to.
 pub record SessionState : Type 0 where
   pub held : List ℕ
   pub owed : List ℕ
   pub answered : ℕ
+  pub due : Option ℕ
 
 -- one of which nothing came yet
 abbrev pub new_session : SessionState
-new_session = record { held = []; owed = []; answered = 0 }
+new_session = record { held = []; owed = []; answered = 0; due = None }
 
 -- each frame was answered while fewer bytes were owed than may be
 abbrev pub IsOwedBelow : (most : ℕ) (owed : List ℕ) → List Exchange → Type 0
@@ -73,3 +106,26 @@ IsOwedBelow most owed (e ∷ es) = (length owed < most) × IsOwedBelow most (owe
 abbrev pub StopsNext : SessionState → NextError → Type 0
 StopsNext now (Frame why) = StopsFirst now.held (Frame why)
 StopsNext now OutOfMemory = StopsFirst now.held OutOfMemory ⊎ (now.answered ≡ 2 ^ 64 - 1)
+
+-- ---- a frame that waits
+
+-- a time is over, by a clock in milliseconds
+abbrev pub is_over : (clock : ℕ) → Option ℕ → Bool
+is_over clock None = false
+is_over clock (Some due) = nat_le due clock
+
+-- the first frame that is held is a Fetch that waits, and its time isn't over
+pub record IsWaiting (clock : ℕ) (s : State) (now : SessionState) : Type 0 where
+  pub most : ℕ
+  pub until : ℕ
+  pub waits : WaitsFirst s now.held most
+  pub due_is : now.due ≡ Some until
+  pub later : clock < until
+
+-- No time is moved while its frame is held. One that wasn't there before is that of the first frame that is held now, which
+-- waits, and was come to, as less was owed than may be: it begins now.
+pub record Times (clock limit : ℕ) (old : SessionState) (es : List Exchange) (after : State) (owing : List ℕ) (now : SessionState) : Type 0 where
+  pub stays : es ≡ [] → (until : ℕ) → old.due ≡ Some until → now.due ≡ Some until
+  pub begins : (until : ℕ) → now.due ≡ Some until
+      → ((es ≡ []) × (old.due ≡ Some until))
+      ⊎ ((most : ℕ) × WaitsFirst after now.held most × (length owing < limit) × (until ≡ clock + most))

@@ -1,13 +1,13 @@
 -- What a visit of a session does, and what is to be done with the session then. Of a reader it is known what it has left
 -- to give, and of a writer what it has taken, where that is known.
-use Rattle.std.specs.Prelude.{◌≡◌, ◌≢◌, ◌⊎◌, ℕ, ◌+◌, ◌<◌, ◌≤◌, true, false, List, [], ◌++◌, length, Option}
+use Rattle.std.specs.Prelude.{◌≡◌, ◌≢◌, ◌⊎◌, ℕ, ◌+◌, ◌<◌, ◌≤◌, Bool, ◌||◌, true, false, List, [], ◌++◌, length, Option}
 use Rattle.std.specs.Io.KnownBytes.{Consumes, Keeps, Appends, IsAtEnd}
 use Rattle.std_io.specs.declared.io.kind.ErrorKind.{ErrorKind}
 use Rattle.std_io.specs.declared.io.kind.ErrorKind.TheVariants as kind
 use Rattle.frame_fields.specs.Frames.{IsFrames, IsIncomplete}
 use Rattle.broker_state.specs.State.{State}
 use Rattle.broker_node.specs.Streams.{RefusesNext}
-use Rattle.sessions.specs.Turns.{Exchange, SessionState, HasFirst, StopsNext, IsOwedBelow, InTurn, frames_of, replied}
+use Rattle.sessions.specs.Turns.{Exchange, SessionState, HasFirst, StopsNext, IsOwedBelow, IsWaiting, InTurn, InTime, Times, frames_of, is_over, replied}
 use Rattle.sessions.specs.declared.replying.NextError.{NextError}
 use Rattle.sessions.specs.declared.replying.NextError.TheVariants.{OutOfMemory as NoMemory}
 use Rattle.sessions.specs.declared.visiting.TheConstants.{MOST_OWED, READ_PIECE}
@@ -46,14 +46,27 @@ pub record IsBounded (seat : Seat) (old : SessionState) (moved : Moved) : Type 0
   pub answers : IsOwedBelow MOST_OWED old.owed moved.exchanges
   pub goes : 0 < length moved.sent → seat.may_write ≡ true
 
+-- When a visit stopped answering: what the broker is then, the clock, and what was owed.
+pub record Moment : Type 0 where
+  pub state : State
+  pub clock : ℕ
+  pub owing : List ℕ
+
+-- the input has ended, or the client is known to send nothing more
+abbrev pub has_ended : Seat → Bool
+has_ended seat = seat.at_end || seat.is_closing
+
+-- the first frame that is held waits, and nothing has made it due
+abbrev pub Waits : Moment → Seat → SessionState → Type 0
+Waits at seat now = (has_ended seat ≡ false) × IsWaiting at.clock at.state now
+
 -- the first frame that is held isn't answered
 abbrev pub HasStop : SessionState → Type 0
 HasStop now = (why : NextError) × StopsNext now why
 
--- frames were answered until none was complete, the first one couldn't be, or so much was owed
-abbrev pub IsDone : (old : SessionState) (moved : Moved) (new : SessionState) → Type 0
-IsDone old moved new =
-    IsIncomplete new.held ⊎ (HasStop new ⊎ (MOST_OWED ≤ length (old.owed ++ replied moved.exchanges)))
+-- frames were answered until none was complete, the first one couldn't be, or waits, or so much was owed
+abbrev pub IsDone : Moment → Seat → SessionState → Type 0
+IsDone at seat new = IsIncomplete new.held ⊎ (HasStop new ⊎ (Waits at seat new ⊎ (MOST_OWED ≤ length at.owing)))
 
 -- nothing was moved, and the session is as it was
 abbrev pub MovesNothing : (old : SessionState) (moved : Moved) (new : SessionState) → Type 0
@@ -61,16 +74,16 @@ MovesNothing old moved new =
     (new ≡ old) × (moved.came ≡ []) × (moved.exchanges ≡ []) × (moved.sent ≡ [])
 
 -- what came left a reader, and all was answered that could be
-abbrev pub IsServed : (old : SessionState) (moved : Moved) (new : SessionState) (left left' : Option (List ℕ)) → Type 0
-IsServed old moved new left left' = Consumes left left' moved.came × IsDone old moved new
+abbrev pub IsServed : Moment → Seat → (moved : Moved) (new : SessionState) (left left' : Option (List ℕ)) → Type 0
+IsServed at seat moved new left left' = Consumes left left' moved.came × IsDone at seat new
 
 -- What left a reader came and was served. But a failed read moves nothing, and what came is lost where memory lacks for
 -- it: then the session is over.
-abbrev pub Serves : (old : SessionState) (moved : Moved) (new : SessionState) (left left' : Option (List ℕ)) → Then → Type 0
-Serves old moved new left left' (Over (Read why)) = MovesNothing old moved new × Keeps left left'
-Serves old moved new left left' (Over OutOfMemory) =
-    (MovesNothing old moved new × ((lost : List ℕ) × Consumes left left' lost)) ⊎ IsServed old moved new left left'
-Serves old moved new left left' _ = IsServed old moved new left left'
+abbrev pub Serves : Moment → Seat → (old : SessionState) (moved : Moved) (new : SessionState) (left left' : Option (List ℕ)) → Then → Type 0
+Serves at seat old moved new left left' (Over (Read why)) = MovesNothing old moved new × Keeps left left'
+Serves at seat old moved new left left' (Over OutOfMemory) =
+    (MovesNothing old moved new × ((lost : List ℕ) × Consumes left left' lost)) ⊎ IsServed at seat moved new left left'
+Serves at seat old moved new left left' _ = IsServed at seat moved new left left'
 
 -- what was sent a writer took, and the visit counts the frames and the bytes sent
 pub record Passes (moved : Moved) (taken taken' : Option (List ℕ)) (visit : Visit) : Type 0 where
@@ -89,6 +102,7 @@ pub record Learns (old new : Seat) (moved : Moved) (now : SessionState) (left' :
   pub write_waits : new.may_write ≡ false → (old.may_write ≡ false) ⊎ (0 < length now.owed)
   pub ended : old.at_end ≡ true → new.at_end ≡ true
   pub ends : new.at_end ≡ true → (old.at_end ≡ true) ⊎ (moved.came ≡ []) × IsAtEnd left'
+  pub closing : new.is_closing ≡ old.is_closing
 
 -- ---- how it goes on
 
@@ -116,30 +130,36 @@ CanRead seat now = IsIncomplete now.held × (seat.may_read ≡ true) × (seat.at
 
 -- There is more to do: what is owed can be written; or less is owed than may be, and more can be read, or a frame is
 -- there that wasn't answered since so much was owed before some of it was sent.
-abbrev pub HasMore : (owing : List ℕ) → Seat → SessionState → Type 0
-HasMore owing seat now = ((0 < length now.owed) × (seat.may_write ≡ true))
-    ⊎ ((length now.owed < MOST_OWED) × (CanRead seat now ⊎ HasFirst now.held × (MOST_OWED ≤ length owing)))
+abbrev pub HasMore : Moment → Seat → SessionState → Type 0
+HasMore at seat now = ((0 < length now.owed) × (seat.may_write ≡ true))
+    ⊎ ((length now.owed < MOST_OWED) × (CanRead seat now ⊎ HasFirst now.held × (MOST_OWED ≤ length at.owing)))
 
--- Nothing can be done for a session before its connection changes: what is owed can't be written; no frame can be
--- answered, for want of bytes, or because so much is owed, or because the first one that is held isn't answered; nothing
--- can be read; and it isn't over.
-pub record IsIdle (seat : Seat) (now : SessionState) : Type 0 where
+-- Nothing can be done for a session before its connection changes, or the frame that waits is due: what is owed can't be
+-- written; no frame can be answered, for want of bytes, or because so much is owed, or because the first one that is held
+-- isn't answered, or waits; nothing can be read; and it isn't over.
+pub record IsIdle (at : Moment) (seat : Seat) (now : SessionState) : Type 0 where
   pub no_write : CannotWrite seat now
-  pub no_answer : length now.owed < MOST_OWED → IsIncomplete now.held ⊎ HasStop now
+  pub no_answer : length now.owed < MOST_OWED → IsIncomplete now.held ⊎ (HasStop now ⊎ Waits at seat now)
   pub no_read : length now.owed < MOST_OWED → IsIncomplete now.held
       → (seat.may_read ≡ false) ⊎ ((seat.at_end ≡ true) ⊎ HasStop now)
-  pub not_over : now.owed ≡ [] → (seat.at_end ≡ false) × IsIncomplete now.held
+  pub not_over : now.owed ≡ [] → (seat.at_end ≡ false) × (IsIncomplete now.held ⊎ Waits at seat now)
 
 -- what is to be done is what a visit says
-abbrev pub GoesOn : (owing : List ℕ) → Seat → SessionState → Then → Type 0
-GoesOn owing seat now Again = HasMore owing seat now
-GoesOn owing seat now Idle = IsIdle seat now
-GoesOn owing seat now (Over why) = IsOver seat now why
+abbrev pub GoesOn : Moment → Seat → SessionState → Then → Type 0
+GoesOn at seat now Again = HasMore at seat now
+GoesOn at seat now Idle = IsIdle at seat now
+GoesOn at seat now (Over why) = IsOver seat now why
+
+-- when a visit that moved so much stopped answering
+abbrev pub stopped_at : (clock : ℕ) → State → SessionState → Moved → Moment
+stopped_at clock after old moved = record { state = after; clock = clock; owing = old.owed ++ replied moved.exchanges }
 
 -- all that a visit is, beside what it moved
-pub record IsMade (seat seat' : Seat) (old : SessionState) (moved : Moved) (new : SessionState) (left left' taken taken' : Option (List ℕ)) (visit : Visit) : Type 0 where
+pub record IsMade (clock : ℕ) (s : State) (seat seat' : Seat) (old : SessionState) (moved : Moved) (after : State) (new : SessionState) (left left' taken taken' : Option (List ℕ)) (visit : Visit) : Type 0 where
   pub bounded : IsBounded seat old moved
-  pub serves : Serves old moved new left left' visit.then
+  pub in_time : InTime (has_ended seat') (is_over clock old.due) s moved.exchanges after
+  pub times : Times clock MOST_OWED old moved.exchanges after (old.owed ++ replied moved.exchanges) new
+  pub serves : Serves (stopped_at clock after old moved) seat' old moved new left left' visit.then
   pub passes : Passes moved taken taken' visit
   pub learns : Learns seat seat' moved new left'
-  pub goes_on : GoesOn (old.owed ++ replied moved.exchanges) seat' new visit.then
+  pub goes_on : GoesOn (stopped_at clock after old moved) seat' new visit.then

@@ -13,9 +13,10 @@ mod replying;
 mod session;
 mod sessions;
 mod visiting;
+mod waiting;
 
 pub use laws::many_clients_are_one_list;
-pub use replying::{NextError, answer_first};
+pub use replying::{Next, NextError, answer_first};
 pub use session::Session;
 pub use sessions::Sessions;
 pub use visiting::{MOST_OWED, READ_PIECE, Seat, Then, Visit, Why};

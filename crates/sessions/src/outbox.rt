@@ -1,11 +1,11 @@
 //! The bytes that are owed to a client.
 
-ghost use Rattle.std.specs.Prelude.{◌≡◌, ◌≤◌, [], length, take, drop, MatchBool, IfOk, IfErr, OnErr};
+ghost use Rattle.std.specs.Prelude.{◌≡◌, ◌<◌, ◌≤◌, true, [], length, take, drop, IfOk, IfErr, OnErr};
 ghost use Rattle.std.specs.Io.KnownBytes.{Appends, Keeps};
 ghost use Rattle.frame_fields.specs.Frames.{IsIncomplete};
-ghost use Rattle.sessions.specs.Turns.{AnswersFirst, StopsFirst};
+ghost use Rattle.sessions.specs.Turns.{AnswersFirst, MatchNext, StopsFirst, WaitsFirst};
 
-use crate::replying::{NextError, answer_first};
+use crate::replying::{Next, NextError, answer_first};
 use broker_node::Node;
 use bytes::BytesMut;
 use segment::BatchStore;
@@ -62,16 +62,21 @@ impl<A: Allocator + Copy> Outbox<A> {
         &mut self,
         node: &mut Node<S>,
         held: &mut BytesMut<A>,
-    ) -> Result<bool, NextError>
-        ensures answers { IfOk result (λ more. MatchBool more
-            (AnswersFirst node.old node.new held.old.items held.new.items self.old self.new)
+        may_wait: bool,
+    ) -> Result<Next, NextError>
+        ensures answers { IfOk result (λ next. MatchNext next
+            (AnswersFirst may_wait node.old node.new held.old.items held.new.items
+            self.old self.new)
             ((node.new ≡ node.old) × (held.new ≡ held.old) × (self.new ≡ self.old)
-            × IsIncomplete held.new.items)) }
+            × IsIncomplete held.new.items)
+            (λ most. (node.new ≡ node.old) × (held.new ≡ held.old) × (self.new ≡ self.old)
+            × ((may_wait ≡ true) × ((0 < most)
+            × WaitsFirst node.old held.old.items most)))) }
         ensures stops { IfErr result (StopsFirst held.old.items) }
         ensures unchanged_on_error { OnErr result ((node.new ≡ node.old)
             × (held.new ≡ held.old) × (self.new ≡ self.old)) }
     {
-        answer_first(node, held, &mut self.behind)
+        answer_first(node, held, &mut self.behind, may_wait)
     }
 
     /// Makes one write, of the front of what is owed, and gives how many bytes left.

@@ -1,16 +1,30 @@
 //! The first frame that is held, answered.
 
-ghost use Rattle.std.specs.Prelude.{◌≡◌, MatchBool, IfOk, IfErr, OnOk, OnErr};
+ghost use Rattle.std.specs.Prelude.{◌≡◌, ◌<◌, true, false, IfOk, IfErr, IfNone, IfSome, OnErr};
 ghost use Rattle.frame_fields.specs.Frames.{IsIncomplete};
-ghost use Rattle.sessions.specs.Turns.{AnswersFirst, StopsFirst};
-ghost use Rattle.sessions.specs.Steps.{AnswersFrame, StopsAnswer};
+ghost use Rattle.request_frames.specs.Views.{request_value};
+ghost use Rattle.sessions.specs.Turns.{AnswersFirst, MatchNext, StopsFirst, WaitsFirst};
+ghost use Rattle.fetch_waits.specs.Waiting.{body_waits};
+ghost use Rattle.sessions.specs.Steps.{AnswersFrame, BodyWaits, FrameWaits, StopsAnswer};
 
 use broker_node::Node;
 use bytes::BytesMut;
+use fetch_waits::fetch_waits;
 use frame_fields::{FrameError, SIZE_BYTES, first_frame};
-use request_frames::parse;
+use request_frames::{Request, RequestBody, parse};
 use segment::BatchStore;
 use std::alloc::Allocator;
+
+/// What came of the first frame that is held.
+#[derive(Drop)]
+pub enum Next {
+    /// It was answered, and left.
+    Answered,
+    /// It isn't complete.
+    Short,
+    /// It is a Fetch that waits, for so many milliseconds at the most.
+    Waits(u32),
+}
 
 /// Why the first frame that is held isn't answered.
 #[derive(Drop)]
@@ -21,47 +35,73 @@ pub enum NextError {
     OutOfMemory,
 }
 
-/// Handles the first frame that is held, if it is complete, and tells whether it was: it leaves what is
-/// held, and its reply, if it has one, stands behind the output.
+/// Handles the first frame that is held, if it is complete: it leaves what is held, and its reply, if it
+/// has one, stands behind the output. Where it may wait, and is a Fetch that waits in what the broker holds
+/// now, nothing is done.
 ///
 /// # Errors
 ///
 /// The frame is refused, or there is no memory for its response. Then nothing was done: the broker, what
 /// is held and the output are as before.
+#[tactic(auto, using(crate::proofs::Turning::first_waits))]
 pub fn answer_first<S: BatchStore, A: Allocator + Copy, B: Allocator + Copy>(
     node: &mut Node<S>,
     held: &mut BytesMut<A>,
     out: &mut Vec<u8, B>,
-) -> Result<bool, NextError>
-    ensures answers { IfOk result (λ more. MatchBool more
-        (AnswersFirst node.old node.new held.old.items held.new.items
+    may_wait: bool,
+) -> Result<Next, NextError>
+    ensures answers { IfOk result (λ next. MatchNext next
+        (AnswersFirst may_wait node.old node.new held.old.items held.new.items
         out.old.items out.new.items)
         ((node.new ≡ node.old) × (held.new ≡ held.old) × (out.new ≡ out.old)
-        × IsIncomplete held.new.items)) }
+        × IsIncomplete held.new.items)
+        (λ most. (node.new ≡ node.old) × (held.new ≡ held.old) × (out.new ≡ out.old)
+        × ((may_wait ≡ true) × ((0 < most) × WaitsFirst node.old held.old.items most)))) }
     ensures stops { IfErr result (StopsFirst held.old.items) }
     ensures unchanged_on_error { OnErr result ((node.new ≡ node.old) × (held.new ≡ held.old)
         × (out.new.items ≡ out.old.items)) }
 {
     let frame = match first_frame(held.as_slice()) {
         Ok(Some(frame)) => frame,
-        Ok(None) => return Ok(false),
+        Ok(None) => return Ok(Next::Short),
         Err(why) => return Err(NextError::Frame(why)),
     };
     let whole = SIZE_BYTES + frame.len();
-    answer(node, frame, out)?;
+    if let Some(most) = answer(node, frame, out, may_wait)? {
+        return Ok(Next::Waits(most));
+    }
     held.advance(whole);
-    Ok(true)
+    Ok(Next::Answered)
 }
 
-/// Handles a frame, and puts its reply, if it has one, behind the output.
-#[tactic(auto, using(crate::proofs::Turning::frame_answered))]
+/// How long a request waits at the most, in milliseconds, if it may, and is a Fetch that waits.
+fn wait_of<S: BatchStore>(node: &Node<S>, request: &Request<'_>, may_wait: bool) -> Option<u32>
+    ensures waits { IfSome result (λ most. (may_wait ≡ true) × ((0 < most)
+        × BodyWaits node.now (request_value request.now).body most)) }
+    ensures waits_not { IfNone result (may_wait ≡ true
+        → body_waits node.now (request_value request.now).body ≡ false) }
+{
+    match &request.body {
+        RequestBody::Fetch(asked) if may_wait && fetch_waits(node.state(), asked) => {
+            Some(asked.max_wait_ms.unsigned_abs())
+        }
+        _ => None,
+    }
+}
+
+/// Handles a frame, and puts its reply, if it has one, behind the output. Where it may wait, and does,
+/// nothing is done, and it gives for how many milliseconds at the most.
 fn answer<S: BatchStore, B: Allocator + Copy>(
     node: &mut Node<S>,
     frame: &[u8],
     out: &mut Vec<u8, B>,
-) -> Result<(), NextError>
-    ensures answers { OnOk result (AnswersFrame node.old node.new frame.now
-        out.old.items out.new.items) }
+    may_wait: bool,
+) -> Result<Option<u32>, NextError>
+    ensures answers { IfOk result (λ wait. IfNone wait
+        (AnswersFrame may_wait node.old node.new frame.now out.old.items out.new.items)) }
+    ensures waits { IfOk result (λ wait. IfSome wait (λ most. (node.new ≡ node.old)
+        × (out.new ≡ out.old) × ((may_wait ≡ true)
+        × ((0 < most) × FrameWaits node.old frame.now most)))) }
     ensures stops { IfErr result (StopsAnswer frame.now) }
     ensures unchanged_on_error { OnErr result
         ((node.new ≡ node.old) × (out.new.items ≡ out.old.items)) }
@@ -70,8 +110,11 @@ fn answer<S: BatchStore, B: Allocator + Copy>(
         Ok(request) => request,
         Err(why) => return Err(NextError::Frame(why)),
     };
+    if let Some(most) = wait_of(node, &request, may_wait) {
+        return Ok(Some(most));
+    }
     match node.handle(&request, out) {
-        Ok(_) => Ok(()),
+        Ok(_) => Ok(None),
         Err(_) => Err(NextError::OutOfMemory),
     }
 }

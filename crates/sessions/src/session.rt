@@ -1,14 +1,15 @@
 //! The session of one client.
 
-ghost use Rattle.std.specs.Prelude.{◌≡◌, ◌<◌, ◌≤◌, length, true, drop, MatchBool, MatchOption, IfOk, IfErr, OnErr};
-ghost use Rattle.std.specs.Io.KnownBytes.{Appends, Keeps, IsAtEnd};
+ghost use Rattle.std.specs.Prelude.{◌≡◌, ◌⊎◌, ◌<◌, ◌≤◌, ◌&&◌, length, not, drop, MatchBool, MatchOption, IfOk, IfErr, OnErr};
+ghost use Rattle.std.specs.Io.KnownBytes.{Keeps, IsAtEnd};
 ghost use Rattle.frame_fields.specs.Frames.{IsIncomplete};
 ghost use Rattle.request_frames.specs.Requests.{key_of, version_of};
-ghost use Rattle.sessions.specs.Turns.{HasFirst, StopsNext, new_session};
-ghost use Rattle.sessions.specs.Steps.{AnswersNext, FailsToReceive, Receives, Sends, TurnsUntil};
+ghost use Rattle.sessions.specs.Turns.{HasFirst, MatchNext, StopsNext, is_over, new_session};
+ghost use Rattle.sessions.specs.Steps.{AnswersNext, FailsToReceive, Receives, Sends, TurnsUntil, WaitsNext};
 
 use crate::outbox::Outbox;
-use crate::replying::NextError;
+use crate::replying::{Next, NextError};
+use crate::waiting::Waiting;
 use broker_node::Node;
 use bytes::BytesMut;
 use frame_fields::first_frame;
@@ -18,13 +19,25 @@ use std::io::{ErrorKind, Read, Result as IoResult, Write};
 use std::marker::Model;
 
 /// A client's session: the bytes that came and aren't answered, the replies that are owed and aren't sent,
-/// and how many frames were answered.
+/// how many frames were answered, and until when the first one that is held waits.
 #[derive(Drop)]
 pub struct Session<A: Allocator + Copy> {
     alloc: A,
     held: BytesMut<A>,
     owed: Outbox<A>,
     answered: u64,
+    due: Option<u128>,
+}
+
+/// What a turn is told of its session and of the time.
+#[derive(Clone, Copy)]
+pub(crate) struct Now {
+    /// The number of the session.
+    pub(crate) number: u64,
+    /// What the clock says, in milliseconds.
+    pub(crate) clock: u64,
+    /// Whether the input has ended.
+    pub(crate) has_ended: bool,
 }
 
 /// Why a turn stopped.
@@ -34,6 +47,8 @@ pub(crate) enum Stop {
     Short,
     /// As much is owed as may be.
     Full,
+    /// The first frame that is held waits.
+    Waits,
     /// The first frame that is held isn't answered.
     Over(NextError),
 }
@@ -52,7 +67,12 @@ impl<A: Allocator + Copy> Model for Session<A> {
 
     ghost Value = { SessionState };
 
-    ghost view = { λ s. record { held = s.held.items; owed = s.owed; answered = s.answered } };
+    ghost view = { λ s. record {
+      held = s.held.items;
+      owed = s.owed;
+      answered = s.answered;
+      due = s.due;
+    } };
 }
 
 impl<A: Allocator + Copy> Session<A> {
@@ -65,6 +85,7 @@ impl<A: Allocator + Copy> Session<A> {
             held: BytesMut::new(alloc),
             owed: Outbox::new(alloc),
             answered: 0,
+            due: None,
         }
     }
 
@@ -87,6 +108,24 @@ impl<A: Allocator + Copy> Session<A> {
         ensures { result ≡ self.now.answered }
     {
         self.answered
+    }
+
+    /// Until when the first frame that is held waits, in milliseconds, once it was found to.
+    pub fn due(&self) -> Option<u128>
+        ensures { result ≡ self.now.due }
+    {
+        self.due
+    }
+
+    /// Whether the first frame that is held may wait: the input hasn't ended, and no time is over.
+    fn may_wait(&self, now: Now) -> bool
+        ensures { result ≡ (not now.has_ended && not (is_over now.clock self.now.due)) }
+    {
+        let is_over = match self.due {
+            Some(due) => due <= u128::from(now.clock),
+            None => false,
+        };
+        !now.has_ended && !is_over
     }
 
     /// The key and the version of the first frame that is held, if they are there.
@@ -140,27 +179,54 @@ impl<A: Allocator + Copy> Session<A> {
         }
     }
 
-    /// Answers complete frames in order, until none is left or so many bytes are owed.
-    #[tactic(auto, using(crate::proofs::Turning::turning_none, crate::proofs::Turning::turning_then, crate::proofs::Turning::less_is_held))]
-    pub(crate) fn turn<S: BatchStore>(&mut self, node: &mut Node<S>, most_owed: usize) -> Stop
-        ensures { TurnsUntil most_owed node.old self.old node.new self.new result }
+    /// Answers complete frames in order, until none is left, the first one waits, or so many bytes are
+    /// owed.
+    #[tactic(auto, using(crate::proofs::Turning::turning_none, crate::proofs::Turning::turning_then, crate::proofs::Turning::turn_stops, crate::proofs::Turning::less_is_held))]
+    pub(crate) fn turn<S: BatchStore>(
+        &mut self,
+        node: &mut Node<S>,
+        waiting: &mut Waiting<A>,
+        now: Now,
+        most_owed: usize,
+    ) -> Stop
+        ensures { TurnsUntil most_owed now.clock now.has_ended node.old self.old node.new self.new
+            result }
     {
         while self.owed.len() < most_owed {
-            match self.answer_next(node) {
-                Ok(true) => {}
-                Ok(false) => return Stop::Short,
+            waiting.look(node, self.held.as_slice());
+            match self.answer_next(node, now) {
+                Ok(Next::Answered) => waiting.leave(now.number),
+                Ok(Next::Short) => return Stop::Short,
+                Ok(Next::Waits(_)) => return self.wait(node, waiting, now.number),
                 Err(why) => return Stop::Over(why),
             }
         }
         Stop::Full
     }
 
-    /// Answers the first frame that is held, if it is complete, and tells whether it was.
-    #[tactic(auto, using(crate::proofs::Turning::turn_first))]
-    fn answer_next<S: BatchStore>(&mut self, node: &mut Node<S>) -> Result<bool, NextError>
-        ensures answers { IfOk result (λ more. MatchBool more
-            (AnswersNext node.old self.old node.new self.new)
-            ((node.new ≡ node.old) × (self.new ≡ self.old) × IsIncomplete self.new.held)) }
+    /// Has the first frame that is held wait for its partitions. Without memory for that it can't be
+    /// answered.
+    fn wait<S: BatchStore>(&self, node: &Node<S>, waiting: &mut Waiting<A>, number: u64) -> Stop
+        ensures { (result ≡ Stop.Waits) ⊎ (result ≡ Stop.Over NextError.OutOfMemory) }
+    {
+        match waiting.join(node, number, self.due, self.held.as_slice()) {
+            Ok(()) => Stop::Waits,
+            Err(_) => Stop::Over(NextError::OutOfMemory),
+        }
+    }
+
+    /// Answers the first frame that is held, if it is complete and doesn't wait.
+    #[tactic(auto, using(crate::proofs::Turning::turn_first, crate::proofs::Turning::waits_next))]
+    fn answer_next<S: BatchStore>(
+        &mut self,
+        node: &mut Node<S>,
+        now: Now,
+    ) -> Result<Next, NextError>
+        ensures answers { IfOk result (λ next. MatchNext next
+            (AnswersNext now.has_ended (is_over now.clock self.old.due)
+            node.old self.old node.new self.new)
+            ((node.new ≡ node.old) × (self.new ≡ self.old) × IsIncomplete self.new.held)
+            (WaitsNext now.clock now.has_ended node.old self.old node.new self.new)) }
         ensures stops { IfErr result (StopsNext self.old) }
         ensures unchanged_on_error { OnErr result
             ((node.new ≡ node.old) × (self.new ≡ self.old)) }
@@ -168,11 +234,20 @@ impl<A: Allocator + Copy> Session<A> {
         let Some(answered) = self.answered.checked_add(1) else {
             return Err(NextError::OutOfMemory);
         };
-        if !self.owed.answer(node, &mut self.held)? {
-            return Ok(false);
+        let may_wait = self.may_wait(now);
+        let next = self.owed.answer(node, &mut self.held, may_wait)?;
+        match next {
+            Next::Answered => {
+                self.answered = answered;
+                self.due = None;
+            }
+            Next::Short => {}
+            Next::Waits(most) => {
+                let until = u128::from(now.clock) + u128::from(most);
+                self.due = Some(self.due.unwrap_or(until));
+            }
         }
-        self.answered = answered;
-        Ok(true)
+        Ok(next)
     }
 
     /// Makes one write, of the front of what is owed, and gives how many bytes left.

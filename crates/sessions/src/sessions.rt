@@ -7,6 +7,7 @@ ghost use Rattle.sessions.specs.Orders.Event.{Closes, Opens};
 
 use crate::session::Session;
 use crate::visiting::{READ_PIECE, Seat, Visit, visit_session};
+use crate::waiting::Waiting;
 use broker_node::Node;
 use indexmap::IndexMap;
 use segment::BatchStore;
@@ -21,7 +22,7 @@ use std::marker::Model;
 /// let mut sessions = Sessions::new(alloc, node)?;
 /// let number = sessions.open()?;
 /// let mut seat = Seat::new();
-/// match sessions.visit(number, &mut seat, &mut reader, &mut writer) {
+/// match sessions.visit(number, clock, &mut seat, &mut reader, &mut writer) {
 ///     Some(Visit { then: Then::Over(_), .. }) => sessions.close(number),
 ///     _ => true, // another visit, at once or once something can be read or written
 /// }
@@ -32,6 +33,7 @@ pub struct Sessions<S: BatchStore, A: Allocator + Copy> {
     node: Node<S>,
     sessions: IndexMap<u64, Session<A>, BuildHasherDefault<FoldHasher>, A>,
     next: u64,
+    waiting: Waiting<A>,
     /// What a read is made into.
     piece: Vec<u8, A>,
 }
@@ -64,6 +66,7 @@ impl<S: BatchStore + Drop, A: Allocator + Copy> Sessions<S, A> {
             node,
             sessions: IndexMap::new(alloc),
             next: 0,
+            waiting: Waiting::new(alloc),
             piece,
         })
     }
@@ -90,15 +93,18 @@ impl<S: BatchStore, A: Allocator + Copy> Sessions<S, A> {
 
     /// Visits the session with this number: makes at most one read, where a read may be made and no
     /// complete frame is held; answers complete frames in order, until 256 KiB or more are owed; makes at
-    /// most four writes. `None` if there is no such session.
+    /// most four writes. `None` if there is no such session. `clock` is what the caller's clock says, in
+    /// milliseconds: a Fetch that waits is answered once it says so much more than it did at the visit
+    /// that first came to that frame, or once what it waits for is there, or the input has ended.
     pub fn visit<R: Read, W: Write>(
         &mut self,
         number: u64,
+        clock: u64,
         seat: &mut Seat,
         from: &mut R,
         to: &mut W,
     ) -> Option<Visit>
-        ensures visits { IfSome result (VisitsAt number seat.old self.old seat.new self.new
+        ensures visits { IfSome result (VisitsAt number clock seat.old self.old seat.new self.new
             (R.remaining from.old) (R.remaining from.new)
             (W.contents to.old) (W.contents to.new)) }
         ensures none_is_absent { IfNone result (session_at self.old number ≡ None) }
@@ -108,6 +114,9 @@ impl<S: BatchStore, A: Allocator + Copy> Sessions<S, A> {
         match self.sessions.get_mut(&number) {
             Some(session) => Some(visit_session(
                 &mut self.node,
+                &mut self.waiting,
+                number,
+                clock,
                 session,
                 seat,
                 from,
@@ -124,10 +133,31 @@ impl<S: BatchStore, A: Allocator + Copy> Sessions<S, A> {
         ensures { MatchBool result (Step self.old (Closes number) self.new)
             ((session_at self.old number ≡ None) × (self.new ≡ self.old)) }
     {
+        self.waiting.leave(number);
         match self.sessions.swap_remove(&number) {
             Some(_) => true,
             None => false,
         }
+    }
+
+    /// The number of a session whose frame waits and may be due: a partition that it asks for
+    /// may have changed, or its time is over by the clock. It is to be
+    /// visited: that finds whether it is due. It may wait no more, too, or be closed.
+    pub fn next_woken(&mut self, clock: u64) -> Option<u64>
+        ensures { self.new ≡ self.old }
+    {
+        self.waiting.next_woken(clock)
+    }
+
+    /// For how many partitions the first frame of a session waits; 0 where it doesn't. Each takes some 64
+    /// bytes of memory.
+    pub fn awaited(&self, number: u64) -> usize {
+        self.waiting.places(number)
+    }
+
+    /// When the first frame that waits will be due, in milliseconds, if nothing else makes it due before.
+    pub fn next_due(&self) -> Option<u128> {
+        self.waiting.next_due()
     }
 
     /// A law: whatever calls were made since the broker had no client, all frames that were answered are one

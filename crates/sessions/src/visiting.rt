@@ -1,13 +1,14 @@
 //! A visit of a session: what may be read is read, what is complete is answered, and what is owed is sent.
 
-ghost use Rattle.std.specs.Prelude.{◌≡◌, ◌⊎◌, ℕ, ◌<◌, ◌≤◌, true, false, List, length, IfErr, MatchBool, OnErr, OnOk};
+ghost use Rattle.std.specs.Prelude.{◌≡◌, ◌⊎◌, ◌<◌, ◌≤◌, true, false, length, IfErr, MatchBool, OnErr, OnOk};
 ghost use Rattle.frame_fields.specs.Frames.{IsIncomplete};
 ghost use Rattle.sessions.specs.Turns.{StopsNext};
-ghost use Rattle.sessions.specs.Visits.{CannotWrite, GoesOn, WantsMore};
+ghost use Rattle.sessions.specs.Visits.{CannotWrite, GoesOn, Moment, WantsMore, has_ended};
 ghost use Rattle.sessions.specs.Steps.{ComesIn, FailsToRead, FailsToWrite, GoesOut, HasStopped, IsFailure, IsNoRead, VisitsSession, WriteFault, Writes};
 
 use crate::replying::NextError;
-use crate::session::{ReceiveError, Session, Stop};
+use crate::session::{Now, ReceiveError, Session, Stop};
+use crate::waiting::Waiting;
 use broker_node::Node;
 use frame_fields::FrameError;
 use segment::BatchStore;
@@ -32,6 +33,9 @@ pub struct Seat {
     pub may_write: bool,
     /// Whether the input has come to its end.
     pub at_end: bool,
+    /// Whether the client is known to send nothing more than what came until then, so that its frames wait
+    /// no more. The caller sets it.
+    pub is_closing: bool,
 }
 
 /// What came of a visit.
@@ -50,7 +54,7 @@ pub struct Visit {
 pub enum Then {
     /// There is more to do: another visit, after the others.
     Again,
-    /// There is nothing to do until a read or a write may be made again.
+    /// There is nothing to do until a read or a write may be made again, or a frame that waits is due.
     Idle,
     /// It is over, and can be closed.
     Over(Why),
@@ -74,12 +78,18 @@ pub enum Why {
 impl Seat {
     /// A connection that was just opened. Nothing is read before something is known to have come.
     pub fn new() -> Seat
-        ensures { result ≡ record { may_read = false; may_write = true; at_end = false } }
+        ensures { result ≡ record {
+          may_read = false;
+          may_write = true;
+          at_end = false;
+          is_closing = false;
+        } }
     {
         Seat {
             may_read: false,
             may_write: true,
             at_end: false,
+            is_closing: false,
         }
     }
 }
@@ -118,8 +128,8 @@ fn can_write<A: Allocator + Copy>(seat: &Seat, session: &Session<A>) -> bool
 
 /// What is to be done with a session that holds no complete frame, where nothing can be written.
 fn after_short<A: Allocator + Copy>(seat: &Seat, session: &Session<A>) -> Then
-    ensures goes_on { (owing : List ℕ) → IsIncomplete session.now.held
-        → CannotWrite seat.now session.now → GoesOn owing seat.now session.now result }
+    ensures goes_on { (at : Moment) → IsIncomplete session.now.held
+        → CannotWrite seat.now session.now → GoesOn at seat.now session.now result }
     ensures reads_nothing { IsNoRead result }
 {
     if seat.at_end {
@@ -137,8 +147,8 @@ fn after_short<A: Allocator + Copy>(seat: &Seat, session: &Session<A>) -> Then
 
 /// What is to be done with a session to which so much was owed, where nothing can be written.
 fn after_full<A: Allocator + Copy>(seat: &Seat, session: &Session<A>) -> Then
-    ensures goes_on { (owing : List ℕ) → MOST_OWED ≤ length owing
-        → CannotWrite seat.now session.now → GoesOn owing seat.now session.now result }
+    ensures goes_on { (at : Moment) → MOST_OWED ≤ length at.owing
+        → CannotWrite seat.now session.now → GoesOn at seat.now session.now result }
     ensures reads_nothing { IsNoRead result }
 {
     if session.owed() >= MOST_OWED {
@@ -152,8 +162,8 @@ fn after_full<A: Allocator + Copy>(seat: &Seat, session: &Session<A>) -> Then
 
 /// What is to be done with a session whose first frame isn't answered, where nothing can be written.
 fn after_stop<A: Allocator + Copy>(why: NextError, seat: &Seat, session: &Session<A>) -> Then
-    ensures goes_on { (owing : List ℕ) → StopsNext session.now why
-        → CannotWrite seat.now session.now → GoesOn owing seat.now session.now result }
+    ensures goes_on { (at : Moment) → StopsNext session.now why
+        → CannotWrite seat.now session.now → GoesOn at seat.now session.now result }
     ensures reads_nothing { IsNoRead result }
 {
     if session.owed() > 0 {
@@ -172,9 +182,9 @@ fn what_then<A: Allocator + Copy>(
     stop: Stop,
     written: Result<(), Why>,
 ) -> Then
-    ensures goes_on { (owing : List ℕ) → HasStopped owing session.now stop
+    ensures goes_on { (at : Moment) → HasStopped at seat.now session.now stop
         → IfErr written (FailsToWrite seat.now session.now)
-        → GoesOn owing seat.now session.now result }
+        → GoesOn at seat.now session.now result }
     ensures fault_ends { IfErr written (λ why. result ≡ Then.Over why) }
     ensures reads_nothing { IfErr written (FailsToWrite seat.now session.now) → IsNoRead result }
 {
@@ -188,11 +198,19 @@ fn what_then<A: Allocator + Copy>(
     match stop {
         Stop::Full => after_full(seat, session),
         Stop::Short => after_short(seat, session),
+        Stop::Waits => Then::Idle,
         Stop::Over(why) => after_stop(why, seat, session),
     }
 }
 
 // ---- reads and writes
+
+/// Whether the input has ended, or the client is known to send nothing more.
+fn has_ended(seat: &Seat) -> bool
+    ensures { result ≡ has_ended seat.now }
+{
+    seat.at_end || seat.is_closing
+}
 
 /// Whether no complete frame is held, not too much is owed, and more may be read.
 fn wants_more<A: Allocator + Copy>(seat: &Seat, session: &Session<A>) -> bool
@@ -221,6 +239,7 @@ fn read_once<A: Allocator + Copy, R: Read>(
     ensures writes { seat.new.may_write ≡ seat.old.may_write }
     ensures ended { seat.old.at_end ≡ true → seat.new.at_end ≡ true }
     ensures fault_is_no_end { OnErr result (seat.new ≡ seat.old) }
+    ensures closing { seat.new.is_closing ≡ seat.old.is_closing }
 {
     if !wants_more(seat, session) {
         return Ok(());
@@ -290,9 +309,13 @@ fn write_some<A: Allocator + Copy, W: Write>(
     Ok(())
 }
 
-/// Visits a session: reads once, answers, and writes.
+/// Visits the session with a number, when the clock says so many milliseconds: reads once, answers, and
+/// writes.
 pub(crate) fn visit_session<S: BatchStore, A: Allocator + Copy, R: Read, W: Write>(
     node: &mut Node<S>,
+    waiting: &mut Waiting<A>,
+    number: u64,
+    clock: u64,
     session: &mut Session<A>,
     seat: &mut Seat,
     from: &mut R,
@@ -300,7 +323,7 @@ pub(crate) fn visit_session<S: BatchStore, A: Allocator + Copy, R: Read, W: Writ
     piece: &mut [u8],
 ) -> Visit
     ensures { length piece.old ≡ READ_PIECE
-        → VisitsSession node.old seat.old session.old node.new seat.new session.new
+        → VisitsSession clock node.old seat.old session.old node.new seat.new session.new
         (R.remaining from.old) (R.remaining from.new) (W.contents to.old) (W.contents to.new)
         result }
 {
@@ -315,7 +338,12 @@ pub(crate) fn visit_session<S: BatchStore, A: Allocator + Copy, R: Read, W: Writ
         }
     }
     let before = session.answered();
-    let stop = session.turn(node, MOST_OWED);
+    let now = Now {
+        number,
+        clock,
+        has_ended: has_ended(seat),
+    };
+    let stop = session.turn(node, waiting, now, MOST_OWED);
     let answered = session.answered() - before;
     let owing = session.owed();
     let written = write_some(session, &mut seat.may_write, to);

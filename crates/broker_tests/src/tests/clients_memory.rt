@@ -2,7 +2,7 @@
 //! answered.
 
 use crate::tests::brokers::configured;
-use crate::tests::frames::{LIST, LISTED};
+use crate::tests::frames::{FETCHED, LIST, LISTED, NOT_STORED, PRODUCE, STORED};
 use crate::tests::served::READ_ROOM;
 use broker_core::{Node, Role};
 use refusing_alloc::Refusing;
@@ -13,6 +13,10 @@ use std::test::Fail;
 
 /// More allocations than any run below asks for.
 const MOST: u64 = 100;
+
+/// A Fetch request for partition 0 of `t` from offset 0 on, which waits a second for a byte.
+const WAITING: &[u8] =
+    b"\0\0\0\x36\0\x01\0\x04\0\0\0\x09\xff\xff\xff\xff\xff\xff\0\0\x03\xe8\0\0\0\x01\0\0\x03\xe8\0\0\0\0\x01\0\x01t\0\0\0\x01\0\0\0\0\0\0\0\0\0\0\0\0\0\0\x03\xe8";
 
 /// What came of a call in memory of which one allocation fails.
 #[derive(Clone, Copy, Debug, PartialEq, Eq)]
@@ -65,7 +69,7 @@ fn visits<S: BatchStore, A: Allocator + Copy, B: Allocator + Copy>(
     seat.may_read = true;
     let mut from = LIST;
     let mut to = Vec::new(alloc);
-    match sessions.visit(number, &mut seat, &mut from, &mut to) {
+    match sessions.visit(number, 0, &mut seat, &mut from, &mut to) {
         Some(visit) => came_of(&visit, &to),
         None => Came::Wrong,
     }
@@ -81,8 +85,103 @@ fn serves<S: BatchStore, A: Allocator + Copy, B: Allocator + Copy>(
     both(opened, visited)
 }
 
-/// What comes of a broker with two clients; that memory was wanting, if there is no broker.
-fn runs<A: Allocator + Copy, B: Allocator + Copy>(heap: A, alloc: B) -> Came {
+/// Visits a session when the clock says 5, to which these bytes came, if any.
+fn visited<S: BatchStore, A: Allocator + Copy, B: Allocator + Copy>(
+    sessions: &mut Sessions<S, A>,
+    number: u64,
+    came: &[u8],
+    to: &mut Vec<u8, B>,
+) -> Option<Visit> {
+    let mut seat = Seat::new();
+    seat.may_read = !came.is_empty();
+    let mut from = came;
+    sessions.visit(number, 5, &mut seat, &mut from, to)
+}
+
+/// Visits session 0, to which a Fetch came that waits for one partition, until the clock says 1,005.
+fn waits<S: BatchStore, A: Allocator + Copy, B: Allocator + Copy>(
+    sessions: &mut Sessions<S, A>,
+    alloc: B,
+) -> Came {
+    let mut to = Vec::new(alloc);
+    let visit = visited(sessions, 0, WAITING, &mut to);
+    let due = sessions.next_due();
+    match (visit, sessions.awaited(0)) {
+        (
+            Some(
+                Visit {
+                    answered: 0,
+                    then: Then::Idle,
+                    ..
+                },
+            ),
+            1,
+        ) if due == Some(1_005) => Came::Done,
+        (
+            Some(
+                Visit {
+                    answered: 0,
+                    then: Then::Over(Why::OutOfMemory),
+                    ..
+                },
+            ),
+            0,
+        ) if due.is_none() => { Came::Lacked }
+        _ => Came::Wrong,
+    }
+}
+
+/// Visits a session that answers one frame with these bytes.
+fn answers<S: BatchStore, A: Allocator + Copy, B: Allocator + Copy>(
+    sessions: &mut Sessions<S, A>,
+    alloc: B,
+    number: u64,
+    came: &[u8],
+    wanted: &[u8],
+) -> Came {
+    let mut to = Vec::new(alloc);
+    match visited(sessions, number, came, &mut to) {
+        Some(Visit { answered: 1, .. }) if to.as_slice() == wanted => Came::Done,
+        Some(Visit { answered: 1, .. }) if to.as_slice() == NOT_STORED => Came::Lacked,
+        Some(
+            Visit {
+                answered: 0,
+                then: Then::Over(Why::OutOfMemory),
+                ..
+            },
+        ) => Came::Lacked,
+        _ => Came::Wrong,
+    }
+}
+
+/// A Fetch waits, another client produces, and the Fetch is woken and answered.
+fn wakes<S: BatchStore, A: Allocator + Copy, B: Allocator + Copy>(
+    sessions: &mut Sessions<S, A>,
+    alloc: B,
+) -> Came {
+    let opened = both(opens(sessions, 0), opens(sessions, 1));
+    let waiting = both(opened, waits(sessions, alloc));
+    if waiting != Came::Done {
+        return waiting;
+    }
+    let produced = answers(sessions, alloc, 1, PRODUCE, STORED);
+    if produced != Came::Done {
+        return produced;
+    }
+    if sessions.next_woken(5) != Some(0) {
+        return Came::Wrong;
+    }
+    let fetched = answers(sessions, alloc, 0, &[], FETCHED);
+    let is_left = sessions.next_woken(2_000).is_some() || sessions.awaited(0) > 0;
+    match fetched {
+        Came::Done if is_left => Came::Wrong,
+        came => came,
+    }
+}
+
+/// What comes of a broker with two clients, of which one waits if that is asked for; that memory was wanting, if
+/// there is no broker.
+fn runs<A: Allocator + Copy, B: Allocator + Copy>(heap: A, alloc: B, is_waiting: bool) -> Came {
     let Ok(config) = configured(heap, Role::Leader, 3, "t", 1) else {
         return Came::Lacked;
     };
@@ -90,15 +189,16 @@ fn runs<A: Allocator + Copy, B: Allocator + Copy>(heap: A, alloc: B) -> Came {
         return Came::Lacked;
     };
     match Sessions::new(heap, node) {
+        Ok(mut sessions) if is_waiting => wakes(&mut sessions, alloc),
         Ok(mut sessions) => serves(&mut sessions, alloc),
         Err(_) => Came::Lacked,
     }
 }
 
 /// What comes of it in memory of which this allocation fails, and whether that is asked for.
-fn runs_without<B: Allocator + Copy>(alloc: B, refused: u64) -> (Came, bool) {
+fn runs_without<B: Allocator + Copy>(alloc: B, refused: u64, is_waiting: bool) -> (Came, bool) {
     let heap = Refusing::new(alloc, refused);
-    let came = runs(&heap, alloc);
+    let came = runs(&heap, alloc, is_waiting);
     let is_small = heap.largest() <= READ_ROOM;
     (
         if is_small { came } else { Came::Wrong },
@@ -111,7 +211,7 @@ fn a_client_lacks_memory_by_itself(rt: HostRuntime) -> Result<(), Fail> {
     let mut came = Came::Wrong;
     let mut lacked = 0_u64;
     for refused in 1..MOST {
-        let (now, is_asked) = runs_without(rt.alloc(), refused);
+        let (now, is_asked) = runs_without(rt.alloc(), refused, false);
         came = now;
         // All that is asked for is needed.
         assert!(rt;
@@ -124,5 +224,22 @@ fn a_client_lacks_memory_by_itself(rt: HostRuntime) -> Result<(), Fail> {
         }
     }
     assert!(rt; came == Came::Done && lacked > 0, "{came:?}, {lacked}");
+    Ok(())
+}
+
+#[test]
+fn a_fetch_waits_and_is_woken_or_lacks_memory(rt: HostRuntime) -> Result<(), Fail> {
+    let mut came = Came::Wrong;
+    let mut lacked = 0_u64;
+    for refused in 1..MOST {
+        let (now, is_asked) = runs_without(rt.alloc(), refused, true);
+        came = now;
+        assert!(rt; came != Came::Wrong, "allocation {refused} fails: {came:?}");
+        lacked = lacked.saturating_add(u64::from(came == Came::Lacked));
+        if !is_asked {
+            break;
+        }
+    }
+    assert!(rt; came == Came::Done && lacked > 10, "{came:?}, {lacked}");
     Ok(())
 }

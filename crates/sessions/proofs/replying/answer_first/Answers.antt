@@ -10,5 +10,5 @@ pub returns-clause-answers : goal.returns-clause-answers
 returns-clause-answers g c =
     let same : c.advance.new.self.items ≡ drop (SIZE_BYTES + length c.in-Ok-Some.frame.now) c.args.held.now.items = search rules in
     let first : IsFirstFrame c.in-Ok-Some.frame.now c.args.held.now.items (drop (SIZE_BYTES + length c.in-Ok-Some.frame.now) c.args.held.now.items) = search rules in
-    let answered : AnswersFrame c.args.node.now c.answer.new.node c.in-Ok-Some.frame.now c.args.out.now.items c.answer.new.out.items = search rules in
-    first_answered _ _ c.in-Ok-Some.frame.now _ _ _ _ _ same first answered
+    let answered : AnswersFrame c.args.may_wait c.args.node.now c.answer.new.node c.in-Ok-Some.frame.now c.args.out.now.items c.answer.new.out.items = search rules in
+    first_answered c.args.may_wait _ _ c.in-Ok-Some.frame.now _ _ _ _ _ same first answered

@@ -3,8 +3,8 @@ use Rattle.sessions.proofs.Turning.{Turning}
 use Rattle.sessions.proofs.session.Session.turn.Given as goal
 
 -- the frames so far are answered
-abbrev pub invariant-loop-self : goal.invariant-loop-self
-invariant-loop-self g l = Turning l.most_owed l.initial.node l.initial.self l.node l.self
+abbrev pub invariant-loop-now : goal.invariant-loop-now
+invariant-loop-now g l = Turning l.most_owed l.now.clock l.now.has_ended l.initial.node l.initial.self l.node l.self
 
-abbrev pub decreases-loop-self : goal.decreases-loop-self
-decreases-loop-self g l = length l.self.held
+abbrev pub decreases-loop-now : goal.decreases-loop-now
+decreases-loop-now g l = length l.self.held

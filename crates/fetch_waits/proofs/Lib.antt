@@ -1,0 +1,4 @@
+mod Counting
+mod Lacking
+mod Runs
+pub mod Times

@@ -1,0 +1,57 @@
+-- Which Fetches wait for records. Kafka's documentation, "Protocol Guide", section "The Messages" (max_wait_ms, min_bytes and
+-- max_bytes of Fetch), and the consumer's settings "fetch.min.bytes" and "fetch.max.wait.ms". That a partition with an error
+-- code ends the wait is Kafka's; the most entries are this project's own.
+pub mod Entries
+use Rattle.std.specs.Prelude.{ℕ, pos, min, Bool, false, ◌&&◌, int_lt, nat_lt, nat_le, List, length}
+use Rattle.std.specs.List.{flat_map, list_all}
+use Rattle.std.specs.Ordering.{int_eq}
+use Rattle.request_frames.specs.Fetch.{FetchValue, FetchPartitionValue}
+use Rattle.request_frames.specs.Requests.{BodyValue}
+use Rattle.request_frames.specs.Requests.BodyValue.{fetch}
+use Rattle.responses.specs.Fetch.{Fetched}
+use Rattle.answering.specs.Codes.{no_error}
+use Rattle.answering.specs.Work.{answer}
+use Rattle.answering.specs.Plans.{over_topics}
+use Rattle.broker_state.specs.State.{State}
+use Rattle.log_requests.specs.Fetch.{fetch_limit, fetch_room, fetch_work}
+use Rattle.fetch_waits.specs.declared.waiting.TheConstants.{MOST_ENTRIES}
+
+-- what is asked of all partitions, in order
+abbrev pub entries_of : FetchValue → List FetchPartitionValue
+entries_of q = flat_map (λ t. t.entries) q.topics
+
+-- what is answered to them
+abbrev pub fetched_of : State → FetchValue → List Fetched
+fetched_of s q = flat_map (λ t. t.entries)
+    (over_topics (λ room name e. answer (fetch_work s room name e) room) (fetch_room q.max_bytes) q.topics).0
+
+-- how many bytes of records it asks for, and takes
+abbrev pub awaited_bytes : FetchValue → ℕ
+awaited_bytes q = min (fetch_limit q.min_bytes) (fetch_room q.max_bytes).left
+
+-- no partition has an error code, and together they give fewer bytes of records than are asked for
+abbrev pub lacks_bytes : State → FetchValue → Bool
+lacks_bytes s q =
+    let given = fetched_of s q in
+    list_all (λ r. int_eq r.partition.code no_error) given
+    && nat_lt (length (flat_map (λ r. r.records) given)) (awaited_bytes q)
+
+-- it names topics and partitions, and no more of either than there can be partitions
+abbrev pub asks_for_some : FetchValue → Bool
+asks_for_some q =
+    nat_le (length q.topics) MOST_ENTRIES
+    && (nat_lt 0 (length (entries_of q)) && nat_le (length (entries_of q)) MOST_ENTRIES)
+
+-- A Fetch waits where it gives itself time, asks for some partitions, not more than there can be, and what is there lacks
+-- bytes.
+unfoldable pub fetch_waits : State → FetchValue → Bool
+fetch_waits s q = int_lt (pos 0) q.max_wait_ms && (asks_for_some q && lacks_bytes s q)
+
+-- how long it waits at the most, in milliseconds
+abbrev pub wait_of : FetchValue → ℕ
+wait_of q = fetch_limit q.max_wait_ms
+
+-- no other request waits
+abbrev pub body_waits : State → BodyValue → Bool
+body_waits s (fetch q) = fetch_waits s q
+body_waits s _ = false
