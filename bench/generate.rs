@@ -1,9 +1,10 @@
 //! Writes a stream of record batches to standard output.
 //!
-//!     generate BATCHES RECORDS KEYS VALUE_BYTES ORDER [NULL_PERCENT]
+//!     generate BATCHES RECORDS KEYS VALUE_BYTES ORDER [NULL_PERCENT [TIME_STEP]]
 //!
-//! Each batch has RECORDS records of one of KEYS keys. ORDER is `in`, `shuffled`, `reversed`, `evenodd` (all batches of
-//! even number, then the others) or `repeated` (each fourth batch is sent twice). The same arguments give the same bytes.
+//! Each batch has RECORDS records of one of KEYS keys, and as its time TIME_STEP (0) times its number. ORDER is `in`,
+//! `shuffled`, `reversed`, `evenodd` (all batches of even number, then the others) or `repeated` (each fourth batch is
+//! sent twice). The same arguments give the same bytes.
 #[allow(dead_code)]
 mod crc;
 
@@ -44,28 +45,37 @@ fn push_text(out: &mut Vec<u8>, text: Option<&[u8]>) {
     }
 }
 
+/// What the batches have in common.
+struct Form {
+    records: u64,
+    keys: u64,
+    value_bytes: usize,
+    null_percent: u64,
+    time_step: u64,
+}
+
 /// The batch with this number; every record's offset is its place in the stream in order.
-fn batch(number: u64, records: u64, keys: u64, value_bytes: usize, null_percent: u64) -> Vec<u8> {
+fn batch(number: u64, form: &Form) -> Vec<u8> {
     let mut numbers = Numbers(0x9e37_79b9_7f4a_7c15 ^ (number + 1).wrapping_mul(0xd134_2543_de82_ef95));
     let mut bytes = Vec::new();
-    bytes.extend_from_slice(&(number * records).to_be_bytes());
+    bytes.extend_from_slice(&(number * form.records).to_be_bytes());
     bytes.extend_from_slice(&[0; 8]); // the length, and leader epoch 0
     bytes.push(2);
     bytes.extend_from_slice(&[0; 6]); // the crc, and no attributes
-    bytes.extend_from_slice(&(records as u32 - 1).to_be_bytes());
-    bytes.extend_from_slice(&[0; 16]); // both timestamps
+    bytes.extend_from_slice(&(form.records as u32 - 1).to_be_bytes());
+    bytes.extend_from_slice(&(number * form.time_step).to_be_bytes().repeat(2)); // both timestamps
     bytes.extend_from_slice(&[0xff; 14]); // no producer
-    bytes.extend_from_slice(&(records as u32).to_be_bytes());
+    bytes.extend_from_slice(&(form.records as u32).to_be_bytes());
     let mut body = Vec::new();
-    for delta in 0..records {
+    for delta in 0..form.records {
         body.clear();
         body.extend_from_slice(&[0, 0]); // no attributes, and the batch's time
         push_varint(&mut body, delta as i64);
-        push_text(&mut body, Some(format!("key{:07}", numbers.below(keys)).as_bytes()));
-        if numbers.below(100) < null_percent {
+        push_text(&mut body, Some(format!("key{:07}", numbers.below(form.keys)).as_bytes()));
+        if numbers.below(100) < form.null_percent {
             push_text(&mut body, None);
         } else {
-            let value: Vec<u8> = (0..value_bytes).map(|_| b'a' + (numbers.next() % 26) as u8).collect();
+            let value: Vec<u8> = (0..form.value_bytes).map(|_| b'a' + (numbers.next() % 26) as u8).collect();
             push_text(&mut body, Some(&value));
         }
         body.push(0); // no headers
@@ -106,10 +116,17 @@ fn ordered(batches: u64, order: &str) -> Vec<u64> {
 fn main() -> std::io::Result<()> {
     let words: Vec<String> = std::env::args().skip(1).collect();
     let number = |at: usize| words[at].parse::<u64>().expect("a number");
-    let null_percent = if words.len() > 5 { number(5) } else { 0 };
+    let at_end = |at: usize| if words.len() > at { number(at) } else { 0 };
+    let form = Form {
+        records: number(1),
+        keys: number(2),
+        value_bytes: number(3) as usize,
+        null_percent: at_end(5),
+        time_step: at_end(6),
+    };
     let mut out = BufWriter::with_capacity(1 << 20, stdout().lock());
     for sent in ordered(number(0), &words[4]) {
-        out.write_all(&batch(sent, number(1), number(2), number(3) as usize, null_percent))?;
+        out.write_all(&batch(sent, &form))?;
     }
     out.flush()
 }

@@ -5,7 +5,7 @@ use Rattle.std.specs.Option.{unwrap_or}
 use Rattle.std.specs.Ordering.{int_eq}
 use Rattle.std.specs.Int.{w16, w32}
 use Rattle.content.specs.Content.{Content, IsContent, end}
-use Rattle.partition_log.specs.Lookups.{first_by_time}
+use Rattle.time_index.specs.Times.{first_by_time}
 use Rattle.frame_fields.specs.Fields.{size16, size64, Value, FitsLength, Fits, encoded, end as no_fields}
 use Rattle.frame_fields.proofs.Numbers.{null_fits}
 use Rattle.frame_fields.specs.Types.{topic}

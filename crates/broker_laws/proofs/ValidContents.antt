@@ -14,9 +14,9 @@ use Rattle.content.specs.Records.{IsKeepable}
 use Rattle.content.specs.Content.{Content, IsContent, IsInRange, end}
 use Rattle.content_laws.proofs.ByOffset.{all_from_at}
 use Rattle.content_laws.proofs.Slots.{bases_rise, kept_ends}
-use Rattle.partition_log.specs.Lookups.{stamp_of, stamps, first_by_time}
+use Rattle.time_index.specs.Times.{stamp_of, stamps, first_by_time}
 use Rattle.partition_log.proofs.Behind.{below_end, end_within}
-use Rattle.partition_log.proofs.Stamps.{AreStamped, stamped}
+use Rattle.time_index.proofs.Stamped.{AreStamped, stamped}
 use Rattle.broker_state.proofs.SoundStates.{found_has}
 
 -- ---- offsets are of 64 bits

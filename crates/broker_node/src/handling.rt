@@ -9,11 +9,15 @@ ghost use Rattle.broker_node.specs.Answers.{RespondsTo, answer_to};
 use crate::node::Node;
 use broker_state::BrokerState;
 use copy_requests::{
-    reply_to_clean, reply_to_cover, reply_to_deliver, reply_to_export, reply_to_export_delta,
-    reply_to_get, reply_to_import, reply_to_import_delta, reply_to_trim,
+    index_asked_key, reply_to_clean, reply_to_cover, reply_to_deliver, reply_to_export,
+    reply_to_export_delta, reply_to_get, reply_to_import, reply_to_import_delta, reply_to_trim,
 };
-use group_requests::{reply_to_forget_group, reply_to_offset_commit, reply_to_offset_fetch};
-use log_requests::{reply_to_fetch, reply_to_list_offsets, reply_to_metadata, reply_to_produce};
+use group_requests::{
+    index_asked_commits, reply_to_forget_group, reply_to_offset_commit, reply_to_offset_fetch,
+};
+use log_requests::{
+    index_asked_times, reply_to_fetch, reply_to_list_offsets, reply_to_metadata, reply_to_produce,
+};
 use request_frames::{Request, RequestBody};
 use segment::BatchStore;
 use setup_requests::{reply_to_api_versions, reply_to_find_coordinator, reply_to_init_producer_id};
@@ -35,6 +39,19 @@ fn answer_to(body: &RequestBody<'_>) -> Answer
     match body {
         RequestBody::Produce(asked) if asked.acks == 0 => Answer::Silent,
         _ => Answer::Reply,
+    }
+}
+
+/// Completes the indexes that a request is answered by, before it is answered, since a look-up borrows what
+/// the broker holds. Nothing that is seen of it changes.
+fn complete_indexes<S: BatchStore>(state: &mut BrokerState<S>, body: &RequestBody<'_>)
+    ensures { state.new ≡ state.old }
+{
+    match body {
+        RequestBody::ListOffsets(asked) => index_asked_times(state, asked),
+        RequestBody::OffsetFetch(asked) => index_asked_commits(state, asked),
+        RequestBody::Get(asked) => index_asked_key(state, asked),
+        _ => {}
     }
 }
 
@@ -101,6 +118,7 @@ impl<S: BatchStore> Node<S> {
             ((self.new ≡ self.old) × (out.new.items ≡ out.old.items)) }
         ensures is_sound { IsSound self.new }
     {
+        complete_indexes(&mut self.state, &request.body);
         let replied = reply_to(&mut self.state, request, out);
         // Known for the caller, whatever is answered.
         self.state.know_sound();

@@ -9,6 +9,7 @@ mod change;
 mod codes;
 mod config;
 mod error;
+mod indexing;
 mod judging;
 mod limits;
 mod new_topics;

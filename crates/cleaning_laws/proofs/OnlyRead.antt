@@ -8,7 +8,7 @@ use Rattle.std.specs.FinMap as finite
 use Rattle.std.proofs.lemmas.Int.{ints}
 use Rattle.content.specs.Table.{Table}
 use Rattle.content.specs.Content.{Content, shown_table, end}
-use Rattle.partition_log.specs.Lookups.{first_by_time}
+use Rattle.time_index.specs.Times.{first_by_time}
 use Rattle.frame_fields.specs.Types.{TopicOf}
 use Rattle.request_frames.specs.Requests.BodyValue.{fetch, list_offsets, offset_fetch, export, export_delta, get, cover}
 use Rattle.request_frames.specs.Requests.{BodyValue}

@@ -1,6 +1,8 @@
 -- What each event makes of the world of the copies.
-use Rattle.std.proofs.Common.{◌≡◌, ℕ, zero, suc, ◌+◌, ◌<◌, ℤ, pos, ◌+ℤ◌, Bool, ◌⊎◌, inl, inr, Result, Ok, Err, List, [], ◌∷◌, length, get_or, set, Some, None, refl, sym, ap, subst, ◌∙◌, cond, arith, true, false, true≢false}
-use Rattle.std.specs.Prelude.{slice_get, IsErrAnd, ◌↔◌}
+use Rattle.std.proofs.Common.{◌≡◌, ℕ, Option, add-one, zero, suc, ◌+◌, ◌<◌, ◌≤◌, ℤ, pos, ◌+ℤ◌, Bool, ◌⊎◌, inl, inr, Result, Ok, Err, List, [], ◌∷◌, length, get_or, set, Some, None, refl, sym, ap, subst, ◌∙◌, cond, arith, true, false, true≢false}
+use Rattle.std.specs.Prelude.{slice_get, IsErrAnd, IfSome, MatchOption, ◌↔◌}
+use Rattle.std.specs.Option.{option_map}
+use Rattle.std.specs.Borrow.{Bor}
 use Rattle.batch_codec.specs.Values.{BatchValue}
 use Rattle.batch_codec.specs.Offsets.{first_offset, IsWhole, HasKeys}
 use Rattle.content.specs.declared.delivery.Delivered.{Delivered}
@@ -71,10 +73,26 @@ pub on_log : (log : List BatchValue) (i : ℕ) (b : BatchValue) → IsPlainLog l
 on_log log i b plain there = on_log_from (pos 0) log i b (plain-rises 0 log plain) there
 
 -- an index in a list
+-- a follower, by its number
+pub follower_at : (v w : World) (copy i : ℕ) (found : Option Content) → v ≡ w → copy ≡ i + 1 → found ≡ slice_get v.followers i → found ≡ copy_at w copy
+follower_at v w copy i found view number is =
+    is ∙ ap (λ (x : World). slice_get x.followers i) view ∙ ap (copy_at w) (sym (number ∙ add-one i))
+
 pub at_index : {X : Type 0} (xs : List X) (i : ℕ) (x : X) → i < length xs → x ≡ get_or xs i x → slice_get xs i ≡ Some x
 at_index [] i x lt is = absurd (omega (arith, lt))
 at_index (y ∷ ys) zero x lt is = ap (λ z. Some z) (sym is)
 at_index (y ∷ ys) (suc i) x lt is = at_index ys i x (omega (arith, lt)) is
+
+-- what a slice answers at an index is what its list has there
+past_end : {X : Type 0} (xs : List X) (i : ℕ) → length xs ≤ i → None ≡ slice_get xs i
+past_end [] i le = refl
+past_end (y ∷ ys) zero le = absurd (omega (arith, le))
+past_end (y ∷ ys) (suc i) le = past_end ys i (omega (arith, le))
+
+pub found_at : {X : Type 0} (Q : Bor X → Type 0) (found : Option (Bor X)) (xs : List X) (i : ℕ) → MatchOption found (length xs ≤ i) (λ x. (i < length xs) × Q x)
+    → IfSome found (λ x. x.now ≡ get_or xs i x.now) → option_map (λ x. x.now) found ≡ slice_get xs i
+found_at Q None xs i past is = past_end xs i past
+found_at Q (Some x) xs i there is = sym (at_index xs i x.now there.0 is)
 
 pub set_same : {X : Type 0} (xs : List X) (i : ℕ) (x : X) → slice_get xs i ≡ Some x → set xs i x ≡ xs
 set_same [] i x there = refl

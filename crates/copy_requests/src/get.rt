@@ -15,6 +15,17 @@ use responses::get::{get_head, get_parts};
 use segment::BatchStore;
 use std::alloc::{AllocError, Allocator};
 
+/// Completes the index by key of the partition that a Get request asks for. Nothing that is seen of the
+/// broker changes.
+pub fn index_asked_key<S: BatchStore>(state: &mut BrokerState<S>, request: &GetRequest<'_>)
+    ensures unchanged { state.new ≡ state.old }
+{
+    match state.place_of(request.topic, request.partition) {
+        Some(place) => state.index_keys(place),
+        None => {}
+    }
+}
+
 /// The value that a partition shows of a key.
 fn value_of<'n, S: BatchStore>(
     state: &'n BrokerState<S>,

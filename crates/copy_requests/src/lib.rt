@@ -23,7 +23,7 @@ pub use cover::{MAX_COVER_RUNS, reply_to_cover};
 pub use deliver::reply_to_deliver;
 pub use export::{MAX_EXPORT_BYTES, reply_to_export};
 pub use export_delta::reply_to_export_delta;
-pub use get::reply_to_get;
+pub use get::{index_asked_key, reply_to_get};
 pub use import::reply_to_import;
 pub use import_delta::reply_to_import_delta;
 pub use laws::{

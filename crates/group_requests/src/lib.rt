@@ -13,4 +13,4 @@ mod offset_fetch;
 
 pub use forget_group::reply_to_forget_group;
 pub use offset_commit::{MAX_METADATA_BYTES, reply_to_offset_commit};
-pub use offset_fetch::{MAX_FETCHED_OFFSETS, reply_to_offset_fetch};
+pub use offset_fetch::{MAX_FETCHED_OFFSETS, index_asked_commits, reply_to_offset_fetch};

@@ -18,6 +18,7 @@ use answering::{Answers, respond};
 use broker_state::BrokerState;
 use frame_fields::{Topic, Topics};
 use group_offsets::{GroupError, put_key};
+use partition_log::PartitionLog;
 use request_frames::{OffsetFetchPartition, OffsetFetchRequest};
 use responses::offset_fetch::put_fetched_offset;
 use segment::BatchStore;
@@ -25,6 +26,10 @@ use std::alloc::{AllocError, Allocator};
 
 /// The most partitions that a request may name, in all, and still be answered with offsets.
 pub const MAX_FETCHED_OFFSETS: usize = 8_192;
+
+/// The most partitions that are each looked up by an index of keys: of more a walk finds all at once, however
+/// long a look-up takes, as where keys share a hash.
+const MOST_LOOKED_UP: usize = 8;
 
 /// The bytes of a group's key behind those of the group, where the topic has no name: the name's length,
 /// and the partition.
@@ -131,6 +136,30 @@ fn walk_for<'n, S: BatchStore>(
     Ok(walk)
 }
 
+/// Completes the index by key of the partition in which groups keep their offsets, where an OffsetFetch
+/// request is answered by it. Nothing that is seen of the broker changes.
+pub fn index_asked_commits<S: BatchStore>(
+    state: &mut BrokerState<S>,
+    request: &OffsetFetchRequest<'_>,
+)
+    ensures unchanged { state.new ≡ state.old }
+{
+    if request.group.is_empty() || names_more_than(request, MOST_LOOKED_UP) {
+        return;
+    }
+    let place = state.group_place();
+    state.index_keys(place);
+}
+
+/// How many partitions are each looked up by themselves.
+fn most_looked_up<S: BatchStore>(copy: &PartitionLog<S>) -> usize {
+    if copy.has_key_index() {
+        MOST_LOOKED_UP
+    } else {
+        1
+    }
+}
+
 /// A walk for the partitions of a request, where it names some that are looked for together.
 fn walk_if_many<'n, S: BatchStore>(
     state: &'n BrokerState<S>,
@@ -139,17 +168,19 @@ fn walk_if_many<'n, S: BatchStore>(
 ) -> Result<CommitWalk<'n, S::Alloc>, AllocError>
     ensures { IfOk result (Knows (shown_table (group_content state.now))) }
 {
-    if !too_many && names_more_than(request, 1) {
+    let copy = group_copy(state);
+    if !too_many && names_more_than(request, most_looked_up(copy)) {
         return walk_for(state, request);
     }
-    let alloc = group_copy(state).allocator();
+    let alloc = copy.allocator();
     Ok(CommitWalk::new(alloc, Vec::new(alloc)))
 }
 
 /// Appends the response to an OffsetFetch request. It changes nothing else.
 ///
-/// The offsets of all partitions are looked for in one walk over the group partition. Where there is no
-/// memory for it, or for a look-up, the partition's own answer is the error code of a storage error.
+/// The offsets of up to eight partitions are each looked up by the index by key of the group partition, those
+/// of more, or where it has no index, in one walk over it. Where there is no memory for that, or for a
+/// look-up, the partition's own answer is the error code of a storage error.
 ///
 /// # Errors
 ///

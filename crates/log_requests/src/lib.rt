@@ -14,6 +14,6 @@ mod reading;
 
 pub use fetch::reply_to_fetch;
 pub use fetch::room::{FetchRoom, MAX_FETCH_BYTES};
-pub use list_offsets::reply_to_list_offsets;
+pub use list_offsets::{index_asked_times, reply_to_list_offsets};
 pub use metadata::reply_to_metadata;
 pub use produce::reply_to_produce;

@@ -6,8 +6,10 @@ ghost use Rattle.answering.specs.Responding.{RespondsBy};
 ghost use Rattle.log_requests.specs.ListOffsets.{list_offsets_plan};
 
 mod entry;
+mod indexing;
 
 use crate::list_offsets::entry::list_offsets_entry;
+pub use crate::list_offsets::indexing::index_asked_times;
 use crate::reading::Reading;
 use answering::{Answers, respond};
 use broker_state::BrokerState;

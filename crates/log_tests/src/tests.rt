@@ -9,6 +9,7 @@ mod encode_tests;
 mod group_bytes;
 mod group_copies;
 mod group_memory;
+mod indexes;
 mod leader;
 mod names;
 mod producer;

@@ -1,6 +1,6 @@
 -- Walks over two batches' records side by side. Deltas rise, so what a walk has passed is asked for no more.
-use Rattle.std.proofs.Common.{◌≡◌, ℕ, ℤ, pos, negsuc, ◌+ℤ◌, Bool, true, false, cond, ◌&&◌, List, [], ◌∷◌, ◌++◌, length, Option, Some, None, refl, sym, ap, subst, ◌∙◌, arith, IsTrue}
-use Rattle.std.specs.Prelude.{◌↔◌, ◌≤ℤ◌, ◌<ℤ◌, is_some, not}
+use Rattle.std.proofs.Common.{◌≡◌, ℕ, suc, ℤ, pos, negsuc, ◌+ℤ◌, Bool, true, false, cond, ◌&&◌, List, [], ◌∷◌, ◌++◌, length, Option, Some, None, refl, sym, ap, subst, ◌∙◌, arith, IsTrue}
+use Rattle.std.specs.Prelude.{◌↔◌, ◌≤ℤ◌, ◌<ℤ◌, is_some, not, if◌then◌else◌}
 use Rattle.std.specs.List.{filter}
 use Rattle.std.specs.Option.{option_map}
 use Rattle.std.specs.Ordering.{int_eq}
@@ -9,6 +9,7 @@ use Rattle.std.proofs.lemmas.List.{append_assoc, append-nil}
 use Rattle.batch_codec.specs.Values.{RecordValue, BatchValue}
 use Rattle.batch_codec.specs.declared.record.RecordView.{RecordView}
 use Rattle.batch_codec.specs.Views.{record_value}
+use Rattle.batch_codec.specs.Thinning.{kept_by, thinned}
 use Rattle.batch_codec.specs.Grammar.{Writable, AreValidRecords}
 use Rattle.batch_codec.specs.Reading.{IsEncoding, batch_of}
 use Rattle.content_laws.proofs.BatchParts.{common_self}
@@ -17,7 +18,7 @@ use Rattle.content.specs.Records.{record_at_delta, with_common_records}
 use Rattle.content_laws.proofs.ByOffset.{look_up-low, rises-lower}
 use Rattle.content_laws.proofs.Batches.{Records, delta_of}
 use Rattle.batch_codec.specs.declared.head.BatchHead.{BatchHead}
-use Rattle.side_by_side.specs.RecordWalks.{at_delta, behind_delta, WalkAlike, walk_has_all, walk_common}
+use Rattle.side_by_side.specs.RecordWalks.{at_delta, behind_delta, WalkAlike, walk_has_all, walk_common, walk_flags}
 use Rattle.side_by_side.specs.Agreement.{IsAlikeOrNone, AreAlike}
 
 -- ---- what a walk finds, and what it leaves
@@ -60,12 +61,6 @@ records_of_rise b w = deltas_rise b.head (negsuc 0) b.recs w.valid.records
 
 pub common_of : (x y : BatchValue) → Writable x → Writable y → walk_common x.recs y.recs ≡ (with_common_records x y).recs
 common_of x y is_x is_y = common_is (pos 0) (pos 0) x.recs y.recs y.recs (records_of_rise x is_x) (records_of_rise y is_y) (λ k le. refl)
-
-pub common_is_batch : (x y : BatchValue) (head : BatchHead) (recs kept : List RecordValue) → Writable x → Writable y → record { head = head; recs = recs } ≡ x → kept ≡ walk_common recs y.recs
-    → record { head = head; recs = kept } ≡ with_common_records x y
-common_is_batch x y head recs kept is_x is_y is common =
-    let all : kept ≡ (with_common_records x y).recs = common ∙ ap (λ (b : BatchValue). walk_common b.recs y.recs) is ∙ common_of x y is_x is_y in
-    λ i. record { head = (is i).head; recs = all i }
 
 pub all_of : (x y : BatchValue) → Writable x → Writable y → walk_has_all x.recs y.recs ≡ true → with_common_records x y ≡ x
 all_of x y is_x is_y e =
@@ -152,27 +147,45 @@ is_alike_some r s other test is equal = (λ t q e. equal.0 t ∙ same q e, λ al
     same : (q : RecordValue) → other ≡ Some q → s ≡ q
     same q e = cc
 
--- ---- the loop over records that are taken one by one
+-- ---- of each record, whether the other batch has one at its offset
 
-pub common_next : (kept more rs next ss later total : Records) (r : RecordValue) (found : Bool) → rs ≡ r ∷ next → found ≡ is_some (at_delta r.delta ss) → later ≡ behind_delta r.delta ss
-    → found ≡ true → more ≡ kept ++ r ∷ [] → kept ++ walk_common rs ss ≡ total → more ++ walk_common next later ≡ total
-common_next kept more rs next ss later total r found steps finds passes some push all =
-    let here : is_some (at_delta r.delta ss) ≡ true = sym finds ∙ some in
-    let step : walk_common (r ∷ next) ss ≡ r ∷ walk_common next (behind_delta r.delta ss) = grind (arith, here) in
-    (λ i. push i ++ walk_common next (passes i)) ∙ append_assoc kept (r ∷ []) (walk_common next (behind_delta r.delta ss))
-    ∙ sym (ap (λ (x : Records). kept ++ walk_common x ss) steps ∙ ap (λ (x : Records). kept ++ x) step) ∙ all
+flags_common_recs : (rs ss : Records) → kept_by (walk_flags rs ss) rs ≡ walk_common rs ss
+flags_common_recs [] ss = refl
+flags_common_recs (r ∷ rs) ss = by (is_some (at_delta r.delta ss)) (flags_common_recs rs (behind_delta r.delta ss))
+  where
+    later : Records
+    later = walk_common rs (behind_delta r.delta ss)
 
-pub common_skip : (kept rs next ss later total : Records) (r : RecordValue) (found : Bool) → rs ≡ r ∷ next → found ≡ is_some (at_delta r.delta ss) → later ≡ behind_delta r.delta ss
-    → found ≡ false → kept ++ walk_common rs ss ≡ total → kept ++ walk_common next later ≡ total
-common_skip kept rs next ss later total r found steps finds passes some all =
-    let here : is_some (at_delta r.delta ss) ≡ false = sym finds ∙ some in
-    let step : walk_common (r ∷ next) ss ≡ walk_common next (behind_delta r.delta ss) = grind (arith, here) in
-    ap (λ (x : Records). kept ++ walk_common next x) passes
-    ∙ sym (ap (λ (x : Records). kept ++ walk_common x ss) steps ∙ ap (λ (x : Records). kept ++ x) step) ∙ all
+    by : (t : Bool) → kept_by (walk_flags rs (behind_delta r.delta ss)) rs ≡ later → kept_by (t ∷ walk_flags rs (behind_delta r.delta ss)) (r ∷ rs) ≡ (if t then r ∷ later else later)
+    by true ih = ap (λ (l : Records). r ∷ l) ih
+    by false ih = ih
 
-pub common_whole : (kept rs ss total : Records) → length rs ≡ 0 → kept ++ walk_common rs ss ≡ total → kept ≡ total
-common_whole kept [] ss total none all = sym (append-nil kept) ∙ all
-common_whole kept (r ∷ rs) ss total none all = absurd (omega (arith, none))
+flags_as_many : (rs ss : Records) → length (walk_flags rs ss) ≡ length rs
+flags_as_many [] ss = refl
+flags_as_many (r ∷ rs) ss = ap suc (flags_as_many rs (behind_delta r.delta ss))
+
+pub flags_length : (x : BatchValue) (ss : Records) (keep : List Bool) → keep ≡ walk_flags x.recs ss → length keep ≡ length x.recs
+flags_length x ss keep is = ap length is ∙ flags_as_many x.recs ss
+
+pub flags_common : (x y : BatchValue) (keep : List Bool) → Writable x → Writable y → keep ≡ walk_flags x.recs y.recs → thinned keep x ≡ with_common_records x y
+flags_common x y keep is_x is_y is =
+    let all : kept_by keep x.recs ≡ (with_common_records x y).recs = ap (λ (l : List Bool). kept_by l x.recs) is ∙ flags_common_recs x.recs y.recs ∙ common_of x y is_x is_y in
+    λ i. record x { recs = all i }
+
+mapped : {X Y : Type 0} (f : X → Y) (o : Option X) → is_some o ≡ is_some (option_map f o)
+mapped f None = refl
+mapped f (Some x) = refl
+
+-- the loop, a step at a time
+pub flags_next : (keep more : List Bool) (total : List Bool) (rs next ss later : Records) (r : RecordView) (found : Option RecordView) (some : Bool) → rs ≡ record_value r ∷ next → option_map record_value found ≡ at_delta r.delta ss
+    → later ≡ behind_delta r.delta ss → some ≡ is_some found → more ≡ keep ++ some ∷ [] → keep ++ walk_flags rs ss ≡ total → more ++ walk_flags next later ≡ total
+flags_next keep more total rs next ss later r found some steps finds passes is push all =
+    let here : some ≡ is_some (at_delta r.delta ss) = is ∙ mapped record_value found ∙ ap is_some finds in
+    (λ i. push i ++ walk_flags next (passes i)) ∙ append_assoc keep (some ∷ []) (walk_flags next (behind_delta r.delta ss))
+    ∙ (λ i. keep ++ here i ∷ walk_flags next (behind_delta r.delta ss)) ∙ sym (ap (λ (x : Records). keep ++ walk_flags x ss) steps) ∙ all
+
+pub flags_whole : (keep total : List Bool) (rs ss : Records) → rs ≡ [] → keep ++ walk_flags rs ss ≡ total → keep ≡ total
+flags_whole keep total rs ss none all = sym (append-nil keep) ∙ sym (ap (λ (x : Records). keep ++ walk_flags x ss) none) ∙ all
 
 -- ---- batches of equal bytes, and heads
 

@@ -6,10 +6,10 @@ use Rattle.std.specs.List.{filter, list_any}
 use Rattle.std.specs.Ordering.{int_eq}
 use Rattle.std.proofs.lemmas.Int.{ints}
 use Rattle.std.proofs.lemmas.List.{append-nil, append_assoc}
-use Rattle.batch_codec.specs.declared.head.BatchHead.{BatchHead}
 use Rattle.batch_codec.specs.Values.{RecordValue, BatchValue}
 use Rattle.batch_codec.specs.Offsets.{first_offset, offset_of}
 use Rattle.batch_codec.specs.Grammar.{Writable}
+use Rattle.batch_codec.specs.Thinning.{kept_by, thinned}
 use Rattle.content.specs.ByOffset.{Rises}
 use Rattle.content_laws.proofs.ByOffset.{rises-lower}
 use Rattle.content_laws.proofs.Batches.{Records, delta_of}
@@ -18,7 +18,7 @@ use Rattle.deltas.specs.Entries.{OffsetsRise}
 use Rattle.deltas.specs.Patches.{with_listed}
 use Rattle.delta_bytes.specs.Judging.{offset_at, offsets_of}
 use Rattle.delta_bytes.proofs.Rising.{Parts, next_offset, no_offset}
-use Rattle.side_by_side.specs.ListWalks.{offsets_from, begins_with, offset_in, walk_all_listed, walk_listed}
+use Rattle.side_by_side.specs.ListWalks.{offsets_from, begins_with, offset_in, walk_all_listed, walk_listed, listed_flags}
 
 -- ---- what a walk finds, and what it leaves
 
@@ -83,36 +83,44 @@ all_listed b all test is rises walk t =
     let same : (with_listed all b).recs ≡ b.recs = sym (listed_of b rises.0 all is rises.1) ∙ all_is_listed b b.recs all (sym walk ∙ t) in
     λ i. record { head = b.head; recs = same i }
 
-pub listed_batch_is : (b : BatchValue) (all : List ℤ) (head : BatchHead) (recs kept : Records) → Writable b → ((low : ℤ) × OffsetsRise low all) → record { head = head; recs = recs } ≡ b → kept ≡ walk_listed b recs all
-    → record { head = head; recs = kept } ≡ with_listed all b
-listed_batch_is b all head recs kept is rises same listed =
-    let whole : kept ≡ (with_listed all b).recs = listed ∙ ap (λ (x : BatchValue). walk_listed b x.recs all) same ∙ listed_of b rises.0 all is rises.1 in
-    λ i. record { head = (same i).head; recs = whole i }
+-- ---- of each record, whether it is listed
+
+flags_listed_recs : (b : BatchValue) (rs : Records) (left : List ℤ) → kept_by (listed_flags b rs left) rs ≡ walk_listed b rs left
+flags_listed_recs b [] left = refl
+flags_listed_recs b (r ∷ rs) left = by (begins_with (offset_in b r.delta) (offsets_from (offset_in b r.delta) left)) (flags_listed_recs b rs (offsets_from (offset_in b r.delta) left))
+  where
+    later : Records
+    later = walk_listed b rs (offsets_from (offset_in b r.delta) left)
+
+    by : (t : Bool) → kept_by (listed_flags b rs (offsets_from (offset_in b r.delta) left)) rs ≡ later → kept_by (t ∷ listed_flags b rs (offsets_from (offset_in b r.delta) left)) (r ∷ rs) ≡ (if t then r ∷ later else later)
+    by true ih = ap (λ (l : Records). r ∷ l) ih
+    by false ih = ih
+
+flags_as_many : (b : BatchValue) (rs : Records) (left : List ℤ) → length (listed_flags b rs left) ≡ length rs
+flags_as_many b [] left = refl
+flags_as_many b (r ∷ rs) left = ap suc (flags_as_many b rs (offsets_from (offset_in b r.delta) left))
+
+pub flags_length : (b : BatchValue) (all : List ℤ) (keep : List Bool) → keep ≡ listed_flags b b.recs all → length keep ≡ length b.recs
+flags_length b all keep is = ap length is ∙ flags_as_many b b.recs all
+
+pub flags_listed : (b : BatchValue) (all : List ℤ) (keep : List Bool) → Writable b → ((low : ℤ) × OffsetsRise low all) → keep ≡ listed_flags b b.recs all → thinned keep b ≡ with_listed all b
+flags_listed b all keep is rises listed =
+    let whole : kept_by keep b.recs ≡ (with_listed all b).recs = ap (λ (l : List Bool). kept_by l b.recs) listed ∙ flags_listed_recs b b.recs all ∙ listed_of b rises.0 all is rises.1 in
+    λ i. record b { recs = whole i }
 
 -- ---- the loops, a step at a time
 
--- a record of delta `d` is met, or not
-pub listed_next : (b : BatchValue) (kept more rs next total : Records) (r : RecordValue) (d : ℤ) (left later : List ℤ) (test : Bool) → d ≡ r.delta → rs ≡ r ∷ next → later ≡ offsets_from (offset_in b d) left
-    → test ≡ begins_with (offset_in b d) later → test ≡ true → more ≡ kept ++ r ∷ [] → kept ++ walk_listed b rs left ≡ total → more ++ walk_listed b next later ≡ total
-listed_next b kept more rs next total r d left later test same steps passes here some push all =
-    let there : begins_with (offset_in b r.delta) (offsets_from (offset_in b r.delta) left) ≡ true = (λ i. begins_with (offset_in b (sym same i)) (offsets_from (offset_in b (sym same i)) left)) ∙ ap (begins_with (offset_in b d)) (sym passes) ∙ sym here ∙ some in
-    let step : walk_listed b (r ∷ next) left ≡ r ∷ walk_listed b next (offsets_from (offset_in b r.delta) left) = grind (arith, there) in
+-- a record of delta `d`
+pub flags_next : (b : BatchValue) (keep more total : List Bool) (rs next : Records) (r : RecordValue) (d : ℤ) (left later : List ℤ) (test : Bool) → d ≡ r.delta → rs ≡ r ∷ next → later ≡ offsets_from (offset_in b d) left
+    → test ≡ begins_with (offset_in b d) later → more ≡ keep ++ test ∷ [] → keep ++ listed_flags b rs left ≡ total → more ++ listed_flags b next later ≡ total
+flags_next b keep more total rs next r d left later test same steps passes here push all =
     let passed : later ≡ offsets_from (offset_in b r.delta) left = passes ∙ ap (λ (k : ℤ). offsets_from (offset_in b k) left) same in
-    (λ i. push i ++ walk_listed b next (passed i)) ∙ append_assoc kept (r ∷ []) (walk_listed b next (offsets_from (offset_in b r.delta) left))
-    ∙ sym (ap (λ (x : Records). kept ++ walk_listed b x left) steps ∙ ap (λ (x : Records). kept ++ x) step) ∙ all
+    let there : test ≡ begins_with (offset_in b r.delta) (offsets_from (offset_in b r.delta) left) = here ∙ (λ i. begins_with (offset_in b (same i)) (passed i)) in
+    (λ i. push i ++ listed_flags b next (passed i)) ∙ append_assoc keep (test ∷ []) (listed_flags b next (offsets_from (offset_in b r.delta) left))
+    ∙ (λ i. keep ++ there i ∷ listed_flags b next (offsets_from (offset_in b r.delta) left)) ∙ sym (ap (λ (x : Records). keep ++ listed_flags b x left) steps) ∙ all
 
-pub listed_skip : (b : BatchValue) (kept rs next total : Records) (r : RecordValue) (d : ℤ) (left later : List ℤ) (test : Bool) → d ≡ r.delta → rs ≡ r ∷ next → later ≡ offsets_from (offset_in b d) left
-    → test ≡ begins_with (offset_in b d) later → test ≡ false → kept ++ walk_listed b rs left ≡ total → kept ++ walk_listed b next later ≡ total
-listed_skip b kept rs next total r d left later test same steps passes here none all =
-    let gone : begins_with (offset_in b r.delta) (offsets_from (offset_in b r.delta) left) ≡ false = (λ i. begins_with (offset_in b (sym same i)) (offsets_from (offset_in b (sym same i)) left)) ∙ ap (begins_with (offset_in b d)) (sym passes) ∙ sym here ∙ none in
-    let step : walk_listed b (r ∷ next) left ≡ walk_listed b next (offsets_from (offset_in b r.delta) left) = grind (arith, gone) in
-    let passed : later ≡ offsets_from (offset_in b r.delta) left = passes ∙ ap (λ (k : ℤ). offsets_from (offset_in b k) left) same in
-    ap (λ (x : List ℤ). kept ++ walk_listed b next x) passed
-    ∙ sym (ap (λ (x : Records). kept ++ walk_listed b x left) steps ∙ ap (λ (x : Records). kept ++ x) step) ∙ all
-
-pub listed_whole : (b : BatchValue) (kept rs total : Records) (left : List ℤ) → length rs ≡ 0 → kept ++ walk_listed b rs left ≡ total → kept ≡ total
-listed_whole b kept [] total left none all = sym (append-nil kept) ∙ all
-listed_whole b kept (r ∷ rs) total left none all = absurd (omega (arith, none))
+pub flags_whole : (b : BatchValue) (keep total : List Bool) (rs : Records) (left : List ℤ) → rs ≡ [] → keep ++ listed_flags b rs left ≡ total → keep ≡ total
+flags_whole b keep total rs left none all = sym (append-nil keep) ∙ sym (ap (λ (x : Records). keep ++ listed_flags b x left) none) ∙ all
 
 -- ---- the offsets from the first on that is not below one, where they stand
 

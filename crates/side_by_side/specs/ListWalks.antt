@@ -27,6 +27,13 @@ walk_all_listed b (r ∷ rs) offsets =
     begins_with (offset_in b r.delta) (offsets_from (offset_in b r.delta) offsets)
     && walk_all_listed b rs (offsets_from (offset_in b r.delta) offsets)
 
+-- of each of the records, whether it is
+abbrev pub listed_flags : BatchValue → List RecordValue → List ℤ → List Bool
+listed_flags b [] offsets = []
+listed_flags b (r ∷ rs) offsets =
+    begins_with (offset_in b r.delta) (offsets_from (offset_in b r.delta) offsets)
+    ∷ listed_flags b rs (offsets_from (offset_in b r.delta) offsets)
+
 -- those of the records that are
 abbrev pub walk_listed : BatchValue → List RecordValue → List ℤ → List RecordValue
 walk_listed b [] offsets = []

@@ -44,6 +44,11 @@ walk_has_all [] ss = true
 walk_has_all (r ∷ rs) ss =
     is_some (at_delta r.delta ss) && walk_has_all rs (behind_delta r.delta ss)
 
+-- of each of the first records, whether the second ones have one at its delta
+abbrev pub walk_flags : List RecordValue → List RecordValue → List Bool
+walk_flags [] ss = []
+walk_flags (r ∷ rs) ss = is_some (at_delta r.delta ss) ∷ walk_flags rs (behind_delta r.delta ss)
+
 -- those of the first records at whose deltas the second ones have one
 abbrev pub walk_common : List RecordValue → List RecordValue → List RecordValue
 walk_common [] ss = []

@@ -1,13 +1,14 @@
 //! The records that two batches have in common.
 
-ghost use Rattle.std.specs.Prelude.{◌≡◌, IsTrue, IfOk, is_some};
+ghost use Rattle.std.specs.Prelude.{◌≡◌, IsTrue, IfOk, length};
 ghost use Rattle.batch_codec.specs.Grammar.{Writable};
+ghost use Rattle.batch_codec.specs.Thinning.{thinned};
 ghost use Rattle.content.specs.Records.{with_common_records};
-ghost use Rattle.side_by_side.specs.RecordWalks.{at_delta, behind_delta, walk_has_all, walk_common};
+ghost use Rattle.side_by_side.specs.RecordWalks.{walk_has_all, walk_flags};
 
 use crate::alike::have_equal_bytes;
 use crate::record_walk::RecordWalk;
-use batch_codec::{Batch, BatchView, Rec};
+use batch_codec::BatchView;
 use std::alloc::{AllocError, Allocator};
 
 /// Whether `y` has a record at the delta of each of x's.
@@ -33,44 +34,34 @@ pub(crate) fn has_all_of<'a>(x: &BatchView<'a>, y: &BatchView<'a>) -> bool
     have_equal_bytes(x, y) || walk_has_all(x, y)
 }
 
-/// Whether a walk meets a record of the same delta.
-fn meets<'a, A: Allocator + Copy>(walk: &mut RecordWalk<'a>, rec: &Rec<A>) -> bool
-    ensures finds { result ≡ is_some (at_delta rec.now.delta walk.old) }
-    ensures passes { walk.new ≡ behind_delta rec.now.delta walk.old }
-{
-    walk.at(rec.delta).is_some()
-}
-
-/// Those of the records at whose deltas `y` has one.
-fn common_records<'a, A: Allocator + Copy>(
-    alloc: A,
-    recs: Vec<Rec<A>, A>,
-    y: &BatchView<'a>,
-) -> Result<Vec<Rec<A>, A>, AllocError>
-    ensures { IfOk result (λ kept. kept.items ≡ walk_common recs.items y.now.recs) }
-{
-    let mut walk = RecordWalk::new(y);
-    let mut kept = Vec::new(alloc);
-    for rec in recs {
-        if meets(&mut walk, &rec) {
-            kept.push(rec)?;
-        }
-    }
-    Ok(kept)
-}
-
-/// A batch with only those records at whose offsets the other has one too.
-pub(crate) fn common_batch<'a, A: Allocator + Copy>(
+/// Of each of x's records, whether a walk over those of `y` meets one of its delta.
+fn walk_flags<'a, A: Allocator + Copy>(
     alloc: A,
     x: &BatchView<'a>,
     y: &BatchView<'a>,
-) -> Result<Batch<A>, AllocError>
+) -> Result<Vec<bool, A>, AllocError>
+    ensures { IfOk result (λ keep. keep.items ≡ walk_flags x.now.recs y.now.recs) }
+{
+    let mut walk = RecordWalk::new(y);
+    let mut keep = Vec::new(alloc);
+    for rec in x.recs() {
+        keep.push(walk.at(rec.delta).is_some())?;
+    }
+    Ok(keep)
+}
+
+/// Of each of x's records, whether `y` has one at its offset.
+#[tactic(auto, using(crate::proofs::CommonRecords::flags_length, crate::proofs::CommonRecords::flags_common))]
+pub(crate) fn common_flags<'a, A: Allocator + Copy>(
+    alloc: A,
+    x: &BatchView<'a>,
+    y: &BatchView<'a>,
+) -> Result<Vec<bool, A>, AllocError>
     requires left_writable { Writable x.now }
     requires right_writable { Writable y.now }
-    ensures { IfOk result (λ batch. batch ≡ with_common_records x.now y.now) }
+    ensures as_many { IfOk result (λ keep. length keep.items ≡ length x.now.recs) }
+    ensures common { IfOk result (λ keep.
+        thinned keep.items x.now ≡ with_common_records x.now y.now) }
 {
-    let batch = Batch::from_view(alloc, x)?;
-    let head = batch.head;
-    let recs = common_records(alloc, batch.recs, y)?;
-    Ok(Batch { head, recs })
+    walk_flags(alloc, x, y)
 }

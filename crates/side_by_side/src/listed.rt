@@ -1,14 +1,15 @@
 //! The records of a batch that a delta lists.
 
-ghost use Rattle.std.specs.Prelude.{◌≡◌, ℤ, IsTrue, IfOk};
+ghost use Rattle.std.specs.Prelude.{◌≡◌, ℤ, IsTrue, IfOk, length};
 ghost use Rattle.batch_codec.specs.Grammar.{Writable};
+ghost use Rattle.batch_codec.specs.Thinning.{thinned};
 ghost use Rattle.deltas.specs.Entries.{OffsetsRise};
 ghost use Rattle.deltas.specs.Patches.{with_listed};
 ghost use Rattle.delta_bytes.specs.Judging.{offsets_of};
 ghost use Rattle.side_by_side.specs.Steps.{HasSpan};
-ghost use Rattle.side_by_side.specs.ListWalks.{offsets_from, begins_with, offset_in, walk_all_listed, walk_listed};
+ghost use Rattle.side_by_side.specs.ListWalks.{offsets_from, begins_with, offset_in, walk_all_listed, listed_flags};
 
-use batch_codec::{Batch, BatchView, Rec};
+use batch_codec::BatchView;
 use delta_bytes::lists::{OffsetBytes, offset_at};
 use std::alloc::{AllocError, Allocator};
 
@@ -99,50 +100,39 @@ pub(crate) fn has_all_listed(batch: &BatchView<'_>, offsets: &[OffsetBytes]) -> 
     walk_all_listed(batch, offsets)
 }
 
-/// The offset delta of a record.
-fn delta_of<A: Allocator + Copy>(rec: &Rec<A>) -> i32
-    ensures { result ≡ rec.now.delta }
-{
-    rec.delta
-}
-
-/// Those of a batch's records that are met on a walk over the offsets.
-fn listed_records<A: Allocator + Copy>(
+/// Of each of a batch's records, whether it is met on a walk over the offsets.
+fn walk_flags<A: Allocator + Copy>(
     alloc: A,
     batch: &BatchView<'_>,
-    recs: Vec<Rec<A>, A>,
     offsets: &[OffsetBytes],
-) -> Result<Vec<Rec<A>, A>, AllocError>
+) -> Result<Vec<bool, A>, AllocError>
     requires { HasSpan batch.now }
-    ensures { IfOk result (λ kept. kept.items
-        ≡ walk_listed batch.now recs.items (offsets_of offsets.now)) }
+    ensures { IfOk result (λ keep. keep.items
+        ≡ listed_flags batch.now batch.now.recs (offsets_of offsets.now)) }
 {
     let mut left = offsets;
-    let mut kept = Vec::new(alloc);
-    for rec in recs {
-        let delta = delta_of(&rec);
-        left = from_record(left, batch, delta);
-        if begins_at(left, batch, delta) {
-            kept.push(rec)?;
-        }
+    let mut keep = Vec::new(alloc);
+    for rec in batch.recs() {
+        left = from_record(left, batch, rec.delta);
+        keep.push(begins_at(left, batch, rec.delta))?;
     }
-    Ok(kept)
+    Ok(keep)
 }
 
-/// A batch with only those of its records that are at one of the offsets, which rise.
-pub(crate) fn listed_batch<A: Allocator + Copy>(
+/// Of each of a batch's records, whether it is at one of the offsets, which rise.
+#[tactic(auto, using(crate::proofs::ListedRecords::flags_length, crate::proofs::ListedRecords::flags_listed))]
+pub(crate) fn flag_listed<A: Allocator + Copy>(
     alloc: A,
     batch: &BatchView<'_>,
     offsets: &[OffsetBytes],
-) -> Result<Batch<A>, AllocError>
+) -> Result<Vec<bool, A>, AllocError>
     requires span { HasSpan batch.now }
     requires rising { (low : ℤ) × OffsetsRise low (offsets_of offsets.now) }
-    ensures { IfOk result (λ listed. listed ≡ with_listed (offsets_of offsets.now) batch.now) }
+    ensures as_many { IfOk result (λ keep. length keep.items ≡ length batch.now.recs) }
+    ensures listed { IfOk result (λ keep.
+        thinned keep.items batch.now ≡ with_listed (offsets_of offsets.now) batch.now) }
 {
     // For its contract: the batch's fields are valid.
     know_batch(batch);
-    let whole = Batch::from_view(alloc, batch)?;
-    let head = whole.head;
-    let recs = listed_records(alloc, batch, whole.recs, offsets)?;
-    Ok(Batch { head, recs })
+    walk_flags(alloc, batch, offsets)
 }

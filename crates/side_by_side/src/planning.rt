@@ -1,8 +1,9 @@
 //! What becomes of each batch that a copy keeps where it takes what it is told.
 
-ghost use Rattle.std.specs.Prelude.{◌≡◌, ◌++◌, ◌∷◌, [], false, None, Some, OnOk, IfOk, ℤ, if◌then◌else◌};
+ghost use Rattle.std.specs.Prelude.{◌≡◌, ◌++◌, ◌∷◌, [], false, None, Some, OnOk, IfOk, ℤ, length, if◌then◌else◌};
 ghost use Rattle.std.specs.Int.{int_max};
 ghost use Rattle.batch_codec.specs.Offsets.{first_offset};
+ghost use Rattle.batch_codec.specs.Thinning.{thinned};
 ghost use Rattle.batch_codec.specs.Values.{BatchValue};
 ghost use Rattle.cover_ranges.specs.Runs.{Runs, covers};
 ghost use Rattle.content.specs.Content.{IsInRange};
@@ -19,12 +20,12 @@ ghost use Rattle.side_by_side.specs.Steps.{kept_of, left_over, patched_next, ste
 ghost use Rattle.side_by_side.specs.Steps.Step.{Told, Both};
 ghost use Rattle.side_by_side.specs.Plans.{EndBefore, Adds};
 
-use crate::common::{common_batch, has_all_of};
+use crate::common::{common_flags, has_all_of};
 use crate::kept::KeptBatches;
-use crate::listed::{has_all_listed, listed_batch};
+use crate::listed::{flag_listed, has_all_listed};
 use crate::next::{Next, has_next, next_of, pass_told};
 use crate::telling::Telling;
-use batch_codec::{Batch, BatchView, encode, one_encoding};
+use batch_codec::{BatchView, one_encoding, put_thinned};
 use cover_ranges::Cover;
 use delta_bytes::entries::EntryView;
 use delta_bytes::lists::OffsetBytes;
@@ -63,41 +64,43 @@ fn bring<S: BatchStore>(plan: &mut WeavePlan<S>, batch: &BatchView<'_>) -> Resul
     Ok(())
 }
 
-/// Encodes a batch, and adds it behind those that come in.
-fn bring_encoded<S: BatchStore, A: Allocator + Copy>(
+/// Adds a batch with the records that are flagged behind those that come in.
+fn bring_thinned<S: BatchStore, A: Allocator + Copy>(
     plan: &mut WeavePlan<S>,
     alloc: A,
-    batch: &Batch<A>,
+    batch: &BatchView<'_>,
+    keep: &[bool],
 ) -> Result<(), AllocError>
+    requires flags { length keep.now ≡ length batch.now.recs }
     requires in_range { IsInRange batch.now }
     requires behind { EndBefore (first_offset batch.now) (S.batches plan.old.more) }
     ensures turns { OnOk result (plan.new.turns.items ≡ plan.old.turns.items ++ Come ∷ []) }
     ensures more { OnOk result
-        (S.batches plan.new.more ≡ S.batches plan.old.more ++ batch.now ∷ []) }
+        (S.batches plan.new.more ≡ S.batches plan.old.more ++ thinned keep.now batch.now ∷ []) }
 {
     // For its contract: a batch has one encoding.
     one_encoding();
     let mut bytes = Vec::new(alloc);
-    match encode(batch, &mut bytes) {
-        Ok(()) => bring(plan, &BatchView::open(&bytes)),
-        Err(_) => Err(AllocError),
-    }
+    put_thinned(batch, keep, &mut bytes)?;
+    bring(plan, &BatchView::open(&bytes))
 }
 
-/// Lets the copy's next batch go, and brings in another in its place.
+/// Lets the copy's next batch go, and brings it in again with the records that are flagged.
 fn replace<S: BatchStore, A: Allocator + Copy>(
     plan: &mut WeavePlan<S>,
     alloc: A,
-    batch: &Batch<A>,
+    batch: &BatchView<'_>,
+    keep: &[bool],
 ) -> Result<(), AllocError>
+    requires flags { length keep.now ≡ length batch.now.recs }
     requires in_range { IsInRange batch.now }
     requires behind { EndBefore (first_offset batch.now) (S.batches plan.old.more) }
-    ensures { OnOk result ((x : BatchValue) → Adds (Some x) (Some batch.now)
+    ensures { OnOk result ((x : BatchValue) → Adds (Some x) (Some (thinned keep.now batch.now))
         plan.old.turns.items plan.new.turns.items
         (S.batches plan.old.more) (S.batches plan.new.more)) }
 {
     add_turn(plan, Turn::Go)?;
-    bring_encoded(plan, alloc, batch)
+    bring_thinned(plan, alloc, batch, keep)
 }
 
 /// What becomes of a batch that the copy keeps alone: it goes if the sender has seen it.
@@ -137,8 +140,8 @@ fn plan_sent<S: BatchStore>(
     bring(plan, batch)
 }
 
-/// What becomes of a batch that both keep: it stays if each of its records is in both, else it is written
-/// anew with the common ones.
+/// What becomes of a batch that both keep: it stays if each of its records is in both, else it comes
+/// in with the common ones.
 fn plan_both<'a, S: BatchStore>(
     plan: &mut WeavePlan<S>,
     alloc: S::Alloc,
@@ -154,12 +157,12 @@ fn plan_both<'a, S: BatchStore>(
     if has_all_of(x, y) {
         return add_turn(plan, Turn::Stay);
     }
-    let batch = common_batch(alloc, x, y)?;
-    replace(plan, alloc, &batch)
+    let keep = common_flags(alloc, x, y)?;
+    replace(plan, alloc, x, &keep)
 }
 
 /// What becomes of a batch of which offsets are listed: it stays if each of its records is at one of
-/// them, else it is written anew with those that are.
+/// them, else it comes in with those that are.
 fn plan_listed<S: BatchStore>(
     plan: &mut WeavePlan<S>,
     alloc: S::Alloc,
@@ -176,8 +179,8 @@ fn plan_listed<S: BatchStore>(
     if has_all_listed(batch, offsets) {
         return add_turn(plan, Turn::Stay);
     }
-    let listed = listed_batch(alloc, batch, offsets)?;
-    replace(plan, alloc, &listed)
+    let keep = flag_listed(alloc, batch, offsets)?;
+    replace(plan, alloc, batch, &keep)
 }
 
 /// What becomes of what is told of a base where the copy, which has seen these offsets, keeps no batch.

@@ -6,8 +6,8 @@ use segment::BatchStore;
 use std::alloc::{AllocError, Allocator};
 use std::string::String;
 
-/// How many bytes a broker is made of at least: 12 partitions, each held in more than 64.
-pub(crate) const CONFIGURED: usize = 12 * 64;
+/// How many bytes a broker is made of at least: 12 partitions, each held in more than 128.
+pub(crate) const CONFIGURED: usize = 12 * 128;
 
 /// A host of so many bytes.
 fn host_of<A: Allocator + Copy>(alloc: A, bytes: u32) -> Result<String<A>, AllocError> {

@@ -89,7 +89,11 @@ static CASES: [Case; 4] = [
         outcomes: &[
             (b"", [0, 0, 2]),
             (
-                b"\0\0\0/\0\0\0\x07\0\0\0\x01\0\x01t\0\0\0\x02\0\0\0\0\xff\xff\xff\xff\xff\xff\xff\xff\0\0\08\0\0\0\x01\xff\xff\xff\xff\xff\xff\xff\xff\0\0\08",
+                b"\0\0\0/\0\0\0\x07\0\0\0\x01\0\x01t\0\0\0\x02\0\0\0\0\xff\xff\xff\xff\xff\xff\xff\xff\0\0\08\0\0\0\x01\0\0\0\0\0\0\0\x0b\0\0\0\0",
+                [0, 0, 2],
+            ),
+            (
+                b"\0\0\0/\0\0\0\x07\0\0\0\x01\0\x01t\0\0\0\x02\0\0\0\0\0\0\0\0\0\0\0\x0a\0\0\0\0\0\0\0\x01\xff\xff\xff\xff\xff\xff\xff\xff\0\0\08",
                 [0, 0, 2],
             ),
             (
@@ -292,7 +296,7 @@ fn all_that_comes<A: Allocator + Copy>(inner: A, kept: Kept, case: &Case) -> Opt
 static WANTED: [(&str, u32); 4] = [
     ("Produce", 0b1111),
     ("OffsetCommit", 0b1111),
-    ("OffsetFetch", 0b111),
+    ("OffsetFetch", 0b1111),
     ("Clean", 0b111),
 ];
 

@@ -108,16 +108,20 @@ fn replays<A: Allocator + Copy>(alloc: A, refused: u64, least: usize) -> Came {
 }
 
 /// How many allocations fail for the index of producers alone, which a copy does without: an index of one
-/// producer takes four, at `produce-as`, four more at `merge`, which makes that of the copy merged into, and
-/// four at `clean`, which makes the leader's anew.
+/// producer takes four, at `produce-as`, and eight more at `merge`, which makes that of the image's copy and that
+/// of the copy merged into.
 const OF_THE_INDEX: u64 = 12;
 
 /// How many allocations fail that a segment of batches does without: of its two lists of marked batches.
 const OF_THE_MARKS: u64 = 2;
 
 /// How many segments the script makes: one at the first `produce` and one at `deliver`; at `merge` one of the
-/// image's batches, one of those that come in, and one of what both become; and one at `clean`.
-const SEGMENTS: u64 = 6;
+/// image's batches, one of those that come in, and one of what both become; and at `clean` one of the batch that
+/// comes in with a record less, and one of what the list becomes.
+const SEGMENTS: u64 = 7;
+
+/// How many allocations fail by which a segment gives back the room behind it: one at `clean`.
+const OF_THE_ROOM: u64 = 1;
 
 /// How many segments a merge makes: one of each image, one of the batches that come in, and one of what both
 /// become.
@@ -140,7 +144,10 @@ fn a_script_does_without_its_indices_alone(rt: HostRuntime) -> Result<(), Fail> 
     }
     // A line was printed before the last allocation that is needed.
     assert!(rt; came == Came::AtOnce && printed > 0, "{came:?}, {printed}");
-    assert_eq!(rt; without, OF_THE_INDEX + SEGMENTS * OF_THE_MARKS);
+    assert_eq!(rt;
+        without,
+        OF_THE_INDEX + SEGMENTS * OF_THE_MARKS + OF_THE_ROOM
+    );
     Ok(())
 }
 

@@ -33,7 +33,7 @@ pub(crate) enum Told {
 }
 
 /// How many segments are begun in all.
-const SEGMENTS: u64 = 9;
+const SEGMENTS: u64 = 10;
 
 /// How many bytes the three batches that are produced have, and the three images that are kept of them.
 const GIVEN: usize = 79 + 70 + 87 + 112 + 26 + 112;

@@ -1,0 +1,3 @@
+pub mod Hashes
+pub mod Known
+pub mod Puts
