@@ -8,7 +8,7 @@ use crate::session::SessionError;
 use broker_node::Node;
 use bytes::BytesMut;
 use segment::BatchStore;
-use sessions::{Next, NextError, answer_first};
+use sessions::{Next, NextError, Plainly, answer_first};
 use std::alloc::Allocator;
 use std::io::Write;
 use streams::Sink;
@@ -31,7 +31,7 @@ fn answer_next<S: BatchStore, W: Write, A: Allocator + Copy>(
         buffer.old.items index) }
 {
     out.clear();
-    match answer_first(node, buffer, out, false) {
+    match answer_first(node, &mut Plainly, buffer, out, false) {
         Ok(Next::Answered) => {}
         Ok(Next::Short) => return Ok(false),
         // None may wait.

@@ -8,7 +8,7 @@ use mio::event::Event;
 use mio::net::TcpStream;
 use mio::{Interest, Registry, Token};
 use segment::BatchStore;
-use sessions::{MOST_OWED, Seat, Session, Sessions, Then, Visit, Why};
+use sessions::{MOST_OWED, Plainly, Seat, Session, Sessions, Then, Visit, Why};
 use std::alloc::Global;
 use std::collections::VecDeque;
 use std::io::Result;
@@ -209,9 +209,14 @@ impl<S: BatchStore> Connections<S> {
         let connection = self.by_number.get_mut(&number)?;
         connection.is_ready = false;
         let (mut from, mut to) = (Incoming::new(&connection.stream), &connection.stream);
-        let visit = self
-            .sessions
-            .visit(number, clock, &mut connection.seat, &mut from, &mut to)?;
+        let visit = self.sessions.visit(
+            number,
+            clock,
+            &mut Plainly,
+            &mut connection.seat,
+            &mut from,
+            &mut to,
+        )?;
         let is_drained = from.is_drained() && !connection.seat.is_closing;
         if is_drained {
             connection.seat.may_read = false;

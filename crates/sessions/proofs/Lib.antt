@@ -4,3 +4,4 @@ pub mod Owing
 pub mod Going
 pub mod Passing
 pub mod OneOrder
+pub mod Sending

@@ -8,10 +8,9 @@ use Rattle.std.proofs.lemmas.Grind.{flat_map-append}
 use Rattle.std.proofs.lemmas.List.{length-append}
 use Rattle.frame_fields.specs.Frames.{IsFrames, IsFirstFrame}
 use Rattle.request_frames.specs.Requests.{RequestValue, IsRequest}
-use Rattle.broker_node.specs.declared.handling.Answer.{Answer}
 use Rattle.answering.specs.Responding.{sent}
 use Rattle.broker_state.specs.State.{State}
-use Rattle.broker_node.specs.Handling.{Handles}
+use Rattle.broker_node.specs.Answers.{RespondsTo}
 use Rattle.fetch_waits.specs.Waiting.{body_waits}
 use Rattle.sessions.specs.declared.replying.NextError.TheVariants as next
 use Rattle.sessions.specs.declared.session.Stop.{Stop}
@@ -23,9 +22,9 @@ use Rattle.sessions.proofs.Frames.{no_frames, one_cut, cut_append, cut_length}
 -- ---- one frame
 
 -- what was handled answers the frame
-pub frame_answered : (may_wait : Bool) (s after : State) (frame out out' : List ℕ) (q : RequestValue) (answer : Answer)
-    → IsRequest frame q → (may_wait ≡ true → body_waits s q.body ≡ false) → Handles s q out out' answer after → AnswersFrame may_wait s after frame out out'
-frame_answered may_wait s after frame out out' q answer reads in_time h = record {
+pub frame_answered : (may_wait : Bool) (s after : State) (frame out out' : List ℕ) (q : RequestValue)
+    → IsRequest frame q → (may_wait ≡ true → body_waits s q.body ≡ false) → RespondsTo s q out out' after → AnswersFrame may_wait s after frame out out'
+frame_answered may_wait s after frame out out' q reads in_time h = record {
   reply = sent h.response;
   answers = record { request = q; response = h.response; reads = reads; replies = h.replies; sends = refl };
   in_time = in_time;

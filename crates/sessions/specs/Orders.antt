@@ -1,7 +1,7 @@
 -- Many clients at once: what happens to a broker and to all sessions, and that it is one list of requests, answered one
 -- after the other. Kafka's documentation, "Protocol Guide", section "Network", orders the requests of one connection; that
 -- those of all connections have one order is this project's own.
-use Rattle.std.specs.Prelude.{◌≡◌, ◌≢◌, ℕ, ◌+◌, ◌≤◌, if◌then◌else◌, nat_eq, List, [], ◌∷◌, ◌++◌, length, map, Option, Some, None, IfSome}
+use Rattle.std.specs.Prelude.{◌≡◌, ◌≢◌, ℕ, ◌+◌, ◌≤◌, if◌then◌else◌, nat_eq, List, [], ◌∷◌, ◌++◌, length, map, Option, Some, None, IfSome, Result}
 use Rattle.std.specs.List.{flat_map, filter}
 use Rattle.std.specs.Map.{lookup}
 use Rattle.frame_fields.specs.Frames.{IsFrames}
@@ -9,7 +9,8 @@ use Rattle.broker_state.specs.State.{State}
 use Rattle.sessions.specs.Turns.{Exchange, SessionState, new_session, frames_of, replied, InTurn}
 use Rattle.sessions.specs.declared.visiting.Visit.{Visit}
 use Rattle.sessions.specs.declared.visiting.Seat.{Seat}
-use Rattle.sessions.specs.Visits.{Moved, Moves, IsMade}
+use Rattle.sessions.specs.declared.visiting.Why.{Why}
+use Rattle.sessions.specs.Visits.{Moved, Moves, SendsTo, IsMade}
 
 -- A broker and the sessions of its clients, each by its number; `next` is the number of the next one.
 pub record World : Type 0 where
@@ -80,6 +81,16 @@ pub record VisitsAt (who clock : ℕ) (seat : Seat) (old : World) (seat' : Seat)
   pub moved : Moved
   pub visited : IsVisited who moved old new
   pub made : IsMade clock old.state seat seat' visited.before moved new.state visited.after left left' taken taken' visit
+
+-- the session with a number was sent a front of what it was owed: a visit that moved that alone
+pub record SendsAt (who : ℕ) (seat : Seat) (old : World) (seat' : Seat) (new : World) (taken taken' : Option (List ℕ)) (result : Result ℕ Why) : Type 0 where
+  pub before : SessionState
+  pub after : SessionState
+  pub sends : SendsTo seat before seat' after taken taken' result
+  pub was : session_at old who ≡ Some before
+  pub is : session_at new who ≡ Some after
+  pub only : OnlyChanges who old new
+  pub next : new.next ≡ old.next
 
 -- events one after the other
 abbrev pub Run : World → List Event → World → Type 0

@@ -1,6 +1,6 @@
 -- What a visit of a session does, and what is to be done with the session then. Of a reader it is known what it has left
 -- to give, and of a writer what it has taken, where that is known.
-use Rattle.std.specs.Prelude.{◌≡◌, ◌≢◌, ◌⊎◌, ℕ, ◌+◌, ◌<◌, ◌≤◌, Bool, ◌||◌, true, false, List, [], ◌++◌, length, Option}
+use Rattle.std.specs.Prelude.{◌≡◌, ◌≢◌, ◌⊎◌, ℕ, ◌+◌, ◌<◌, ◌≤◌, Bool, ◌||◌, true, false, List, [], ◌++◌, length, Option, Result, Ok, Err}
 use Rattle.std.specs.Io.KnownBytes.{Consumes, Keeps, Appends, IsAtEnd}
 use Rattle.std_io.specs.declared.io.kind.ErrorKind.{ErrorKind}
 use Rattle.std_io.specs.declared.io.kind.ErrorKind.TheVariants as kind
@@ -91,6 +91,31 @@ pub record Passes (moved : Moved) (taken taken' : Option (List ℕ)) (visit : Vi
   pub answered : visit.answered ≡ length moved.exchanges
   pub sent : visit.sent ≡ length moved.sent
 
+-- ---- writes alone
+
+-- a call of the system failed: it isn't one that would have waited, or that is to be made again
+abbrev pub IsFault : ErrorKind → Type 0
+IsFault why = (why ≢ kind.WouldBlock) × (why ≢ kind.Interrupted)
+
+-- so many bytes left, or a write failed that might be made, and something is owed still
+abbrev pub TellsSent : Seat → (sent : List ℕ) → SessionState → Result ℕ Why → Type 0
+TellsSent seat sent now (Ok count) = count ≡ length sent
+TellsSent seat sent now (Err (Write why)) = IsFault why × (seat.may_write ≡ true) × (0 < length now.owed)
+TellsSent seat sent now (Err _) = ⊥
+
+-- A front of what was owed was sent, where it might be written, and nothing else became of the session, nor of what is known
+-- of its connection but whether a write may be made.
+pub record SendsTo (seat : Seat) (old : SessionState) (seat' : Seat) (new : SessionState) (taken taken' : Option (List ℕ)) (result : Result ℕ Why) : Type 0 where
+  pub sent : List ℕ
+  pub takes : Appends taken taken' sent
+  pub owes : old.owed ≡ sent ++ new.owed
+  pub stays : new ≡ record old { owed = new.owed }
+  pub goes : 0 < length sent → seat.may_write ≡ true
+  pub seat_stays : seat' ≡ record seat { may_write = seat'.may_write }
+  pub writes : seat'.may_write ≡ true → seat.may_write ≡ true
+  pub write_waits : seat'.may_write ≡ false → (seat.may_write ≡ false) ⊎ (0 < length new.owed)
+  pub tells : TellsSent seat' sent new result
+
 -- ---- what a visit learns of a connection
 
 -- A read or a write is marked as one that may not be made only where it gave or took nothing; none is marked as one that
@@ -105,10 +130,6 @@ pub record Learns (old new : Seat) (moved : Moved) (now : SessionState) (left' :
   pub closing : new.is_closing ≡ old.is_closing
 
 -- ---- how it goes on
-
--- a call of the system failed: it isn't one that would have waited, or that is to be made again
-abbrev pub IsFault : ErrorKind → Type 0
-IsFault why = (why ≢ kind.WouldBlock) × (why ≢ kind.Interrupted)
 
 -- Why a session is over: at the end of its input, where no complete frame is held; where the first frame that is held is
 -- refused, or memory lacks for its response; in these all that was owed has left. Else a read failed, or memory lacked for

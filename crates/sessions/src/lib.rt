@@ -7,6 +7,7 @@
 //! [`many_clients_are_one_list`].
 #![tactic(auto)]
 
+mod handler;
 mod laws;
 mod outbox;
 mod replying;
@@ -15,6 +16,7 @@ mod sessions;
 mod visiting;
 mod waiting;
 
+pub use handler::{Handler, Plainly};
 pub use laws::many_clients_are_one_list;
 pub use replying::{Next, NextError, answer_first};
 pub use session::Session;

@@ -5,6 +5,7 @@ ghost use Rattle.std.specs.Io.KnownBytes.{Appends, Keeps};
 ghost use Rattle.frame_fields.specs.Frames.{IsIncomplete};
 ghost use Rattle.sessions.specs.Turns.{AnswersFirst, MatchNext, StopsFirst, WaitsFirst};
 
+use crate::handler::Handler;
 use crate::replying::{Next, NextError, answer_first};
 use broker_node::Node;
 use bytes::BytesMut;
@@ -58,9 +59,10 @@ impl<A: Allocator + Copy> Outbox<A> {
     }
 
     /// Answers the first frame that is held, as [`answer_first`] does: its reply is owed behind what was.
-    pub(crate) fn answer<S: BatchStore>(
+    pub(crate) fn answer<S: BatchStore, H: Handler<S>>(
         &mut self,
         node: &mut Node<S>,
+        handler: &mut H,
         held: &mut BytesMut<A>,
         may_wait: bool,
     ) -> Result<Next, NextError>
@@ -75,8 +77,9 @@ impl<A: Allocator + Copy> Outbox<A> {
         ensures stops { IfErr result (StopsFirst held.old.items) }
         ensures unchanged_on_error { OnErr result ((node.new ≡ node.old)
             × (held.new ≡ held.old) × (self.new ≡ self.old)) }
+        ensures keeps { H.keeps handler.old node.old handler.new node.new }
     {
-        answer_first(node, held, &mut self.behind, may_wait)
+        answer_first(node, handler, held, &mut self.behind, may_wait)
     }
 
     /// Makes one write, of the front of what is owed, and gives how many bytes left.

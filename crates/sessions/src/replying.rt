@@ -1,12 +1,13 @@
 //! The first frame that is held, answered.
 
-ghost use Rattle.std.specs.Prelude.{◌≡◌, ◌<◌, true, false, IfOk, IfErr, IfNone, IfSome, OnErr};
-ghost use Rattle.frame_fields.specs.Frames.{IsIncomplete};
+ghost use Rattle.std.specs.Prelude.{◌≡◌, ◌<◌, true, false, pos, length, IfOk, IfErr, IfNone, IfSome, OnErr};
+ghost use Rattle.frame_fields.specs.Frames.{IsIncomplete, IsWithinLimit};
 ghost use Rattle.request_frames.specs.Views.{request_value};
 ghost use Rattle.sessions.specs.Turns.{AnswersFirst, MatchNext, StopsFirst, WaitsFirst};
 ghost use Rattle.fetch_waits.specs.Waiting.{body_waits};
 ghost use Rattle.sessions.specs.Steps.{AnswersFrame, BodyWaits, FrameWaits, StopsAnswer};
 
+use crate::handler::Handler;
 use broker_node::Node;
 use bytes::BytesMut;
 use fetch_waits::fetch_waits;
@@ -37,15 +38,16 @@ pub enum NextError {
 
 /// Handles the first frame that is held, if it is complete: it leaves what is held, and its reply, if it
 /// has one, stands behind the output. Where it may wait, and is a Fetch that waits in what the broker holds
-/// now, nothing is done.
+/// now, nothing is done. The handler is asked for each request that is handled.
 ///
 /// # Errors
 ///
 /// The frame is refused, or there is no memory for its response. Then nothing was done: the broker, what
 /// is held and the output are as before.
 #[tactic(auto, using(crate::proofs::Turning::first_waits))]
-pub fn answer_first<S: BatchStore, A: Allocator + Copy, B: Allocator + Copy>(
+pub fn answer_first<S: BatchStore, H: Handler<S>, A: Allocator + Copy, B: Allocator + Copy>(
     node: &mut Node<S>,
+    handler: &mut H,
     held: &mut BytesMut<A>,
     out: &mut Vec<u8, B>,
     may_wait: bool,
@@ -60,6 +62,7 @@ pub fn answer_first<S: BatchStore, A: Allocator + Copy, B: Allocator + Copy>(
     ensures stops { IfErr result (StopsFirst held.old.items) }
     ensures unchanged_on_error { OnErr result ((node.new ≡ node.old) × (held.new ≡ held.old)
         × (out.new.items ≡ out.old.items)) }
+    ensures keeps { H.keeps handler.old node.old handler.new node.new }
 {
     let frame = match first_frame(held.as_slice()) {
         Ok(Some(frame)) => frame,
@@ -67,7 +70,7 @@ pub fn answer_first<S: BatchStore, A: Allocator + Copy, B: Allocator + Copy>(
         Err(why) => return Err(NextError::Frame(why)),
     };
     let whole = SIZE_BYTES + frame.len();
-    if let Some(most) = answer(node, frame, out, may_wait)? {
+    if let Some(most) = answer(node, handler, frame, out, may_wait)? {
         return Ok(Next::Waits(most));
     }
     held.advance(whole);
@@ -91,8 +94,9 @@ fn wait_of<S: BatchStore>(node: &Node<S>, request: &Request<'_>, may_wait: bool)
 
 /// Handles a frame, and puts its reply, if it has one, behind the output. Where it may wait, and does,
 /// nothing is done, and it gives for how many milliseconds at the most.
-fn answer<S: BatchStore, B: Allocator + Copy>(
+fn answer<S: BatchStore, H: Handler<S>, B: Allocator + Copy>(
     node: &mut Node<S>,
+    handler: &mut H,
     frame: &[u8],
     out: &mut Vec<u8, B>,
     may_wait: bool,
@@ -105,6 +109,8 @@ fn answer<S: BatchStore, B: Allocator + Copy>(
     ensures stops { IfErr result (StopsAnswer frame.now) }
     ensures unchanged_on_error { OnErr result
         ((node.new ≡ node.old) × (out.new.items ≡ out.old.items)) }
+    ensures keeps { IsWithinLimit (pos (length frame.now))
+        → H.keeps handler.old node.old handler.new node.new }
 {
     let request = match parse(frame) {
         Ok(request) => request,
@@ -113,7 +119,7 @@ fn answer<S: BatchStore, B: Allocator + Copy>(
     if let Some(most) = wait_of(node, &request, may_wait) {
         return Ok(Some(most));
     }
-    match node.handle(&request, out) {
+    match handler.handle(node, frame, &request, out) {
         Ok(_) => Ok(None),
         Err(_) => Err(NextError::OutOfMemory),
     }

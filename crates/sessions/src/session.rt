@@ -7,6 +7,7 @@ ghost use Rattle.request_frames.specs.Requests.{key_of, version_of};
 ghost use Rattle.sessions.specs.Turns.{HasFirst, MatchNext, StopsNext, is_over, new_session};
 ghost use Rattle.sessions.specs.Steps.{AnswersNext, FailsToReceive, Receives, Sends, TurnsUntil, WaitsNext};
 
+use crate::handler::Handler;
 use crate::outbox::Outbox;
 use crate::replying::{Next, NextError};
 use crate::waiting::Waiting;
@@ -182,19 +183,21 @@ impl<A: Allocator + Copy> Session<A> {
     /// Answers complete frames in order, until none is left, the first one waits, or so many bytes are
     /// owed.
     #[tactic(auto, using(crate::proofs::Turning::turning_none, crate::proofs::Turning::turning_then, crate::proofs::Turning::turn_stops, crate::proofs::Turning::less_is_held))]
-    pub(crate) fn turn<S: BatchStore>(
+    pub(crate) fn turn<S: BatchStore, H: Handler<S>>(
         &mut self,
         node: &mut Node<S>,
+        handler: &mut H,
         waiting: &mut Waiting<A>,
         now: Now,
         most_owed: usize,
     ) -> Stop
-        ensures { TurnsUntil most_owed now.clock now.has_ended node.old self.old node.new self.new
-            result }
+        ensures turns { TurnsUntil most_owed now.clock now.has_ended node.old self.old node.new
+            self.new result }
+        ensures keeps { H.keeps handler.old node.old handler.new node.new }
     {
         while self.owed.len() < most_owed {
             waiting.look(node, self.held.as_slice());
-            match self.answer_next(node, now) {
+            match self.answer_next(node, handler, now) {
                 Ok(Next::Answered) => waiting.leave(now.number),
                 Ok(Next::Short) => return Stop::Short,
                 Ok(Next::Waits(_)) => return self.wait(node, waiting, now.number),
@@ -217,9 +220,10 @@ impl<A: Allocator + Copy> Session<A> {
 
     /// Answers the first frame that is held, if it is complete and doesn't wait.
     #[tactic(auto, using(crate::proofs::Turning::turn_first, crate::proofs::Turning::waits_next))]
-    fn answer_next<S: BatchStore>(
+    fn answer_next<S: BatchStore, H: Handler<S>>(
         &mut self,
         node: &mut Node<S>,
+        handler: &mut H,
         now: Now,
     ) -> Result<Next, NextError>
         ensures answers { IfOk result (λ next. MatchNext next
@@ -230,12 +234,13 @@ impl<A: Allocator + Copy> Session<A> {
         ensures stops { IfErr result (StopsNext self.old) }
         ensures unchanged_on_error { OnErr result
             ((node.new ≡ node.old) × (self.new ≡ self.old)) }
+        ensures keeps { H.keeps handler.old node.old handler.new node.new }
     {
         let Some(answered) = self.answered.checked_add(1) else {
             return Err(NextError::OutOfMemory);
         };
         let may_wait = self.may_wait(now);
-        let next = self.owed.answer(node, &mut self.held, may_wait)?;
+        let next = self.owed.answer(node, handler, &mut self.held, may_wait)?;
         match next {
             Next::Answered => {
                 self.answered = answered;

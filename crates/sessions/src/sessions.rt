@@ -2,11 +2,12 @@
 
 ghost use Rattle.std.specs.Prelude.{◌≡◌, None, IfNone, IfOk, IfSome, MatchBool, OnErr};
 ghost use Rattle.std.specs.Option.{option_copied};
-ghost use Rattle.sessions.specs.Orders.{IsInOrder, Step, VisitsAt, new_world, session_at};
+ghost use Rattle.sessions.specs.Orders.{IsInOrder, SendsAt, Step, VisitsAt, new_world, session_at};
 ghost use Rattle.sessions.specs.Orders.Event.{Closes, Opens};
 
+use crate::handler::Handler;
 use crate::session::Session;
-use crate::visiting::{READ_PIECE, Seat, Visit, visit_session};
+use crate::visiting::{READ_PIECE, Seat, Visit, Why, send_session, visit_session};
 use crate::waiting::Waiting;
 use broker_node::Node;
 use indexmap::IndexMap;
@@ -22,7 +23,7 @@ use std::marker::Model;
 /// let mut sessions = Sessions::new(alloc, node)?;
 /// let number = sessions.open()?;
 /// let mut seat = Seat::new();
-/// match sessions.visit(number, clock, &mut seat, &mut reader, &mut writer) {
+/// match sessions.visit(number, clock, &mut Plainly, &mut seat, &mut reader, &mut writer) {
 ///     Some(Visit { then: Then::Over(_), .. }) => sessions.close(number),
 ///     _ => true, // another visit, at once or once something can be read or written
 /// }
@@ -95,11 +96,13 @@ impl<S: BatchStore, A: Allocator + Copy> Sessions<S, A> {
     /// complete frame is held; answers complete frames in order, until 256 KiB or more are owed; makes at
     /// most four writes. `None` if there is no such session. `clock` is what the caller's clock says, in
     /// milliseconds: a Fetch that waits is answered once it says so much more than it did at the visit
-    /// that first came to that frame, or once what it waits for is there, or the input has ended.
-    pub fn visit<R: Read, W: Write>(
+    /// that first came to that frame, or once what it waits for is there, or the input has ended. The
+    /// handler is asked for each request that is handled.
+    pub fn visit<H: Handler<S>, R: Read, W: Write>(
         &mut self,
         number: u64,
         clock: u64,
+        handler: &mut H,
         seat: &mut Seat,
         from: &mut R,
         to: &mut W,
@@ -107,6 +110,7 @@ impl<S: BatchStore, A: Allocator + Copy> Sessions<S, A> {
         ensures visits { IfSome result (VisitsAt number clock seat.old self.old seat.new self.new
             (R.remaining from.old) (R.remaining from.new)
             (W.contents to.old) (W.contents to.new)) }
+        ensures keeps { H.keeps handler.old self.old.state handler.new self.new.state }
         ensures none_is_absent { IfNone result (session_at self.old number ≡ None) }
         ensures none_changes_nothing { IfNone result ((self.new ≡ self.old)
             × (seat.new ≡ seat.old) × (from.new ≡ from.old) × (to.new ≡ to.old)) }
@@ -114,6 +118,7 @@ impl<S: BatchStore, A: Allocator + Copy> Sessions<S, A> {
         match self.sessions.get_mut(&number) {
             Some(session) => Some(visit_session(
                 &mut self.node,
+                handler,
                 &mut self.waiting,
                 number,
                 clock,
@@ -125,6 +130,31 @@ impl<S: BatchStore, A: Allocator + Copy> Sessions<S, A> {
             )),
             None => None,
         }
+    }
+
+    /// Sends the session with this number what it is owed, by at most four writes, where they may be made; it
+    /// reads and answers nothing. Gives how many bytes left, or why the session is over. `None` if there is
+    /// no such session.
+    ///
+    /// # Errors
+    ///
+    /// A write failed: the session is over, and some of what it was owed may have left.
+    pub fn send<W: Write>(
+        &mut self,
+        number: u64,
+        seat: &mut Seat,
+        to: &mut W,
+    ) -> Option<Result<usize, Why>>
+        ensures sends { IfSome result (SendsAt number seat.old self.old seat.new self.new
+            (W.contents to.old) (W.contents to.new)) }
+        ensures none_is_absent { IfNone result (session_at self.old number ≡ None) }
+        ensures none_changes_nothing { IfNone result ((self.new ≡ self.old)
+            × (seat.new ≡ seat.old) × (to.new ≡ to.old)) }
+    {
+        let Some(session) = self.sessions.get_mut(&number) else {
+            return None;
+        };
+        Some(send_session(session, seat, to))
     }
 
     /// Closes the session with this number, with all that it holds and owes, and tells whether there was

@@ -3,9 +3,10 @@
 ghost use Rattle.std.specs.Prelude.{◌≡◌, ◌⊎◌, ◌<◌, ◌≤◌, true, false, length, IfErr, MatchBool, OnErr, OnOk};
 ghost use Rattle.frame_fields.specs.Frames.{IsIncomplete};
 ghost use Rattle.sessions.specs.Turns.{StopsNext};
-ghost use Rattle.sessions.specs.Visits.{CannotWrite, GoesOn, Moment, WantsMore, has_ended};
+ghost use Rattle.sessions.specs.Visits.{CannotWrite, GoesOn, Moment, SendsTo, WantsMore, has_ended};
 ghost use Rattle.sessions.specs.Steps.{ComesIn, FailsToRead, FailsToWrite, GoesOut, HasStopped, IsFailure, IsNoRead, VisitsSession, WriteFault, Writes};
 
+use crate::handler::Handler;
 use crate::replying::NextError;
 use crate::session::{Now, ReceiveError, Session, Stop};
 use crate::waiting::Waiting;
@@ -309,10 +310,30 @@ fn write_some<A: Allocator + Copy, W: Write>(
     Ok(())
 }
 
+/// Sends a session what it is owed, by at most four writes; nothing is read or answered.
+#[tactic(auto, using(crate::proofs::Sending::sent_to))]
+pub(crate) fn send_session<A: Allocator + Copy, W: Write>(
+    session: &mut Session<A>,
+    seat: &mut Seat,
+    to: &mut W,
+) -> Result<usize, Why>
+    ensures { SendsTo seat.old session.old seat.new session.new
+        (W.contents to.old) (W.contents to.new) result }
+{
+    let owing = session.owed();
+    let written = write_some(session, &mut seat.may_write, to);
+    session.release();
+    match written {
+        Ok(()) => Ok(owing - session.owed()),
+        Err(why) => Err(why),
+    }
+}
+
 /// Visits the session with a number, when the clock says so many milliseconds: reads once, answers, and
 /// writes.
-pub(crate) fn visit_session<S: BatchStore, A: Allocator + Copy, R: Read, W: Write>(
+pub(crate) fn visit_session<S: BatchStore, H: Handler<S>, A: Allocator + Copy, R: Read, W: Write>(
     node: &mut Node<S>,
+    handler: &mut H,
     waiting: &mut Waiting<A>,
     number: u64,
     clock: u64,
@@ -322,10 +343,11 @@ pub(crate) fn visit_session<S: BatchStore, A: Allocator + Copy, R: Read, W: Writ
     to: &mut W,
     piece: &mut [u8],
 ) -> Visit
-    ensures { length piece.old ≡ READ_PIECE
+    ensures visits { length piece.old ≡ READ_PIECE
         → VisitsSession clock node.old seat.old session.old node.new seat.new session.new
         (R.remaining from.old) (R.remaining from.new) (W.contents to.old) (W.contents to.new)
         result }
+    ensures keeps { H.keeps handler.old node.old handler.new node.new }
 {
     match read_once(session, seat, from, piece) {
         Ok(()) => {}
@@ -343,7 +365,7 @@ pub(crate) fn visit_session<S: BatchStore, A: Allocator + Copy, R: Read, W: Writ
         clock,
         has_ended: has_ended(seat),
     };
-    let stop = session.turn(node, waiting, now, MOST_OWED);
+    let stop = session.turn(node, handler, waiting, now, MOST_OWED);
     let answered = session.answered() - before;
     let owing = session.owed();
     let written = write_some(session, &mut seat.may_write, to);

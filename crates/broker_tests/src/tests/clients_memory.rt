@@ -7,7 +7,7 @@ use crate::tests::served::READ_ROOM;
 use broker_core::{Node, Role};
 use refusing_alloc::Refusing;
 use segment::{BatchStore, ProgramStore};
-use sessions::{Seat, Sessions, Then, Visit, Why};
+use sessions::{Plainly, Seat, Sessions, Then, Visit, Why};
 use std::alloc::Allocator;
 use std::test::Fail;
 
@@ -69,7 +69,7 @@ fn visits<S: BatchStore, A: Allocator + Copy, B: Allocator + Copy>(
     seat.may_read = true;
     let mut from = LIST;
     let mut to = Vec::new(alloc);
-    match sessions.visit(number, 0, &mut seat, &mut from, &mut to) {
+    match sessions.visit(number, 0, &mut Plainly, &mut seat, &mut from, &mut to) {
         Some(visit) => came_of(&visit, &to),
         None => Came::Wrong,
     }
@@ -95,7 +95,7 @@ fn visited<S: BatchStore, A: Allocator + Copy, B: Allocator + Copy>(
     let mut seat = Seat::new();
     seat.may_read = !came.is_empty();
     let mut from = came;
-    sessions.visit(number, 5, &mut seat, &mut from, to)
+    sessions.visit(number, 5, &mut Plainly, &mut seat, &mut from, to)
 }
 
 /// Visits session 0, to which a Fetch came that waits for one partition, until the clock says 1,005.
