@@ -1,0 +1,27 @@
+//! Laws about the definitions alone. The functions do nothing: what they ensure is the law.
+
+ghost use Rattle.std.specs.Prelude.{◌≡◌, ℕ, false, List, Option};
+ghost use Rattle.request_frames.specs.Requests.{RequestValue};
+ghost use Rattle.broker_state.specs.State.{State};
+ghost use Rattle.broker_node.specs.Replies.{IsReply, MayReply};
+ghost use Rattle.exact_replies.specs.declared.memory.Memory.TheVariants.{Sufficed};
+ghost use Rattle.exact_replies.specs.Exact.{may_change, HandlesExactly};
+
+/// In one state a request has one exact reply, and one state comes of it.
+pub fn exact_replies_are_one()
+    ensures one_reply { (s after after' : State) (q : RequestValue) (out out' : Option (List ℕ))
+        → IsReply s q out after → IsReply s q out' after' → (out ≡ out') × (after ≡ after') }
+{}
+
+/// In one state, where memory suffices, a request leaves the same state each time it is handled.
+pub fn handled_again_it_leaves_the_same()
+    ensures same_state { (s after after' : State) (q : RequestValue) (held held' more more' : List ℕ)
+        → HandlesExactly s q held held' Sufficed after
+        → HandlesExactly s q more more' Sufficed after' → after ≡ after' }
+{}
+
+/// A request that may not change anything leaves the broker as it is, wherever memory lacks.
+pub fn reading_changes_nothing()
+    ensures unchanged { (s after : State) (q : RequestValue) (out : Option (List ℕ))
+        → may_change q.body ≡ false → MayReply s q out after → after ≡ s }
+{}
