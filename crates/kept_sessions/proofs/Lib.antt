@@ -1,0 +1,4 @@
+pub mod Handling
+pub mod Replayed
+pub mod Kept
+pub mod OneState

@@ -1,0 +1,121 @@
+-- A broker with the sessions of its clients and a journal: what it has done, what of it the journal has, and what left.
+use Rattle.std.specs.Prelude.{◌≡◌, ℕ, ◌+◌, Bool, true, false, List, [], ◌∷◌, ◌++◌, length, map, Option, Some, None, Result, Ok, Err, IfSome}
+use Rattle.std.specs.List.{flat_map}
+use Rattle.frame_fields.specs.Frames.{stream}
+use Rattle.broker_state.specs.State.{State}
+use Rattle.sessions.specs.Turns.{Exchange, InTurn, replied}
+use Rattle.sessions.specs.declared.visiting.Seat.{Seat}
+use Rattle.sessions.specs.declared.visiting.Why.{Why}
+use Rattle.kept_sessions.specs.declared.keeper.Sent.{Sent}
+use Rattle.kept_sessions.specs.declared.keeper.Sent.TheVariants.{Bytes, HeldBack, Failed}
+use Rattle.sessions.specs.declared.visiting.Visit.{Visit}
+use Rattle.kept_sessions.specs.declared.keeper.CommitError.{CommitError}
+use Rattle.kept_sessions.specs.declared.keeper.CommitError.TheVariants.{OutOfMemory, Journal as InJournal}
+use Rattle.std.specs.Io.KnownBytes.{append_known}
+use Rattle.journal.specs.Disks.{LeavesAll}
+use Rattle.sessions.specs.Orders.{Event, SendsAt, VisitsAt, World, Run, new_world, sent_to, one_list, own}
+use Rattle.journal.specs.declared.layout.TheConstants.{HEAD_SIZE}
+use Rattle.journal.specs.Files.{Group, AreGroups, groups_bytes}
+use Rattle.journal.specs.Journals.{JournalState, StopsAppend, next_bytes}
+use Rattle.kept_sessions.specs.Replaying.{Replays}
+use Rattle.kept_sessions.specs.Noting.{NotesValue, HasNotes, Notes}
+
+-- The broker and its sessions, the frames that are noted and not in the journal, and the journal.
+pub record KeptState (D : Type 0) : Type 0 where
+  pub world : World
+  pub notes : NotesValue
+  pub journal : JournalState D
+
+abbrev pub no_notes : NotesValue
+no_notes = record { frames = []; has_lacked = false }
+
+-- ---- the file
+
+-- the frames that groups hold, behind their sizes
+abbrev pub frames_in : List Group → List ℕ
+frames_in groups = flat_map (λ g. g.frames) groups
+
+-- A file has a head and groups, whose frames are these, and nothing else.
+pub record HoldsFrames (key : List ℕ) (file : List ℕ) (frames : List (List ℕ)) : Type 0 where
+  pub head : List ℕ
+  pub groups : List Group
+  pub size : length head ≡ HEAD_SIZE
+  pub parts : file ≡ head ++ groups_bytes key HEAD_SIZE groups
+  pub valid : AreGroups key HEAD_SIZE groups
+  pub frames_are : frames_in groups ≡ stream frames
+
+-- ---- what is kept
+
+-- The journal's frames lead from the state that its first frame found to that at a moment before which all has left that
+-- was sent; the frames that are noted since lead from there to the state now. `start` is the state in which no client had
+-- come, and `seen` gives what the file has, where that is known.
+pub record IsKept {D : Type 0} (seen : D → Option (List ℕ)) (first start : State) (k : KeptState D) : Type 0 where
+  pub before : List Event
+  pub mid : World
+  pub since : List Event
+  pub until : Run (new_world start) before mid
+  pub later : Run mid since k.world
+  pub silent : (client : ℕ) → sent_to client since ≡ []
+  pub frames : List (List ℕ)
+  pub replays : Replays first frames mid.state
+  pub holds : IfSome (seen k.journal.disk) (λ file. HoldsFrames k.journal.key file frames)
+  pub noted : Notes no_notes mid.state k.notes k.world.state
+
+-- ---- what is answered
+
+-- the seat while nothing may leave
+abbrev pub held_back : Seat → Seat
+held_back seat = record seat { may_write = false }
+
+-- A session is visited, over a connection to which nothing may be written: nothing is sent, and whether it may be written
+-- to stays as it was. The writer is none that anybody reads.
+pub record AnswersAt (who clock : ℕ) (seat : Seat) (old : World) (seat' : Seat) (new : World) (left left' : Option (List ℕ)) (visit : Visit) : Type 0 where
+  pub taken : Option (List ℕ)
+  pub taken' : Option (List ℕ)
+  pub visits : VisitsAt who clock (held_back seat) old (held_back seat') new left left' taken taken' visit
+  pub sends_nothing : visits.moved.sent ≡ []
+  pub may_write : seat'.may_write ≡ seat.may_write
+
+-- ---- what is put into the journal
+
+-- the journal's file has grown by the group of these frames, and a crash leaves all of it
+pub record Commits {D : Type 0} (seen : D → Option (List ℕ)) (may_leave : D → List ℕ → Type 0) (frames : List ℕ) (old new : JournalState D) : Type 0 where
+  pub appends : seen new.disk ≡ append_known (seen old.disk) (next_bytes old frames)
+  pub durable : LeavesAll (seen new.disk) (may_leave new.disk)
+
+-- why frames aren't put into the journal: memory lacked, and nothing has changed; or the journal's reason
+abbrev pub StopsCommit : {D : Type 0} (has_failed : D → Bool) (old new : KeptState D) → CommitError → Type 0
+StopsCommit has_failed old new OutOfMemory = (old.notes.has_lacked ≡ true) × (new ≡ old)
+StopsCommit has_failed old new (InJournal why) =
+    (old.notes.has_lacked ≡ false) × (new.notes ≡ old.notes) × StopsAppend has_failed old.journal new.journal old.notes.frames why
+
+-- ---- what is sent
+
+-- what came of it, by what the sessions say
+abbrev pub sent_of : Option (Result ℕ Why) → Option Sent
+sent_of None = None
+sent_of (Some (Ok count)) = Some (Bytes count)
+sent_of (Some (Err why)) = Some (Failed why)
+
+-- A front of what was owed left, or a write failed. While frames are noted nothing leaves, and nothing changes.
+abbrev pub Sends : (who : ℕ) (seat : Seat) (notes : NotesValue) (old : World) (seat' : Seat) (new : World) (taken taken' : Option (List ℕ)) → Sent → Type 0
+Sends who seat notes old seat' new taken taken' (Bytes count) = SendsAt who seat old seat' new taken taken' (Ok count)
+Sends who seat notes old seat' new taken taken' (Failed why) = SendsAt who seat old seat' new taken taken' (Err why)
+Sends who seat notes old seat' new taken taken' HeldBack = HasNotes notes × (new ≡ old) × (seat' ≡ seat) × (taken' ≡ taken)
+
+-- ---- what left
+
+-- There is a front of the frames that were handled, of all sessions in one order, such that each client was sent a front
+-- of the replies to its own frames of it, and the frames in the journal's file lead to the state after it.
+pub record LeavesNothingUnkept {D : Type 0} (seen : D → Option (List ℕ)) (first start : State) (k : KeptState D) : Type 0 where
+  pub events : List Event
+  pub run : Run (new_world start) events k.world
+  pub front : List (ℕ × Exchange)
+  pub behind : List (ℕ × Exchange)
+  pub handled : one_list events ≡ front ++ behind
+  pub state : State
+  pub in_turn : InTurn start (map (λ x. x.1) front) state
+  pub sent : (client : ℕ) → (owed : List ℕ) × (replied (own client front) ≡ sent_to client events ++ owed)
+  pub frames : List (List ℕ)
+  pub replays : Replays first frames state
+  pub holds : IfSome (seen k.journal.disk) (λ file. HoldsFrames k.journal.key file frames)

@@ -1,0 +1,5 @@
+-- Read in this order; each module uses only those above it.
+pub mod Replaying
+pub mod Noting
+pub mod NotingLaws
+pub mod Keeping

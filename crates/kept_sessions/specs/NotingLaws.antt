@@ -1,0 +1,32 @@
+-- By no frame nothing is noted; frames noted behind others are noted behind all.
+use Rattle.std.specs.Prelude.{◌≡◌, ℕ, false, pos, List, [], ◌∷◌, ◌++◌, length}
+use Rattle.std.specs.List.{AllByRecursion}
+use Rattle.std.proofs.Common.{refl, sym, ap, subst, ◌∙◌, append_assoc, append-nil}
+use Rattle.std.proofs.lemmas.Grind.{flat_map-append}
+use Rattle.frame_fields.specs.Frames.{IsWithinLimit, framed, stream}
+use Rattle.broker_state.specs.State.{State}
+use Rattle.kept_sessions.specs.Replaying.{Replays}
+use Rattle.kept_sessions.specs.Noting.{NotesValue, Notes}
+
+pub nothing_noted : (n : NotesValue) (s : State) → Notes n s n s
+nothing_noted n s = record { noted = []; frames = sym (append-nil n.frames); within = tt; exact = λ suffices. (suffices, refl) }
+
+pub replays_then : (s mid after : State) (fs gs : List (List ℕ)) → Replays s fs mid → Replays mid gs after → Replays s (fs ++ gs) after
+replays_then s mid after [] gs first others = subst (λ x. Replays x gs after) (sym first) others
+replays_then s mid after (f ∷ fs) gs first others = (first.0, first.1, replays_then first.0 mid after fs gs first.2 others)
+
+within_then : (fs gs : List (List ℕ)) → AllByRecursion (λ frame. IsWithinLimit (pos (length frame))) fs → AllByRecursion (λ frame. IsWithinLimit (pos (length frame))) gs
+    → AllByRecursion (λ frame. IsWithinLimit (pos (length frame))) (fs ++ gs)
+within_then [] gs first others = others
+within_then (f ∷ fs) gs first others = (first.0, within_then fs gs first.1 others)
+
+pub noted_then : (n m k : NotesValue) (s mid after : State) → Notes n s m mid → Notes m mid k after → Notes n s k after
+noted_then n m k s mid after first others = record {
+  noted = first.noted ++ others.noted;
+  frames = others.frames ∙ (ap (λ x. x ++ stream others.noted) first.frames
+      ∙ (append_assoc n.frames (stream first.noted) (stream others.noted) ∙ ap (λ x. n.frames ++ x) (sym (flat_map-append framed first.noted others.noted))));
+  within = within_then first.noted others.noted first.within others.within;
+  exact = λ suffices.
+      let later = others.exact suffices in let before = first.exact later.0 in
+      (before.0, replays_then s mid after first.noted others.noted before.1 later.1);
+}
