@@ -2,3 +2,4 @@ pub mod Handling
 pub mod Replayed
 pub mod Kept
 pub mod OneState
+pub mod Recovered

@@ -1,7 +1,7 @@
 -- A broker with the sessions of its clients and a journal: what it has done, what of it the journal has, and what left.
-use Rattle.std.specs.Prelude.{◌≡◌, ℕ, ◌+◌, Bool, true, false, List, [], ◌∷◌, ◌++◌, length, map, Option, Some, None, Result, Ok, Err, IfSome}
-use Rattle.std.specs.List.{flat_map}
-use Rattle.frame_fields.specs.Frames.{stream}
+use Rattle.std.specs.Prelude.{◌≡◌, ◌⊎◌, ℕ, ◌+◌, pos, drop, Bool, true, false, List, [], ◌∷◌, ◌++◌, length, map, Option, Some, None, Result, Ok, Err, IfSome}
+use Rattle.std.specs.List.{flat_map, AllByRecursion}
+use Rattle.frame_fields.specs.Frames.{IsWithinLimit, stream}
 use Rattle.broker_state.specs.State.{State}
 use Rattle.sessions.specs.Turns.{Exchange, InTurn, replied}
 use Rattle.sessions.specs.declared.visiting.Seat.{Seat}
@@ -15,9 +15,10 @@ use Rattle.std.specs.Io.KnownBytes.{append_known}
 use Rattle.journal.specs.Disks.{LeavesAll}
 use Rattle.sessions.specs.Orders.{Event, SendsAt, VisitsAt, World, Run, new_world, sent_to, one_list, own}
 use Rattle.journal.specs.declared.layout.TheConstants.{HEAD_SIZE}
-use Rattle.journal.specs.Files.{Group, AreGroups, groups_bytes}
-use Rattle.journal.specs.Journals.{JournalState, StopsAppend, next_bytes}
-use Rattle.kept_sessions.specs.Replaying.{Replays}
+use Rattle.journal.specs.Files.{Group, AreGroups, IsRead, groups_bytes}
+use Rattle.journal.specs.Crashes.{HasStranger}
+use Rattle.journal.specs.Journals.{JournalState, StopsAppend, next_bytes, next_group}
+use Rattle.kept_sessions.specs.Replaying.{Replays, ReplaysFrames}
 use Rattle.kept_sessions.specs.Noting.{NotesValue, HasNotes, Notes}
 
 -- The broker and its sessions, the frames that are noted and not in the journal, and the journal.
@@ -44,6 +45,10 @@ pub record HoldsFrames (key : List ℕ) (file : List ℕ) (frames : List (List �
   pub valid : AreGroups key HEAD_SIZE groups
   pub frames_are : frames_in groups ≡ stream frames
 
+-- each of the frames may be one
+abbrev pub AreWithinLimit : List (List ℕ) → Type 0
+AreWithinLimit frames = AllByRecursion (λ frame. IsWithinLimit (pos (length frame))) frames
+
 -- ---- what is kept
 
 -- The journal's frames lead from the state that its first frame found to that at a moment before which all has left that
@@ -57,6 +62,7 @@ pub record IsKept {D : Type 0} (seen : D → Option (List ℕ)) (first start : S
   pub later : Run mid since k.world
   pub silent : (client : ℕ) → sent_to client since ≡ []
   pub frames : List (List ℕ)
+  pub within : AreWithinLimit frames
   pub replays : Replays first frames mid.state
   pub holds : IfSome (seen k.journal.disk) (λ file. HoldsFrames k.journal.key file frames)
   pub noted : Notes no_notes mid.state k.notes k.world.state
@@ -119,3 +125,30 @@ pub record LeavesNothingUnkept {D : Type 0} (seen : D → Option (List ℕ)) (fi
   pub frames : List (List ℕ)
   pub replays : Replays first frames state
   pub holds : IfSome (seen k.journal.disk) (λ file. HoldsFrames k.journal.key file frames)
+
+-- ---- what a start finds
+
+-- What is read of a file's groups, and the state that their frames lead to.
+pub record Recovers (first : State) (key file : List ℕ) (recovered : State) : Type 0 where
+  pub groups : List Group
+  pub rest : List ℕ
+  pub count : ℕ
+  pub read : IsRead key HEAD_SIZE (drop HEAD_SIZE file) groups rest
+  pub replays : ReplaysFrames (frames_in groups) first recovered count
+
+-- a group is read that nobody wrote, where these should stand
+abbrev pub ReadsStranger : List Group → List Group → Type 0
+ReadsStranger groups missed = (written more : List Group) × (groups ≡ written ++ more) × HasStranger more missed
+
+-- Whatever a crash leaves of the file at any moment while the frames that are noted are put into it: a start comes to the
+-- state behind a front of the frames handled, of which all is that any client was sent, or to the state behind all of them.
+-- Or it reads a group that nobody wrote.
+pub record LosesNothing {D : Type 0} (seen : D → Option (List ℕ)) (first start : State) (k : KeptState D) (recovered : State) (groups : List Group) : Type 0 where
+  pub left : LeavesNothingUnkept seen first start k
+  pub state : (recovered ≡ left.state) ⊎ ((recovered ≡ k.world.state) ⊎ ReadsStranger groups (next_group k.journal k.notes.frames ∷ []))
+
+-- the journal's file is this, and all of it is on the disk
+pub record IsSettled {D : Type 0} (seen : D → Option (List ℕ)) (j : JournalState D) (file : List ℕ) : Type 0 where
+  pub file_is : seen j.disk ≡ Some file
+  pub size : length file ≡ j.end
+  pub synced : j.synced ≡ j.end

@@ -15,7 +15,7 @@ pub replays_then : (s mid after : State) (fs gs : List (List ℕ)) → Replays s
 replays_then s mid after [] gs first others = subst (λ x. Replays x gs after) (sym first) others
 replays_then s mid after (f ∷ fs) gs first others = (first.0, first.1, replays_then first.0 mid after fs gs first.2 others)
 
-within_then : (fs gs : List (List ℕ)) → AllByRecursion (λ frame. IsWithinLimit (pos (length frame))) fs → AllByRecursion (λ frame. IsWithinLimit (pos (length frame))) gs
+pub within_then : (fs gs : List (List ℕ)) → AllByRecursion (λ frame. IsWithinLimit (pos (length frame))) fs → AllByRecursion (λ frame. IsWithinLimit (pos (length frame))) gs
     → AllByRecursion (λ frame. IsWithinLimit (pos (length frame))) (fs ++ gs)
 within_then [] gs first others = others
 within_then (f ∷ fs) gs first others = (first.0, within_then fs gs first.1 others)
