@@ -6,11 +6,12 @@ Each bound is given on the command line or set by the system; processor time and
 import contextlib
 import re
 import select
+import signal
 import struct
 import time
 
 import frames
-from many_clients import LARGE, fill, frame, large_reply, works
+from many_clients import LARGE, ONE_READ, fill, frame, large_reply, works
 from started import SECONDS, Started, holds, is_soon, reply, request, same
 
 MEGABYTE = 1_000_000
@@ -81,7 +82,8 @@ def most_connections_reset(program):
 
 
 def few_files(program):
-    """Of the files that it may open it keeps 32 for others, and says at the start how many connections are left."""
+    """Of the files that it may open it keeps 32 for others, and says at the start how many connections are left. What it might
+    have if it asked for more doesn't count."""
     for files, most in ((36, 4), (33, 1), (24, 1)):
         with Started(program, files=files) as broker:
             served_in_turn(broker, broker.clients(most + 3), most)
@@ -320,6 +322,20 @@ def patience(program):
             it.ask("versions", "versions 0")
 
 
+def part_of_a_frame(program):
+    """Of a larger frame comes as much as one read takes, so that the read doesn't tell that no more is there; and then nothing."""
+    with Started(program) as broker, broker.client() as other, broker.client() as client:
+        client.ask("versions", "versions 0")
+        data = announced(LARGEST_FRAME) + bytes(ONE_READ - 4)
+        broker.process.send_signal(signal.SIGSTOP)
+        sent = client.send_what_is_taken(data)
+        broker.process.send_signal(signal.SIGCONT)
+        client.send(data[sent:])
+        works(other, 0, 5)
+        broker.rests("64 KiB of a larger frame came, and no more")
+        works(other, 5, 5)
+
+
 # ---- lines of ends
 
 
@@ -380,6 +396,7 @@ CASES = [
     ("a connection that is opened after a while", idle_from_the_start),
     ("a connection on which nothing moves, and new ones", idle_beside_new_ones),
     ("fifty connections that say nothing", patience),
+    ("a part of a frame, and nothing behind it", part_of_a_frame),
     ("400 ends at once", many_ends),
     ("240 refused frames", many_refusals),
 ]

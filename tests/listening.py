@@ -301,7 +301,7 @@ def full_errors(program):
 
 
 def closed_errors(program):
-    """Nobody reads standard error; it is closed; it is a full device. A connection that has its number is written no lines."""
+    """Nobody reads standard error; it is closed, so that the socket which listens has its number; it is a full device."""
     sink = left_pipe()
     with Started(program, stderr=sink) as broker:
         talks(broker)
@@ -347,6 +347,24 @@ def closed_output(program):
         talks(broker)
 
 
+def closed_streams(program):
+    """All three are closed, so that connections have their numbers. Of the first ones, which stay, none gets a line of the ends of
+    others, and each is served on."""
+    port, kept = free_port(), []
+    with Started(program, listen=f"127.0.0.1:{port}", closed=[0, 1, 2]) as broker:
+        when_it_listens(broker, port)
+        for offset in range(4):
+            kept.append(broker.client())
+            works(kept[-1], offset)
+        end = talks(broker, len(kept))
+        for offset, it in enumerate(kept, end):
+            came = b"" if it.gets_nothing(0.1) else it.socket.recv(LARGEST_LINE)
+            same("what comes to a connection that asked for nothing while others ended", came, b"")
+            works(it, offset)
+        for it in kept:
+            it.close()
+
+
 def streams_that_break(program):
     """Both are left while it runs, and standard error while lines come."""
     with Started(program) as broker:
@@ -379,5 +397,6 @@ CASES = [
     ("standard error that is full", full_errors),
     ("standard error that nobody reads", closed_errors),
     ("standard output that nobody reads", closed_output),
+    ("standard streams that are all closed", closed_streams),
     ("standard streams that break while it runs", streams_that_break),
 ]

@@ -20,6 +20,7 @@ import copies
 HERE = os.path.dirname(os.path.realpath(__file__))
 ROOT = os.path.dirname(HERE)
 SECONDS = 60  # that a client, or a look at what the program writes, waits at most
+FILES = 200  # that a program whose open files are limited could have if it raised the limit itself
 ENDED = re.compile(r"connection (\d+) (\S+): (.*)")
 MORE = re.compile(r"(\d+) more connections? ended")
 
@@ -175,8 +176,8 @@ class Started:
     """A `kbroker start` that runs until the `with` is left. It must not end before."""
 
     def __init__(self, program, *arguments, listen="127.0.0.1:0", topics=("t:4",), files=None, **ways):
-        """`files` is the number of files that it may have open; `ways` are the three standard streams as Popen has them, and
-        `closed`, those descriptors that it hasn't got."""
+        """`files` is the number of files that it may have open, below the one to which it might raise that; `ways` are the three
+        standard streams as Popen has them, and `closed`, those descriptors that it hasn't got."""
         place = [] if listen is None else ["--listen", listen]
         self.command = ["kbroker", "start", *place, *arguments, *topics]
         self.files, self.closed = files, ways.pop("closed", ())
@@ -189,7 +190,7 @@ class Started:
             signal.signal(it, signal.SIG_DFL)
         resource.setrlimit(resource.RLIMIT_CORE, (0, 0))
         if self.files is not None:
-            resource.setrlimit(resource.RLIMIT_NOFILE, (self.files, self.files))
+            resource.setrlimit(resource.RLIMIT_NOFILE, (self.files, FILES))
         for it in self.closed:
             os.close(it)
 
@@ -275,17 +276,26 @@ class Started:
             fields = file.read().rpartition(")")[2].split()
         return (int(fields[11]) + int(fields[12])) / os.sysconf("SC_CLK_TCK")
 
-    def rests(self, what):
-        """It must come to a half second in which it takes next to no processor time: a fifth of it at most."""
-        taken = []
+    def busy_seconds(self):
+        """The seconds in which it ran or waited for a processor: where all are busy, a program that never rests has as many of
+        these as on a quiet machine."""
+        with open(f"/proc/{self.process.pid}/schedstat", encoding="ascii") as file:
+            ran, waited = file.read().split()[:2]
+        return (int(ran) + int(waited)) / 1e9
+
+    def rests(self, what, meanwhile=lambda: time.sleep(0.5)):
+        """It must come to rest: to a half second, or what else goes on meanwhile, in which it runs, or waits for a processor, for
+        next to no time: a tenth of a second at most."""
+        busy = []
 
         def is_at_rest():
-            before = self.processor_seconds()
-            time.sleep(0.5)
-            taken.append(self.processor_seconds() - before)
-            return taken[-1] <= 0.1
+            before = self.busy_seconds()
+            meanwhile()
+            busy.append(self.busy_seconds() - before)
+            return busy[-1] <= 0.1
 
-        holds(f"{what}: {taken} s of processor time in half a second each", is_soon(is_at_rest, 5))
+        rested = is_soon(is_at_rest, 5)
+        holds(f"{what}: each time it ran or waited for a processor, for {[round(it, 3) for it in busy]} s", rested)
 
     def limit_files(self, count):
         """Lets it have descriptors below this from now on."""

@@ -55,6 +55,29 @@ def time_runs_out(program):
             holds(f"{took} s of {wait} ms", took >= wait / 1000 - 0.002)
 
 
+def late_by(consumer, wait):
+    """How many seconds after its time a Fetch is answered that waits so many milliseconds for nothing."""
+    began = time.monotonic()
+    consumer.send(fetch("t:0 0", wait))
+    consumer.gets(reply("fetched t:0 0 0"))
+    late = time.monotonic() - began - wait / 1000
+    holds(f"a fetch that waits {wait} ms is answered {-late:.3f} s before its time", late >= -0.002)
+    return late
+
+
+def rests_meanwhile(program):
+    """A wait that isn't of whole seconds costs next to no processor time. Its reply never comes before its time, and comes soon
+    after it, if not at each of several tries."""
+    with Started(program) as broker, broker.client() as consumer:
+        consumer.ask("versions", "versions 0")
+        for wait in (600, 900):
+            late = []
+            broker.rests(f"a fetch waits {wait} ms", lambda wait=wait, late=late: late.append(late_by(consumer, wait)))
+            if min(late) >= BRIEF:
+                late += [late_by(consumer, wait) for _ in range(5)]
+            holds(f"a fetch that waits {wait} ms is answered {late} s after its time", min(late) < BRIEF)
+
+
 def times_in_their_order(program):
     """Of two that wait the one whose time is over first is answered first, whoever asked first."""
     with Started(program) as broker, broker.client() as late, broker.client() as early, broker.client() as producer:
@@ -299,6 +322,7 @@ def most_held(program):
 CASES = [
     ("a fetch waits for what another produces", is_woken_by_produce),
     ("a fetch whose time runs out", time_runs_out),
+    ("a broker that rests while a fetch waits", rests_meanwhile),
     ("fetches' times in their order", times_in_their_order),
     ("the least bytes of a fetch", least_bytes),
     ("a trim makes a fetch due", trim_makes_due),
