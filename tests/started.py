@@ -278,9 +278,12 @@ class Started:
 
     def busy_seconds(self):
         """The seconds in which it ran or waited for a processor: where all are busy, a program that never rests has as many of
-        these as on a quiet machine."""
-        with open(f"/proc/{self.process.pid}/schedstat", encoding="ascii") as file:
-            ran, waited = file.read().split()[:2]
+        these as on a quiet machine. A system that doesn't count how long it waited tells the processor time alone."""
+        try:
+            with open(f"/proc/{self.process.pid}/schedstat", encoding="ascii") as file:
+                ran, waited = file.read().split()[:2]
+        except FileNotFoundError:
+            return self.processor_seconds()
         return (int(ran) + int(waited)) / 1e9
 
     def rests(self, what, meanwhile=lambda: time.sleep(0.5)):
