@@ -10,4 +10,4 @@ mod journals;
 mod lent;
 mod requests;
 mod snapshot_bytes;
-mod snapshots;
+mod snapshot_heads;
