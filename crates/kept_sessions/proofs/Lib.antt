@@ -3,3 +3,5 @@ pub mod Replayed
 pub mod Kept
 pub mod OneState
 pub mod Recovered
+pub mod GroupsReplayed
+pub mod StartedAgain

@@ -1,8 +1,8 @@
 -- One state comes of frames that are handled again.
-use Rattle.std.proofs.Common.{◌≡◌, ℕ, List, [], ◌∷◌, length, sym, ap, subst, refl, ◌∙◌, Option, inl, arith}
-use Rattle.request_frames.specs.Requests.{RequestValue, IsRequest}
+use Rattle.std.proofs.Common.{◌≡◌, ℕ, List, [], ◌∷◌, length, sym, ap, subst, ◌∙◌, Option, inl, arith}
+use Rattle.request_frames.specs.Requests.{RequestValue}
 use Rattle.request_frames.proofs.OneOutcome.{one_request}
-use Rattle.frame_fields.specs.Frames.{IsFrames, HasNoFrame, IsIncomplete}
+use Rattle.frame_fields.specs.Frames.{HasNoFrame}
 use Rattle.frame_fields.proofs.FramesCut.{one_cutting}
 use Rattle.broker_state.specs.State.{State}
 use Rattle.broker_node.specs.Replies.{IsReply}

@@ -15,7 +15,7 @@ use Rattle.std.specs.Io.KnownBytes.{append_known}
 use Rattle.journal.specs.Disks.{LeavesAll}
 use Rattle.sessions.specs.Orders.{Event, SendsAt, VisitsAt, World, Run, new_world, sent_to, one_list, own}
 use Rattle.journal.specs.declared.layout.TheConstants.{HEAD_SIZE}
-use Rattle.journal.specs.Files.{Group, AreGroups, IsRead, groups_bytes}
+use Rattle.journal.specs.Files.{Group, IsGroup, AreGroups, IsRead, groups_bytes}
 use Rattle.journal.specs.Crashes.{HasStranger}
 use Rattle.journal.specs.Journals.{JournalState, StopsAppend, next_bytes, next_group}
 use Rattle.kept_sessions.specs.Replaying.{Replays, ReplaysFrames}
@@ -89,6 +89,20 @@ pub record Commits {D : Type 0} (seen : D → Option (List ℕ)) (may_leave : D 
   pub appends : seen new.disk ≡ append_known (seen old.disk) (next_bytes old frames)
   pub durable : LeavesAll (seen new.disk) (may_leave new.disk)
 
+-- the journal's file has grown by the group of these frames, and no more of it is synced than before
+pub record Appends {D : Type 0} (seen : D → Option (List ℕ)) (frames : List ℕ) (old new : JournalState D) : Type 0 where
+  pub grows : seen new.disk ≡ append_known (seen old.disk) (next_bytes old frames)
+  pub end : new.end ≡ old.end + length (next_bytes old frames)
+  pub synced : new.synced ≡ old.synced
+
+-- the journal's file stays, and a crash leaves all of it
+pub record Syncs {D : Type 0} (seen : D → Option (List ℕ)) (may_leave : D → List ℕ → Type 0) (old new : JournalState D) : Type 0 where
+  pub file : seen new.disk ≡ seen old.disk
+  pub durable : LeavesAll (seen new.disk) (may_leave new.disk)
+  pub key : new.key ≡ old.key
+  pub end : new.end ≡ old.end
+  pub synced : new.synced ≡ new.end
+
 -- why frames aren't put into the journal: memory lacked, and nothing has changed; or the journal's reason
 abbrev pub StopsCommit : {D : Type 0} (has_failed : D → Bool) (old new : KeptState D) → CommitError → Type 0
 StopsCommit has_failed old new OutOfMemory = (old.notes.has_lacked ≡ true) × (new ≡ old)
@@ -152,3 +166,29 @@ pub record IsSettled {D : Type 0} (seen : D → Option (List ℕ)) (j : JournalS
   pub file_is : seen j.disk ≡ Some file
   pub size : length file ≡ j.end
   pub synced : j.synced ≡ j.end
+
+-- ---- what a kill of the process leaves
+
+-- the journal's file is this
+pub record IsWritten {D : Type 0} (seen : D → Option (List ℕ)) (j : JournalState D) (file : List ℕ) : Type 0 where
+  pub file_is : seen j.disk ≡ Some file
+  pub size : length file ≡ j.end
+
+-- An append is under way: some first bytes of the group that the noted frames make stand behind the file.
+pub record IsInAppend {D : Type 0} (k : KeptState D) (file left : List ℕ) : Type 0 where
+  pub suffices : k.notes.has_lacked ≡ false
+  pub valid : IsGroup k.journal.end (next_group k.journal k.notes.frames)
+  pub front : List ℕ
+  pub missing : List ℕ
+  pub parts : next_bytes k.journal k.notes.frames ≡ front ++ missing
+  pub left_is : left ≡ file ++ front
+
+-- a kill leaves what was written, also in the middle of an append
+abbrev pub LeavesWritten : {D : Type 0} → KeptState D → (file left : List ℕ) → Type 0
+LeavesWritten k file left = (left ≡ file) ⊎ IsInAppend k file left
+
+-- A start comes to the state behind a front of the frames handled, of which all is that any client was sent, or to the
+-- state behind all of them.
+pub record LosesNoneWritten {D : Type 0} (seen : D → Option (List ℕ)) (first start : State) (k : KeptState D) (recovered : State) : Type 0 where
+  pub left : LeavesNothingUnkept seen first start k
+  pub state : (recovered ≡ left.state) ⊎ (recovered ≡ k.world.state)

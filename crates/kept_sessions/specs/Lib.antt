@@ -3,3 +3,5 @@ pub mod Replaying
 pub mod Noting
 pub mod NotingLaws
 pub mod Keeping
+pub mod Recovering
+pub mod GroupSteps

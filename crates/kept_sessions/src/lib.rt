@@ -1,14 +1,19 @@
 //! A broker and the sessions of many clients, whose changes are kept in a journal.
 //!
 //! What may have changed the broker is noted frame by frame, in the order in which it was handled
-//! ([`FrameNotes`]); frames that are handled again lead to the same state ([`replay`]).
+//! ([`FrameNotes`]); frames that are handled again lead to the same state ([`replay`]). So a start reads the journal,
+//! handles its frames again ([`recover`]), and goes on with it ([`resume`]).
 #![tactic(auto)]
 
 mod keeper;
 pub mod laws;
 mod notes;
+mod recovering;
 mod replaying;
 
+pub use broker_node::{Answer, GROUP_TOPIC, Node};
 pub use keeper::{CommitError, Keeper, Sent};
 pub use notes::FrameNotes;
+pub use recovering::{RecoverError, ResumeError, recover, resume};
 pub use replaying::{ReplayError, replay};
+pub use sessions;
