@@ -1,0 +1,108 @@
+//! Why a broker doesn't start with a directory.
+
+use broker_state::{ConfigError, Role};
+use data_directory::Name;
+use journal::{OpenError, ReadError};
+use kept_sessions::ReplayError;
+use snapshots::SnapshotError;
+use std::alloc::{AllocError, Allocator};
+use std::io::{Error, ErrorKind};
+use thiserror::Error;
+
+/// Why a broker doesn't start with a directory. Nothing in the directory has changed, but where a call failed.
+#[derive(Drop)]
+pub enum StartFault<A: Allocator> {
+    /// A broker didn't write these bytes.
+    Damaged {
+        name: Name,
+        /// The byte offset in the file.
+        at: u64,
+        why: Damage,
+    },
+    /// A later program wrote the file: its form isn't known, or what its frames mean.
+    Later(Name, LaterWhy),
+    /// A file isn't there, though others are.
+    Missing(Name),
+    /// What has the name is no regular file.
+    NotRegular(Name),
+    /// The directory is that of a broker with another role.
+    OtherRole(Role),
+    /// The directory is that of a broker which gave out this producer id first.
+    OtherFirstProducer(i64),
+    /// The directory has so many partitions of the topic; where these are none it has no such topic.
+    OtherTopic {
+        name: Vec<u8, A>,
+        partitions: usize,
+    },
+    /// The configuration is refused.
+    Configuration(ConfigError),
+    /// There is no memory.
+    OutOfMemory,
+    /// A call of the system failed: of a file, or of the directory.
+    Failed(Option<Name>, Error),
+}
+
+/// What is known of a file that a later program wrote.
+#[derive(Clone, Copy, Debug, PartialEq, Eq, Error)]
+pub enum LaterWhy {
+    /// It has the name of a later file.
+    #[error("Name")]
+    Name,
+    /// Its version is another one.
+    #[error("BadVersion")]
+    BadVersion,
+    /// The definitions by which its frames were handled have another meaning.
+    #[error("BadMeaning")]
+    BadMeaning,
+    /// It is the snapshot of a broker that isn't empty.
+    #[error("NotEmpty")]
+    NotEmpty,
+}
+
+/// What is wrong with a file.
+#[derive(Debug, Drop, Error)]
+pub enum Damage {
+    /// The head of a journal.
+    #[error("{0}")]
+    Journal(OpenError),
+    /// The head of a snapshot.
+    #[error("{0}")]
+    Snapshot(SnapshotError),
+    /// The number isn't that of the file's name.
+    #[error("BadNumber")]
+    BadNumber,
+    /// The role is neither a leader's nor a follower's.
+    #[error("BadRole")]
+    BadRole,
+    /// The images aren't those of empty copies.
+    #[error("BadImage")]
+    BadImage,
+    /// A sound group has a frame that isn't handled again.
+    #[error("{0}")]
+    Frame(ReplayError),
+    /// No sound group stands there, though one behind it says that more was on the disk.
+    #[error("LaterSync")]
+    LaterSync,
+}
+
+impl<A: Allocator> From<AllocError> for StartFault<A> {
+    fn from(_: AllocError) -> StartFault<A> {
+        StartFault::OutOfMemory
+    }
+}
+
+/// What it means that a call failed.
+pub(crate) fn failed<A: Allocator>(name: Option<Name>, why: Error) -> StartFault<A> {
+    match why.kind() {
+        ErrorKind::OutOfMemory => StartFault::OutOfMemory,
+        _ => StartFault::Failed(name, why),
+    }
+}
+
+/// What it means that a file can't be read.
+pub(crate) fn unread<A: Allocator>(name: Name, why: ReadError) -> StartFault<A> {
+    match why {
+        ReadError::OutOfMemory => StartFault::OutOfMemory,
+        ReadError::OnDisk(why) => failed(Some(name), why),
+    }
+}

@@ -1,0 +1,28 @@
+//! The start of a broker whose changes are kept in a directory.
+//!
+//! [`start`] reads and judges all that is there, and handles the journal's frames again, before a byte changes. Then it
+//! cuts what a crash left behind the last sound group, and gives the broker; or it makes the files of a directory that
+//! has none. A directory that it doesn't take is refused by a [`StartFault`], and stays as it was.
+//!
+//! The files of a directory are `snapshot.1`, of an empty broker and its configuration, and `journal.1`, of all that may
+//! have changed it since. They are made in this order: the journal's head, then the snapshot under the name
+//! `snapshot.tmp`, which it loses once it is on the disk. So where `snapshot.1` stands the journal is whole, and a
+//! journal without a group and without `snapshot.1` is one that was being made.
+//!
+//! What a listener needs of the crates below is handed on.
+#![tactic(auto)]
+
+mod configuration;
+mod faults;
+mod making;
+mod reading;
+mod snapshot;
+mod standing;
+mod starting;
+
+pub use broker_state::{Config, ConfigError, Role, TopicConfig};
+pub use data_directory::{Directory, Folder, FolderError, Kind, Name};
+pub use faults::{Damage, LaterWhy, StartFault};
+pub use journal::{Disk, FileDisk, JournalError};
+pub use kept_sessions::{Answer, CommitError, GROUP_TOPIC, Keeper, Node, Sent, sessions};
+pub use starting::{MEANING, Started, start};
