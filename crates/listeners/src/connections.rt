@@ -2,13 +2,12 @@
 
 use crate::ending::{Ended, Ending, ending_of};
 use crate::incoming::Incoming;
-use broker_core::Node;
+use crate::serving_sessions::{ServedSessions, Unkept};
 use indexmap::IndexMap;
+use kept_starts::sessions::{MOST_OWED, Seat, Session, Then, Visit, Why};
 use mio::event::Event;
 use mio::net::TcpStream;
 use mio::{Interest, Registry, Token};
-use segment::BatchStore;
-use sessions::{MOST_OWED, Plainly, Seat, Session, Sessions, Then, Visit, Why};
 use std::alloc::Global;
 use std::collections::VecDeque;
 use std::io::Result;
@@ -28,6 +27,8 @@ struct Connection {
     seat: Seat,
     /// Whether it stands among those to be visited.
     is_ready: bool,
+    /// Whether it stands among those to which something is sent at the end of the round.
+    is_outgoing: bool,
     /// Whether an event said that it has failed.
     is_failed: bool,
     /// How many bytes it holds and is owed, and what is kept of a frame that waits.
@@ -44,6 +45,7 @@ impl Connection {
             address,
             seat: Seat::new(),
             is_ready: false,
+            is_outgoing: false,
             is_failed: false,
             held: 0,
             moved: now,
@@ -53,11 +55,13 @@ impl Connection {
 
 /// The sessions of a broker and their connections, each by the number of its session.
 #[derive(Drop)]
-pub(crate) struct Connections<S: BatchStore> {
-    sessions: Sessions<S, Global>,
+pub(crate) struct Connections<B: ServedSessions> {
+    sessions: B,
     by_number: IndexMap<u64, Connection>,
     /// The numbers of those to be visited, each once, and of some that have ended.
     ready: VecDeque<u64>,
+    /// The numbers of those to which something is sent at the end of the round, likewise.
+    outgoing: VecDeque<u64>,
     /// How many bytes all hold and are owed.
     held: u64,
 }
@@ -75,25 +79,49 @@ fn make_ready(ready: &mut VecDeque<u64>, number: u64, connection: &mut Connectio
     }
 }
 
+/// Has something sent to a connection at the end of the round, where there is room for its number.
+fn make_outgoing(outgoing: &mut VecDeque<u64>, number: u64, connection: &mut Connection) {
+    if !connection.is_outgoing {
+        connection.is_outgoing = outgoing.push_back(number).is_ok();
+    }
+}
+
 /// The token of a connection. No two have the same, since no number is used twice.
 fn token_of(number: u64) -> Token {
     Token(number as usize)
 }
 
-impl<S: BatchStore> Connections<S> {
-    /// No connection, of a broker.
-    ///
-    /// # Errors
-    ///
-    /// Out of memory.
-    pub(crate) fn new(alloc: Global, node: Node<S>) -> Result<Connections<S>> {
-        let sessions = Sessions::new(alloc, node)?;
-        Ok(Connections {
+impl<B: ServedSessions + Drop> Connections<B> {
+    /// No connection, of a broker's sessions.
+    pub(crate) fn new(alloc: Global, sessions: B) -> Connections<B> {
+        Connections {
             sessions,
             by_number: IndexMap::new(alloc),
             ready: VecDeque::new(alloc),
+            outgoing: VecDeque::new(alloc),
             held: 0,
-        })
+        }
+    }
+}
+
+impl<B: ServedSessions> Connections<B> {
+    /// Whether so much was done in this round that the others are to wait for the next one.
+    pub(crate) fn is_full(&self) -> bool {
+        self.sessions.is_full()
+    }
+
+    /// Keeps what was done in this round: then what is owed for it may leave.
+    ///
+    /// # Errors
+    ///
+    /// It can't be kept: nothing more may leave.
+    pub(crate) fn settle(&mut self, now: Instant) -> std::result::Result<(), Unkept> {
+        self.sessions.settle(now)
+    }
+
+    /// When there is something to settle, if nothing is done until then.
+    pub(crate) fn settle_at(&self) -> Option<Instant> {
+        self.sessions.settle_at()
     }
 
     /// How many are open.
@@ -209,14 +237,9 @@ impl<S: BatchStore> Connections<S> {
         let connection = self.by_number.get_mut(&number)?;
         connection.is_ready = false;
         let (mut from, mut to) = (Incoming::new(&connection.stream), &connection.stream);
-        let visit = self.sessions.visit(
-            number,
-            clock,
-            &mut Plainly,
-            &mut connection.seat,
-            &mut from,
-            &mut to,
-        )?;
+        let visit = self
+            .sessions
+            .visit(number, clock, &mut connection.seat, &mut from, &mut to)?;
         let is_drained = from.is_drained() && !connection.seat.is_closing;
         if is_drained {
             connection.seat.may_read = false;
@@ -224,18 +247,37 @@ impl<S: BatchStore> Connections<S> {
         if visit.answered > 0 || visit.sent > 0 {
             connection.moved = now;
         }
-        let session = self.sessions.session(number)?;
+        self.count_held(number);
+        self.go_on(number, visit, is_drained)
+    }
+
+    /// Counts anew what a connection holds and is owed.
+    fn count_held(&mut self, number: u64) -> Option<()> {
         let awaited = (self.sessions.awaited(number) as u64).saturating_mul(AWAITED_BYTES);
+        let session = self.sessions.session(number)?;
         let held = (session.held() as u64)
             .saturating_add(session.owed() as u64)
             .saturating_add(awaited);
+        let connection = self.by_number.get_mut(&number)?;
         self.held = self
             .held
             .saturating_sub(connection.held)
             .saturating_add(held);
         connection.held = held;
+        None
+    }
+
+    /// Has a connection visited again, or something sent to it, where a visit left that to do. Gives why it is over, if it
+    /// is.
+    fn go_on(&mut self, number: u64, visit: Visit, is_drained: bool) -> Option<Why> {
+        let session = self.sessions.session(number)?;
+        let connection = self.by_number.get_mut(&number)?;
+        if !B::SENDS_AT_ONCE && session.owed() > 0 && connection.seat.may_write {
+            make_outgoing(&mut self.outgoing, number, connection);
+        }
+        let is_quiet = is_drained && (!B::SENDS_AT_ONCE || is_done(&visit, session));
         match visit.then {
-            Then::Again if is_drained && is_done(&visit, session) => None,
+            Then::Again if is_quiet => None,
             Then::Again => {
                 make_ready(&mut self.ready, number, connection);
                 None
@@ -243,6 +285,48 @@ impl<S: BatchStore> Connections<S> {
             Then::Idle => None,
             Then::Over(why) => Some(why),
         }
+    }
+
+    /// How many connections are to be sent something, with some that have ended.
+    pub(crate) fn outgoing_count(&self) -> usize {
+        self.outgoing.len()
+    }
+
+    /// Sends the first of the connections that wait for it what it is owed. Gives its end, if a write failed.
+    pub(crate) fn send_next(&mut self, now: Instant) -> Option<Ended> {
+        let number = self.outgoing.pop_front()?;
+        let connection = self.by_number.get_mut(&number)?;
+        connection.is_outgoing = false;
+        let mut to = &connection.stream;
+        match self.sessions.send(number, &mut connection.seat, &mut to)? {
+            Ok(sent) => {
+                if sent > 0 {
+                    connection.moved = now;
+                }
+                self.count_held(number);
+                self.go_on_sent(number);
+                None
+            }
+            Err(why) => {
+                let why = ending_of(self.sessions.session(number)?, why);
+                self.end(number, why)
+            }
+        }
+    }
+
+    /// Has a connection visited again to which something was sent, where that may have left something to do: a frame that
+    /// is held, a read or an end that waited, or more to send.
+    fn go_on_sent(&mut self, number: u64) -> Option<()> {
+        let session = self.sessions.session(number)?;
+        let connection = self.by_number.get_mut(&number)?;
+        let owed = session.owed();
+        let seat = &connection.seat;
+        let may_answer = owed < MOST_OWED
+            && (session.held() > 0 || seat.may_read || seat.at_end || seat.is_closing);
+        if may_answer || (owed > 0 && connection.seat.may_write) {
+            make_ready(&mut self.ready, number, connection);
+        }
+        None
     }
 
     /// Ends a connection.

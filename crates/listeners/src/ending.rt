@@ -1,7 +1,7 @@
 //! Why a connection ended, as its line says it.
 
 use frame_fields::FrameError;
-use sessions::{Session, Why};
+use kept_starts::sessions::{Session, Why};
 use std::alloc::Global;
 use std::fmt;
 use std::io::ErrorKind;

@@ -7,15 +7,17 @@ mod connection;
 mod connections;
 mod ending;
 mod incoming;
+mod keeping;
 mod options;
 mod reports;
 mod rounds;
 mod serving;
+mod serving_sessions;
 mod standard_streams;
 mod starting;
 
 pub use connection::{Connection, Replies, Requests};
-pub use options::{ServeOptions, StartOptions};
+pub use options::{KeptOptions, ServeOptions, StartOptions, SyncWay};
 pub use serving::listen;
 pub use standard_streams::PromptStream;
 pub use starting::start;

@@ -1,8 +1,9 @@
 //! What brokers that listen are asked for.
 
-use broker_core::Config;
 use std::alloc::Global;
 use std::net::SocketAddr;
+use std::string::String;
+use subcommands::Config;
 
 /// A broker that listens for one connection after the other, at the port of its configuration.
 #[derive(Drop)]
@@ -10,6 +11,26 @@ pub struct ServeOptions {
     pub config: Config<Global>,
     /// How many connections it serves.
     pub connections: u32,
+}
+
+/// When a journal is synced.
+#[derive(Clone, Copy, Debug, PartialEq, Eq)]
+pub enum SyncWay {
+    /// Before anything leaves that it keeps.
+    Always,
+    /// So many milliseconds after it grew at the latest, from 1 to 60,000.
+    Every(u32),
+    /// When the system does.
+    Never,
+}
+
+/// Where a broker keeps what it acknowledged, and when it syncs.
+#[derive(Drop)]
+pub struct KeptOptions {
+    /// The directory of its files.
+    pub directory: String,
+    /// When its journal is synced.
+    pub sync: SyncWay,
 }
 
 /// A broker that listens for many connections at once.
@@ -25,4 +46,6 @@ pub struct StartOptions {
     pub most_held: u64,
     /// After how many seconds a connection ends on which nothing moved, from 1.
     pub idle: u64,
+    /// Where what it acknowledged is kept; it is kept in memory alone where this is `None`.
+    pub kept: Option<KeptOptions>,
 }

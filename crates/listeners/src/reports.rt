@@ -1,7 +1,7 @@
 //! Lines on standard error about connections: never many in a second, and never waited for.
 
 use crate::ending::Ended;
-use std::alloc::Global;
+use std::alloc::{AllocError, Global};
 use std::fmt;
 use std::fmt::Display;
 use std::io::{Error, ErrorKind, Write};
@@ -21,6 +21,14 @@ impl fmt::Display for Reason<'_> {
             ErrorKind::Uncategorized => Display::fmt(self.0, f),
             kind => Display::fmt(&kind, f),
         }
+    }
+}
+
+/// Writes a line in one piece, where there is memory for it, and whether or not it can be written.
+pub(crate) fn say<W: Write>(line: Result<String, AllocError>, out: &mut W) {
+    if let Ok(line) = line {
+        let _ = out.write_all(line.as_bytes());
+        let _ = out.flush();
     }
 }
 

@@ -4,9 +4,9 @@ use crate::accepting::{Accepted, Acceptor, LISTENER};
 use crate::connections::{Connections, sooner};
 use crate::ending::Ended;
 use crate::reports::{Reports, is_over};
+use crate::serving_sessions::{ServedSessions, Unkept};
 use mio::net::TcpStream;
 use mio::{Events, Poll};
-use segment::BatchStore;
 use std::io::{Error, Result, Write};
 use std::net::SocketAddr;
 use std::time::{Clock, Duration, Instant};
@@ -28,11 +28,11 @@ pub(crate) struct Bounds {
 
 /// A broker that listens, between two rounds.
 #[derive(Drop)]
-pub(crate) struct Rounds<S: BatchStore> {
+pub(crate) struct Rounds<B: ServedSessions> {
     poll: Poll,
     events: Events,
     acceptor: Acceptor,
-    connections: Connections<S>,
+    connections: Connections<B>,
     reports: Reports,
     bounds: Bounds,
     /// When the first round began: from then on the clock of those that wait counts.
@@ -43,6 +43,21 @@ pub(crate) struct Rounds<S: BatchStore> {
     look_at: Option<Instant>,
 }
 
+/// Why a broker makes no further round.
+#[derive(Drop)]
+pub(crate) enum Stop {
+    /// The system gives no more events or connections.
+    Listening(Error),
+    /// What was done can't be kept.
+    Keeping(Unkept),
+}
+
+impl From<Error> for Stop {
+    fn from(error: Error) -> Stop {
+        Stop::Listening(error)
+    }
+}
+
 /// What the clock says; where it can't be read, the time before.
 fn time<R: Clock>(rt: &R, before: Instant) -> Instant {
     match Instant::now(rt) {
@@ -51,17 +66,17 @@ fn time<R: Clock>(rt: &R, before: Instant) -> Instant {
     }
 }
 
-impl<S: BatchStore> Rounds<S> {
+impl<B: ServedSessions> Rounds<B> {
     /// A broker before its first round.
     pub(crate) fn new(
         poll: Poll,
         events: Events,
         acceptor: Acceptor,
-        connections: Connections<S>,
+        connections: Connections<B>,
         reports: Reports,
         bounds: Bounds,
         now: Instant,
-    ) -> Rounds<S> {
+    ) -> Rounds<B> {
         Rounds {
             poll,
             events,
@@ -79,13 +94,18 @@ impl<S: BatchStore> Rounds<S> {
     ///
     /// # Errors
     ///
-    /// The system gives no more events or connections.
-    pub(crate) fn run<R: Clock, E: Write>(&mut self, rt: &R, err: &mut E) -> Result<()> {
+    /// The system gives no more events or connections, or what was done can't be kept.
+    pub(crate) fn run<R: Clock, E: Write>(
+        &mut self,
+        rt: &R,
+        err: &mut E,
+    ) -> std::result::Result<(), Stop> {
         for _ in 0..u64::MAX {
             self.wait(rt)?;
             self.accept(err)?;
             self.wake();
             self.visit_ready(err);
+            self.release(err)?;
             self.wake();
             self.look_for_idle(err);
             self.reports.catch_up(self.now, err);
@@ -100,6 +120,7 @@ impl<S: BatchStore> Rounds<S> {
         }
         let accept_at = self.acceptor.due(self.connections.count(), self.now);
         let first = sooner(accept_at, sooner(self.look_at, self.reports.due()));
+        let first = sooner(first, self.connections.settle_at());
         let first = sooner(first, self.next_due())?;
         Some(first.duration_since(self.now))
     }
@@ -176,14 +197,34 @@ impl<S: BatchStore> Rounds<S> {
         self.connections.wake(clock);
     }
 
-    /// Visits each connection that is ready once.
+    /// Visits each connection that is ready once, unless much is to be kept before.
     fn visit_ready<E: Write>(&mut self, err: &mut E) {
         let clock = self.clock();
         for _ in 0..self.connections.ready_count() {
+            if self.connections.is_full() {
+                break;
+            }
             let ended = self.connections.visit_next(self.now, clock);
             self.note_end(ended, err);
             self.keep_bounds(err);
         }
+    }
+
+    /// Keeps what was done in this round, and then sends what is owed for it.
+    ///
+    /// # Errors
+    ///
+    /// It can't be kept. Nothing is sent.
+    fn release<E: Write>(&mut self, err: &mut E) -> std::result::Result<(), Stop> {
+        match self.connections.settle(self.now) {
+            Ok(()) => {}
+            Err(why) => return Err(Stop::Keeping(why)),
+        }
+        for _ in 0..self.connections.outgoing_count() {
+            let ended = self.connections.send_next(self.now);
+            self.note_end(ended, err);
+        }
+        Ok(())
     }
 
     /// Ends connections, the largest first, while all together hold too much.

@@ -8,13 +8,15 @@ ghost use Rattle.listeners.specs.Ports.{at_port};
 
 use crate::connection::{Connection, Replies, Requests};
 use crate::options::ServeOptions;
-use broker_core::{Config, ConfigError, Ended, Node, SessionError, serve};
 use segment::ProgramStore;
 use std::alloc::Global;
 use std::io::{Result as IoResult, Write};
 use std::net::{TcpListener, TcpStream};
 use streams::{Sink, Source};
-use subcommands::{DONE, SessionFault, fail_session, refuse_configuration};
+use subcommands::{
+    Config, ConfigError, DONE, Ended, Node, SessionError, SessionFault, fail_session,
+    refuse_configuration, serve,
+};
 
 /// How a connection's line names what ended it, other than the end of its input.
 fn name_of(why: &SessionError) -> &'static str {

@@ -4,19 +4,25 @@ ghost use Rattle.std.specs.Prelude.{◌+◌, ◌<◌, ◌≤◌};
 
 use crate::accepting::Acceptor;
 use crate::connections::Connections;
-use crate::options::StartOptions;
-use crate::reports::{Reason, Reports};
-use crate::rounds::{Bounds, Rounds};
-use broker_core::{Config, ConfigError, Node, TopicConfig};
+use crate::keeping::{fail_keeping, kept_node};
+use crate::options::{KeptOptions, StartOptions};
+use crate::reports::{Reason, Reports, say};
+use crate::rounds::{Bounds, Rounds, Stop};
+use crate::serving_sessions::{Kept, ServedSessions};
+use kept_starts::sessions::Sessions;
 use libc::RLIMIT_NOFILE;
 use libc::types::rlimit;
 use mio::{Events, Poll};
-use segment::{BatchStore, ProgramStore};
-use std::alloc::{AllocError, Global};
+use segment::ProgramStore;
+use std::alloc::{Alloc, AllocError, Global};
+use std::fs::{File, Files};
 use std::io::{Error, ErrorKind, Result as IoResult, Write};
 use std::net::{Net, SocketAddr};
+use std::random::RandomSource;
 use std::time::{Clock, Instant};
-use subcommands::{FAILED, NO_MEMORY, refuse_configuration};
+use subcommands::{
+    Config, ConfigError, FAILED, NO_MEMORY, Node, TopicConfig, refuse_configuration,
+};
 
 /// How many files stay free for other uses than connections.
 const OTHER_FILES: u64 = 32;
@@ -34,14 +40,6 @@ fn open_files() -> u64 {
         return u64::MAX;
     }
     limit.rlim_cur
-}
-
-/// Writes a line in one piece, where there is memory for it, and whether or not it can be written.
-fn say<W: Write>(line: Result<String, AllocError>, out: &mut W) {
-    if let Ok(line) = line {
-        let _ = out.write_all(line.as_bytes());
-        let _ = out.flush();
-    }
 }
 
 /// Says why a broker can't listen at an address, or no longer, and answers the status: 3 out of memory, 4
@@ -94,17 +92,13 @@ fn fault_of(alloc: Global, config: &Config<Global>) -> Option<ConfigError> {
     Node::<ProgramStore<Global>>::new(alloc, config).err()
 }
 
-/// A new broker of a configuration that names a port; port 0 stands for the one at which it listens.
-fn node_at(
-    alloc: Global,
-    config: Config<Global>,
-    port: u16,
-) -> Result<Node<ProgramStore<Global>>, ConfigError> {
+/// A configuration that names a port; port 0 stands for the one at which the broker listens.
+fn config_at(config: Config<Global>, port: u16) -> Config<Global> {
     let mut listening = config;
     if listening.port == 0 {
         listening.port = port;
     }
-    Node::new(alloc, listening)
+    listening
 }
 
 /// A broker at a socket that listens, before its first round.
@@ -112,58 +106,131 @@ fn node_at(
 /// # Errors
 ///
 /// The system gives no events or no time, or there is no memory.
-fn set_up<R: Net + Clock, S: BatchStore>(
+fn set_up<R: Net + Clock, B: ServedSessions + Drop>(
     rt: &R,
     alloc: Global,
-    node: Node<S>,
+    sessions: B,
     acceptor: Acceptor,
     bounds: Bounds,
-) -> IoResult<Rounds<S>> {
+) -> IoResult<Rounds<B>> {
     let poll = Poll::new(rt)?;
     let events = Events::with_capacity(alloc, EVENTS)?;
     let now = Instant::now(rt)?;
     let mut listening = acceptor;
     listening.register(poll.registry())?;
-    let connections = Connections::new(alloc, node)?;
+    let connections = Connections::new(alloc, sessions);
     let reports = Reports::new(alloc);
     Ok(Rounds::new(poll, events, listening, connections, reports, bounds, now))
 }
 
-/// Listens for connections and serves them, until the system gives no more.
+/// Listens for connections and serves them, until it can no longer.
 ///
 /// # Errors
 ///
-/// The system gives no more events or connections, or no memory at the start.
-fn listen<R: Net + Clock, S: BatchStore, W: Write, E: Write>(
+/// The system gives no more events or connections, or no memory at the start; or what was done can't be kept.
+fn listen<R: Net + Clock, B: ServedSessions + Drop, W: Write, E: Write>(
     rt: &R,
     alloc: Global,
-    node: Node<S>,
+    sessions: B,
     acceptor: Acceptor,
     bounds: Bounds,
     out: &mut W,
     err: &mut E,
-) -> IoResult<()> {
+) -> Result<(), Stop> {
     let address = acceptor.address();
-    let mut rounds = set_up(rt, alloc, node, acceptor, bounds)?;
+    let mut rounds = set_up(rt, alloc, sessions, acceptor, bounds)?;
     say(format!(in alloc; "listening {address}\n"), out);
     rounds.run(rt, err)
+}
+
+/// Says how many connections there may be, where these are fewer than were asked for.
+fn say_most<E: Write>(alloc: Global, files: u64, most: u64, asked: u64, err: &mut E) {
+    if most < asked {
+        say(
+            format!(in alloc;
+                "connections: {most} of {asked}, as the system allows {files} open files\n"
+            ),
+            err,
+        );
+    }
+}
+
+/// Serves as a broker that keeps nothing on disk, and answers the status.
+fn start_unkept<R: Net + Clock, W: Write, E: Write>(
+    rt: &R,
+    alloc: Global,
+    config: Config<Global>,
+    acceptor: Acceptor,
+    bounds: Bounds,
+    out: &mut W,
+    err: &mut E,
+) -> u8
+    ensures is_status { result ≤ 4 }
+{
+    let address = acceptor.address();
+    let node: Node<ProgramStore<Global>> = match Node::new(alloc, config) {
+        Ok(node) => node,
+        Err(why) => return refuse_configuration(why, err),
+    };
+    say(
+        String::from_str(alloc, "nothing is kept on disk: --data DIR keeps it\n"),
+        err,
+    );
+    let sessions = match Sessions::new(alloc, node) {
+        Ok(sessions) => sessions,
+        Err(why) => return fail_at(alloc, address, &Error::from(why), err),
+    };
+    match listen(rt, alloc, sessions, acceptor, bounds, out, err) {
+        Ok(()) | Err(Stop::Keeping(_)) => FAILED,
+        Err(Stop::Listening(why)) => fail_at(alloc, address, &why, err),
+    }
+}
+
+/// Serves as a broker that keeps its changes in a directory, and answers the status.
+fn start_kept<
+    R: Net + Clock + Files<File = File> + RandomSource + Alloc + Clone + Drop,
+    W: Write,
+    E: Write,
+>(
+    rt: &R,
+    alloc: Global,
+    config: Config<Global>,
+    kept: &KeptOptions,
+    acceptor: Acceptor,
+    bounds: Bounds,
+    out: &mut W,
+    err: &mut E,
+) -> u8
+    ensures is_status { result ≤ 4 }
+{
+    let address = acceptor.address();
+    let (_folder, keeper) = match kept_node(rt, alloc, config, &kept.directory, err) {
+        Ok(kept) => kept,
+        Err(status) => return status,
+    };
+    let sessions = Kept::new(keeper, kept.sync);
+    match listen(rt, alloc, sessions, acceptor, bounds, out, err) {
+        Ok(()) => FAILED,
+        Err(Stop::Listening(why)) => fail_at(alloc, address, &why, err),
+        Err(Stop::Keeping(why)) => fail_keeping(alloc, &kept.directory, &why, err),
+    }
 }
 
 /// Runs a broker that listens for many connections at once, and serves them side by side, each frame
 /// of any of them by itself. It goes on until it is ended from outside. Answers a status only where it
 /// can't: 2 the configuration is refused, and nothing listened; 3 out of memory; 4 it can't listen, or
-/// can no longer. Each comes with one line on `err`.
+/// can no longer. Each comes with one line on `err`. Where it is to keep what it acknowledges in a directory, it
+/// answers 1 too, where that is damaged or of a later program; 2, where it is of another configuration; and 4, where a
+/// call on its files fails, also later. Then what wasn't kept hasn't left.
 ///
 /// On `out` comes the line `listening ADDRESS:PORT` as soon as it listens. On `err` come lines on
 /// connections that ended, at most 100 in a second, and on others that can't be accepted. Neither ends
 /// the broker by failing, and neither should be one that waits: [`PromptStream`](crate::PromptStream).
-pub fn start<R: Net + Clock, W: Write, E: Write>(
-    rt: &R,
-    alloc: Global,
-    options: StartOptions,
-    out: &mut W,
-    err: &mut E,
-) -> u8
+pub fn start<
+    R: Net + Clock + Files<File = File> + RandomSource + Alloc + Clone + Drop,
+    W: Write,
+    E: Write,
+>(rt: &R, alloc: Global, options: StartOptions, out: &mut W, err: &mut E) -> u8
     ensures is_status { result ≤ 4 }
 {
     if let Some(why) = fault_of(alloc, &options.config) {
@@ -180,21 +247,10 @@ pub fn start<R: Net + Clock, W: Write, E: Write>(
         Ok(acceptor) => acceptor,
         Err(why) => return fail_at(alloc, options.listen, &why, err),
     };
-    let address = acceptor.address();
-    let node = match node_at(alloc, options.config, address.port()) {
-        Ok(node) => node,
-        Err(why) => return refuse_configuration(why, err),
-    };
-    if most < asked {
-        say(
-            format!(in alloc;
-                "connections: {most} of {asked}, as the system allows {files} open files\n"
-            ),
-            err,
-        );
-    }
-    match listen(rt, alloc, node, acceptor, bounds, out, err) {
-        Ok(()) => FAILED,
-        Err(why) => fail_at(alloc, address, &why, err),
+    say_most(alloc, files, most, asked, err);
+    let config = config_at(options.config, acceptor.address().port());
+    match options.kept {
+        Some(kept) => start_kept(rt, alloc, config, &kept, acceptor, bounds, out, err),
+        None => start_unkept(rt, alloc, config, acceptor, bounds, out, err),
     }
 }

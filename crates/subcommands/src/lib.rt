@@ -1,5 +1,6 @@
 //! What each subcommand does between its input and its output: the table of a topic, a session, a
-//! script, a merge of two images. The command line stands in `tcp_edge`, connections in `listeners`.
+//! script, a merge of two images. The command line stands in `tcp_edge`, connections in `listeners`. What these name of
+//! `broker_core` is handed on.
 #![tactic(auto)]
 
 mod error;
@@ -10,6 +11,9 @@ mod status;
 mod table;
 mod table_subcommand;
 
+pub use broker_core::{
+    Answer, Config, ConfigError, Ended, GROUP_TOPIC, Node, Role, SessionError, TopicConfig, serve,
+};
 pub use error::{ImagesError, Refusal, SessionFault, TableError};
 pub use merging::{merge_stream, run_merge};
 pub use replaying::run_replay;

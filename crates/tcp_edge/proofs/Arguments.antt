@@ -12,13 +12,15 @@ use Rattle.clap.specs.declared.error.kind.ErrorKind.{ErrorKind}
 use Rattle.broker_state.specs.ConfigValues.{config_value}
 use Rattle.broker_state.specs.State.{ConfigValue}
 use Rattle.tcp_edge.specs.declared.asked.ArgumentsFault.{ArgumentsFault}
-use Rattle.tcp_edge.specs.declared.asked.ArgumentsFault.TheVariants.{Clap, Address, Topic}
+use Rattle.tcp_edge.specs.declared.asked.ArgumentsFault.TheVariants.{Clap, Address, Kept, Topic}
 use Rattle.tcp_edge.specs.declared.asked.Asked.{Asked}
 use Rattle.tcp_edge.specs.declared.asked.Asked.TheVariants.{Table, Session, Serve, Start, Replay, Merge}
 use Rattle.tcp_edge.specs.declared.addresses.AddressFault.{AddressFault}
 use Rattle.tcp_edge.specs.declared.addresses.AddressFault.TheVariants.{Listen, Advertise, Unspecified}
+use Rattle.tcp_edge.specs.declared.keeping.KeptFault.{KeptFault}
+use Rattle.tcp_edge.specs.declared.keeping.KeptFault.TheVariants.{Alone, Sync}
 use Rattle.tcp_edge.specs.Addresses.{IsAddressOf, IsUnfit}
-use Rattle.tcp_edge.specs.Asked.{IsAsked, IsAddressFault, IsConfigFault, IsFaulty, IsHelp, IsMistake, IsOutOfMemory, IsParsed, IsListener, IsServeOptionsOf, IsServePortOf, IsStarter, IsStartFault, IsStartOptionsOf, IsStartSaid, IsStop, IfListens, IfMerge, IfNamed, IfReplay, IfSession, IfTable, IsBadValue, AsksForOther, AsksForOtherThan}
+use Rattle.tcp_edge.specs.Asked.{IsAsked, IsAddressFault, IsConfigFault, IsFaulty, IsKeptFault, IsHelp, IsMistake, IsOutOfMemory, IsParsed, IsListener, IsServeOptionsOf, IsServePortOf, IsStarter, IsStartFault, IsStartOptionsOf, IsStartSaid, IsStop, IfListens, IfMerge, IfNamed, IfReplay, IfSession, IfTable, IsBadValue, AsksForOther, AsksForOtherThan}
 use Rattle.listeners.specs.declared.options.ServeOptions.{ServeOptions}
 use Rattle.listeners.specs.declared.options.StartOptions.{StartOptions}
 use Rattle.std.specs.declared.net.socket_addr.SocketAddr.{SocketAddr}
@@ -181,6 +183,7 @@ stop_said app roles arguments kinds error are is stops said =
 pub memory_stops : (kinds : Kinds) (fault : ArgumentsFault) → IsOutOfMemory fault → IsStop kinds fault
 memory_stops kinds (Clap error) is = inl is
 memory_stops kinds (Address why) is = is
+memory_stops kinds (Kept why) is = is
 memory_stops kinds (Topic why) is = is
 
 -- what clap stops with is no help where none was asked for
@@ -202,6 +205,7 @@ pub mistake_stops : (arguments : List Text) (fault : ArgumentsFault) → HasMist
 mistake_stops arguments (Clap error) has stops =
     elim (stops has.kinds has.stops) [ inl memory ↦ no_memory_help error memory | inr among ↦ no_help_among has.kinds _ has.no_help has.no_version among ]
 mistake_stops arguments (Address why) has stops = tt
+mistake_stops arguments (Kept why) has stops = tt
 mistake_stops arguments (Topic why) has stops = tt
 
 -- where help is asked for, it is help, or memory ran out
@@ -218,6 +222,8 @@ help_stops arguments (Clap error) (inr version) stops =
     elim (one_kind DisplayVersion error (stops _ version)) [ inl memory ↦ inl memory | inr is ↦ inr (inr is) ]
 help_stops arguments (Address why) (inl help) stops = absurd (stops _ help)
 help_stops arguments (Address why) (inr version) stops = absurd (stops _ version)
+help_stops arguments (Kept why) (inl help) stops = absurd (stops _ help)
+help_stops arguments (Kept why) (inr version) stops = absurd (stops _ version)
 help_stops arguments (Topic why) (inl help) stops = absurd (stops _ help)
 help_stops arguments (Topic why) (inr version) stops = absurd (stops _ version)
 
@@ -235,6 +241,7 @@ pub session_fault : (name : Text) (rows : List Row) (fault : ArgumentsFault) →
     → IsFaulty name rows fault
 session_fault name rows (Clap error) is h = h
 session_fault name rows (Address why) is h = absurd h
+session_fault name rows (Kept why) is h = absurd h
 session_fault name rows (Topic why) is h = (
   λ table. let bad : true ≡ false = ap (bytes_eq (codes "session")) (sym is ∙ table) in cc,
   λ merge. let bad : true ≡ false = ap (bytes_eq (codes "session")) (sym is ∙ merge) in cc,
@@ -246,6 +253,7 @@ pub serve_fault : (name : Text) (rows : List Row) (fault : ArgumentsFault) → n
     → IsFaulty name rows fault
 serve_fault name rows (Clap error) is h = h
 serve_fault name rows (Address why) is h = absurd h
+serve_fault name rows (Kept why) is h = absurd h
 serve_fault name rows (Topic why) is h = (
   λ table. let bad : true ≡ false = ap (bytes_eq (codes "serve")) (sym is ∙ table) in cc,
   λ merge. let bad : true ≡ false = ap (bytes_eq (codes "serve")) (sym is ∙ merge) in cc,
@@ -257,6 +265,7 @@ pub start_fault : (name : Text) (rows : List Row) (fault : ArgumentsFault) → n
     → IsFaulty name rows fault
 start_fault name rows (Clap error) is h = h
 start_fault name rows (Address why) is h = (is, h)
+start_fault name rows (Kept why) is h = (is, h.1)
 start_fault name rows (Topic why) is h = (
   λ table. let bad : true ≡ false = ap (bytes_eq (codes "start")) (sym is ∙ table) in cc,
   λ merge. let bad : true ≡ false = ap (bytes_eq (codes "start")) (sym is ∙ merge) in cc,
@@ -285,6 +294,8 @@ pub table_fault : (arguments : List Text) (fault : ArgumentsFault) → AsksForTa
 table_fault arguments (Clap error) asks is = is (codes "table") [] (finds_table arguments asks)
 table_fault arguments (Address why) asks is =
     let bad : true ≡ false = ap (bytes_eq (codes "table")) (is (codes "table") [] (finds_table arguments asks)).0 in cc
+table_fault arguments (Kept why) asks is =
+    let bad : true ≡ false = ap (bytes_eq (codes "table")) (is (codes "table") [] (finds_table arguments asks)).0 in cc
 table_fault arguments (Topic why) asks is = absurd ((is (codes "table") [] (finds_table arguments asks)).0 refl)
 
 -- ---- and where a merge is
@@ -306,6 +317,8 @@ pub merge_fault : (arguments : List Text) (fault : ArgumentsFault) → AsksForMe
     → ((name : Text) (rows : List Row) → Finds arguments name rows → IsFaulty name rows fault) → IsOutOfMemory fault
 merge_fault arguments (Clap error) asks is = is (codes "merge") [] (finds_merge arguments asks)
 merge_fault arguments (Address why) asks is =
+    let bad : true ≡ false = ap (bytes_eq (codes "merge")) (is (codes "merge") [] (finds_merge arguments asks)).0 in cc
+merge_fault arguments (Kept why) asks is =
     let bad : true ≡ false = ap (bytes_eq (codes "merge")) (is (codes "merge") [] (finds_merge arguments asks)).0 in cc
 merge_fault arguments (Topic why) asks is = absurd ((is (codes "merge") [] (finds_merge arguments asks)).1 refl)
 
@@ -360,6 +373,7 @@ pub topic_or_memory : (name : Text) (rows : List Row) (fault : ArgumentsFault) �
     → IsOutOfMemory fault ⊎ (IsBadValue fault × ¬ HasTopics (topic_words rows))
 topic_or_memory name rows (Clap error) other is = inl is
 topic_or_memory name rows (Address why) other is = absurd (other is.0)
+topic_or_memory name rows (Kept why) other is = absurd (other is.0)
 topic_or_memory name rows (Topic why) other is = inr (tt, is.3)
 
 pub session_is_no_start : codes "session" ≢ codes "start"
@@ -374,11 +388,16 @@ unfit_address rows Listen is = inl is
 unfit_address rows Advertise is = inr (inl is)
 unfit_address rows Unspecified is = inr (inl is)
 
+unfit_kept : (rows : List Row) (why : KeptFault) → IsKeptFault rows why → IsUnfit rows
+unfit_kept rows Alone is = inr (inr (inl is))
+unfit_kept rows Sync is = inr (inr (inr (inl is)))
+
 pub unfit_or_memory : (name : Text) (rows : List Row) (fault : ArgumentsFault) → IsFaulty name rows fault
     → IsOutOfMemory fault ⊎ (IsBadValue fault × IsUnfit rows)
 unfit_or_memory name rows (Clap error) is = inl is
 unfit_or_memory name rows (Address why) is = inr (tt, unfit_address rows why is.1)
-unfit_or_memory name rows (Topic why) is = inr (tt, inr (inr is.3))
+unfit_or_memory name rows (Kept why) is = inr (tt, unfit_kept rows why is.1)
+unfit_or_memory name rows (Topic why) is = inr (tt, inr (inr (inr (inr is.3))))
 
 -- so the status is 3, or it says that a word is none
 pub refused_left : (fault : ArgumentsFault) (status : ℕ) (P H : Type 0) → IsOutOfMemory fault ⊎ (IsBadValue fault × H)
@@ -396,6 +415,7 @@ refused_topic fault status H (inr word) three two = word.1
 pub replay_fault : (rows : List Row) (fault : ArgumentsFault) → IsFaulty (codes "replay") rows fault → IsOutOfMemory fault
 replay_fault rows (Clap error) is = is
 replay_fault rows (Address why) is = let bad : true ≡ false = ap (bytes_eq (codes "replay")) is.0 in cc
+replay_fault rows (Kept why) is = let bad : true ≡ false = ap (bytes_eq (codes "replay")) is.0 in cc
 replay_fault rows (Topic why) is = absurd (is.2 refl)
 
 -- ---- and where something else than a broker that listens is
@@ -489,6 +509,12 @@ pub start_fault_is : (arguments : List Text) (rows : List Row) (fault : Argument
     → ((name : Text) (rows : List Row) → Finds arguments name rows → IsFaulty name rows fault) → ¬ IsOutOfMemory fault → IsUnfit rows
 start_fault_is arguments rows fault finds is enough =
     elim (unfit_or_memory (codes "start") rows fault (is (codes "start") rows finds)) [ inl memory ↦ absurd (enough memory) | inr value ↦ value.1 ]
+
+pub no_starter : (arguments : List Text) (rows : List Row) (fault : ArgumentsFault) (options : Option StartOptions)
+    → Finds arguments (codes "start") rows → ((name : Text) (rows : List Row) → Finds arguments name rows → IsFaulty name rows fault)
+    → (options ≡ None) × ¬ IsOutOfMemory fault → MatchOption options (IsUnfit rows) (IsStarter rows)
+no_starter arguments rows fault options finds is none =
+    subst (λ (o : Option StartOptions). MatchOption o (IsUnfit rows) (IsStarter rows)) (sym none.0) (start_fault_is arguments rows fault finds is none.1)
 
 pub port_found : (arguments : List Text) (rows : List Row) (asked : Asked) (port : Option ℕ) → Finds arguments (codes "serve") rows
     → ((name : Text) (rows : List Row) → Finds arguments name rows → IsAsked name rows asked) → IsServePortOf asked port

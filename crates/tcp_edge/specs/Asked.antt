@@ -8,12 +8,16 @@ use Rattle.tcp_edge.specs.declared.asked.Asked.{Asked}
 use Rattle.tcp_edge.specs.declared.asked.Asked.TheVariants.{Table, Session, Serve, Start, Replay, Merge}
 use Rattle.listeners.specs.declared.options.ServeOptions.{ServeOptions}
 use Rattle.listeners.specs.declared.options.StartOptions.{StartOptions}
+use Rattle.listeners.specs.declared.options.KeptOptions.{KeptOptions}
 use Rattle.tcp_edge.specs.declared.addresses.AddressFault.{AddressFault}
 use Rattle.tcp_edge.specs.declared.addresses.AddressFault.TheVariants.{Listen, Advertise, Unspecified}
+use Rattle.tcp_edge.specs.declared.keeping.KeptFault.{KeptFault}
+use Rattle.tcp_edge.specs.declared.keeping.KeptFault.TheVariants.{Alone, Sync}
 use Rattle.tcp_edge.specs.declared.asked.ArgumentsFault.{ArgumentsFault}
 use Rattle.std.specs.declared.net.socket_addr.SocketAddr.{SocketAddr}
-use Rattle.tcp_edge.specs.declared.asked.ArgumentsFault.TheVariants.{Clap, Address, Topic}
+use Rattle.tcp_edge.specs.declared.asked.ArgumentsFault.TheVariants.{Clap, Address, Kept, Topic}
 use Rattle.tcp_edge.specs.Addresses.{Advertises, HasNoAdvertised, HasNoListen, IsListen}
+use Rattle.tcp_edge.specs.Keeping.{HasNoSyncWay, HasSyncAlone, IsKept}
 use Rattle.tcp_edge.specs.CommandLine.{HasTopics, IsConfigAt, IsConfigOf, IsNumberOf, IsPort, IsConnections, Finds, Names, Stops, topic_words}
 
 -- a broker that listens: at first its configuration has the port that was asked for
@@ -33,6 +37,7 @@ pub record IsStarter (rows : List Row) (options : StartOptions) : Type 0 where
   pub most_connections : IsNumberOf 32 (one_of (codes "most-connections") rows) options.most_connections
   pub most_held : IsNumberOf 64 (one_of (codes "most-held") rows) options.most_held
   pub idle : IsNumberOf 64 (one_of (codes "idle") rows) options.idle
+  pub kept : IsKept rows options.kept
 
 abbrev pub IsAsked : Text → List Row → Asked → Type 0
 IsAsked name rows Table = (name ≢ codes "session") × (name ≢ codes "serve") × (name ≢ codes "start") × (name ≢ codes "replay")
@@ -82,36 +87,42 @@ IfListens asked P = ⊤
 abbrev pub IsOutOfMemory : ArgumentsFault → Type 0
 IsOutOfMemory (Clap error) = kind_of error ≡ kind.OutOfMemory
 IsOutOfMemory (Address why) = ⊥
+IsOutOfMemory (Kept why) = ⊥
 IsOutOfMemory (Topic why) = ⊥
 
 -- what clap stopped with: memory ran out, or its error is of one of these kinds
 abbrev pub IsStop : Kinds → ArgumentsFault → Type 0
 IsStop kinds (Clap error) = HasKind kinds error
 IsStop kinds (Address why) = ⊥
+IsStop kinds (Kept why) = ⊥
 IsStop kinds (Topic why) = ⊥
 
 -- neither help nor the version was asked for
 abbrev pub IsMistake : ArgumentsFault → Type 0
 IsMistake (Clap error) = (kind_of error ≢ kind.DisplayHelp) × (kind_of error ≢ kind.DisplayVersion)
 IsMistake (Address why) = ⊤
+IsMistake (Kept why) = ⊤
 IsMistake (Topic why) = ⊤
 
 -- help was asked for, or the version
 abbrev pub IsHelp : ArgumentsFault → Type 0
 IsHelp (Clap error) = (kind_of error ≡ kind.DisplayHelp) ⊎ (kind_of error ≡ kind.DisplayVersion)
 IsHelp (Address why) = ⊥
+IsHelp (Kept why) = ⊥
 IsHelp (Topic why) = ⊥
 
--- a word in the place of an address or a topic is none
+-- an address, `--sync` or a topic is not what may stand there
 abbrev pub IsBadValue : ArgumentsFault → Type 0
 IsBadValue (Clap error) = ⊥
 IsBadValue (Address why) = ⊤
+IsBadValue (Kept why) = ⊤
 IsBadValue (Topic why) = ⊤
 
 -- memory ran out, or one of the words in the place of topics is none
 abbrev pub IsConfigFault : List Text → ArgumentsFault → Type 0
 IsConfigFault words (Clap error) = kind_of error ≡ kind.OutOfMemory
 IsConfigFault words (Address why) = ⊥
+IsConfigFault words (Kept why) = ⊥
 IsConfigFault words (Topic why) = ¬ HasTopics words
 
 -- what is wrong with the addresses: that to listen at comes first
@@ -126,19 +137,38 @@ IsMemoryOr P (Clap error) = kind_of error ≡ kind.OutOfMemory
 IsMemoryOr P (Address Listen) = ⊥
 IsMemoryOr P (Address Advertise) = P
 IsMemoryOr P (Address Unspecified) = P
+IsMemoryOr P (Kept why) = ⊥
 IsMemoryOr P (Topic why) = ⊥
 
--- Memory ran out, or this is the first fault of what `start` is given: the topics are looked at where the addresses are right.
+-- both addresses are right
+abbrev pub HasAddresses : List Row → Type 0
+HasAddresses rows = (listen : SocketAddr) × (host : Text) × (port : ℕ) × IsListen rows listen × Advertises rows listen host port
+
+-- what is wrong with `--sync`
+abbrev pub IsKeptFault : List Row → KeptFault → Type 0
+IsKeptFault rows Alone = HasSyncAlone rows
+IsKeptFault rows Sync = HasNoSyncWay rows
+
+-- memory ran out, or this is wrong with `--sync`
+abbrev pub IsMemoryOrKept : List Row → ArgumentsFault → Type 0
+IsMemoryOrKept rows (Clap error) = kind_of error ≡ kind.OutOfMemory
+IsMemoryOrKept rows (Address why) = ⊥
+IsMemoryOrKept rows (Kept why) = IsKeptFault rows why
+IsMemoryOrKept rows (Topic why) = ⊥
+
+-- Memory ran out, or this is the first fault of what `start` is given: what is kept is looked at where the addresses are right, and the
+-- topics where both are.
 abbrev pub IsStartFault : List Row → ArgumentsFault → Type 0
 IsStartFault rows (Clap error) = kind_of error ≡ kind.OutOfMemory
 IsStartFault rows (Address why) = IsAddressFault rows why
-IsStartFault rows (Topic why) = ((listen : SocketAddr) × (host : Text) × (port : ℕ) × IsListen rows listen × Advertises rows listen host port)
-    × ¬ HasTopics (topic_words rows)
+IsStartFault rows (Kept why) = HasAddresses rows × IsKeptFault rows why
+IsStartFault rows (Topic why) = (HasAddresses rows × (kept : Option KeptOptions) × IsKept rows kept) × ¬ HasTopics (topic_words rows)
 
--- no fault of clap's: memory ran out, or an argument in the place of an address or a topic is none
+-- no fault of clap's: memory ran out, or an address, `--sync` or a topic is not what may stand there
 abbrev pub IsFaulty : Text → List Row → ArgumentsFault → Type 0
 IsFaulty name rows (Clap error) = kind_of error ≡ kind.OutOfMemory
 IsFaulty name rows (Address why) = (name ≡ codes "start") × IsAddressFault rows why
+IsFaulty name rows (Kept why) = (name ≡ codes "start") × IsKeptFault rows why
 IsFaulty name rows (Topic why) =
     (name ≢ codes "table") × (name ≢ codes "merge") × (name ≢ codes "replay") × ¬ HasTopics (topic_words rows)
 

@@ -68,6 +68,14 @@ most_held_rule = record (option_rule (codes "most-held") (parsers.Signed (pos 1)
 abbrev pub idle_rule : Rule
 idle_rule = record (option_rule (codes "idle") (parsers.Signed (pos 1) (pos 4294967295))) { defaults = codes "600" ∷ [] }
 
+-- `--data DIR`, any text but the empty one
+abbrev pub data_rule : Rule
+data_rule = option_rule (codes "data") parsers.NonEmptyString
+
+-- `--sync WHEN`
+abbrev pub sync_rule : Rule
+sync_rule = text_rule (codes "sync")
+
 -- the topics, at least one
 abbrev pub topics_rule : Rule
 topics_rule = record (new_rule (codes "topics")) {
@@ -87,8 +95,9 @@ serve_app roles = with_rule (with_rule (with_rule (with_rule (with_rule (new_app
     port_rule) (role_rule roles)) first_producer_rule) connections_rule) topics_rule
 
 abbrev pub start_app : Roles → App
-start_app roles = with_rule (with_rule (with_rule (with_rule (with_rule (with_rule (with_rule (with_rule (new_app (codes "start"))
-    listen_rule) advertise_rule) (role_rule roles)) first_producer_rule) most_connections_rule) most_held_rule) idle_rule) topics_rule
+start_app roles = with_rule (with_rule (with_rule (with_rule (with_rule (with_rule (with_rule (with_rule (with_rule (with_rule
+    (new_app (codes "start")) listen_rule) advertise_rule) (role_rule roles)) first_producer_rule) most_connections_rule) most_held_rule)
+    idle_rule) data_rule) sync_rule) topics_rule
 
 -- added to a command, it is a subcommand with these rules
 abbrev pub IsSubcommand : App → Command → Type 0

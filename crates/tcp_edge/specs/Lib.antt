@@ -1,3 +1,4 @@
 pub mod CommandLine
+pub mod Keeping
 pub mod Addresses
 pub mod Asked

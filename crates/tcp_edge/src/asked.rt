@@ -9,8 +9,9 @@ ghost use Rattle.tcp_edge.specs.CommandLine.{Finds, IsConfigAt, IsFirstProducer,
 
 use crate::addresses::{AddressFault, advertised_of, listen_of};
 use crate::commands::command;
+use crate::keeping::{KeptFault, kept_of};
 use crate::topics::topics_of;
-use broker_core::{Config, ConfigError, Role};
+use broker_state::{Config, ConfigError, Role};
 use clap::error::ErrorKind;
 use clap::{ArgMatches, Error};
 use listeners::{ServeOptions, StartOptions};
@@ -51,6 +52,8 @@ pub(crate) enum ArgumentsFault {
     Clap(Error),
     /// An address that is none.
     Address(AddressFault),
+    /// What it says of when to sync, or that it says so without a directory.
+    Kept(KeptFault),
     /// The first argument in the place of a topic that is none.
     Topic(ConfigError),
 }
@@ -107,7 +110,9 @@ impl ArgumentsFault {
     {
         match self {
             ArgumentsFault::Clap(error) => matches!(error.kind(), ErrorKind::OutOfMemory),
-            ArgumentsFault::Address(_) | ArgumentsFault::Topic(_) => false,
+            ArgumentsFault::Address(_) | ArgumentsFault::Kept(_) | ArgumentsFault::Topic(_) => {
+                false
+            }
         }
     }
 }
@@ -199,8 +204,8 @@ fn serve_options_of(alloc: Global, matches: &ArgMatches<'_>) -> Result<ServeOpti
 ///
 /// # Errors
 ///
-/// The first fault, of the address to listen at, that to advertise, and the topics, in this order; out
-/// of memory.
+/// The first fault, of the address to listen at, that to advertise, what is kept, and the topics, in
+/// this order; out of memory.
 fn start_options_of(alloc: Global, matches: &ArgMatches<'_>) -> Result<StartOptions, ArgumentsFault>
     ensures options { IfOk result (IsStarter (rows_of (found_of matches.now))) }
     ensures fault { IfErr result (IsStartFault (rows_of (found_of matches.now))) }
@@ -210,6 +215,7 @@ fn start_options_of(alloc: Global, matches: &ArgMatches<'_>) -> Result<StartOpti
     let idle = amount_of(matches, "idle");
     let listen = listen_of(matches)?;
     let advertised = advertised_of(alloc, matches, listen)?;
+    let kept = kept_of(alloc, matches)?;
     let config = config_of(alloc, matches, &advertised.host, advertised.port)?;
     Ok(StartOptions {
         config,
@@ -217,6 +223,7 @@ fn start_options_of(alloc: Global, matches: &ArgMatches<'_>) -> Result<StartOpti
         most_connections,
         most_held,
         idle,
+        kept,
     })
 }
 

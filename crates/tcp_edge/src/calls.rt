@@ -15,10 +15,12 @@ ghost use Rattle.subcommands.specs.Tables.{PrintsTable};
 
 use crate::command_line::CommandLine;
 use listeners::{StartOptions, start};
-use std::alloc::{AllocError, Global};
+use std::alloc::{Alloc, AllocError, Global};
 use std::convert::AsStr;
+use std::fs::{File, Files};
 use std::io::{Read, Write};
 use std::net::{Net, TcpListener};
+use std::random::RandomSource;
 use std::time::Clock;
 use streams::{Sink, Source};
 
@@ -142,7 +144,7 @@ pub fn start_options<S: AsStr>(
 ) -> Result<Option<StartOptions>, AllocError>
     ensures other_has_none { AsksForOtherThan (codes "start") (map S.text arguments.now)
         → IfOk result (λ options. options ≡ None) }
-    // There is none only where an argument in the place of an address or a topic isn't one.
+    // There is none only where an address, `--sync` or a topic isn't what may stand there.
     ensures is_asked_for { (rows : List Row) → Finds (map S.text arguments.now) (codes "start") rows
         → IfOk result (λ options. MatchOption options (IsUnfit rows) (IsStarter rows)) }
 {
@@ -151,13 +153,11 @@ pub fn start_options<S: AsStr>(
 
 /// Listens for many connections at once, as the options say, and answers the status: 2 the configuration
 /// is refused, 3 out of memory, 4 the listener failed. It doesn't end otherwise.
-pub fn run_start<R: Net + Clock, W: Write, E: Write>(
-    rt: &R,
-    alloc: Global,
-    options: StartOptions,
-    out: &mut W,
-    err: &mut E,
-) -> u8
+pub fn run_start<
+    R: Net + Clock + Files<File = File> + RandomSource + Alloc + Clone + Drop,
+    W: Write,
+    E: Write,
+>(rt: &R, alloc: Global, options: StartOptions, out: &mut W, err: &mut E) -> u8
     ensures is_status { result ≤ 4 }
 {
     start(rt, alloc, options, out, err)

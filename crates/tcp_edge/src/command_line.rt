@@ -15,7 +15,6 @@ ghost use Rattle.subcommands.specs.Tables.{PrintsTable};
 
 use crate::asked::{ArgumentsFault, Asked, parse};
 use crate::refusals::refuse_line;
-use broker_core::SessionError;
 use listeners::{ServeOptions, StartOptions, listen};
 use std::alloc::{AllocError, Global};
 use std::convert::AsStr;
@@ -24,7 +23,8 @@ use std::marker::Model;
 use std::net::TcpListener;
 use streams::{Sink, Source};
 use subcommands::{
-    FAULTY, SessionFault, fail_session, run_merge, run_replay, run_session, run_table_subcommand,
+    FAULTY, SessionError, SessionFault, fail_session, run_merge, run_replay, run_session,
+    run_table_subcommand,
 };
 
 /// The arguments of a command line, of which the first is the program's name, and what they ask for.
@@ -239,11 +239,10 @@ impl<'a, S: AsStr> CommandLine<'a, S> {
     /// # Errors
     ///
     /// `AllocError` where there was no memory to look the arguments up.
-    #[tactic(auto, using(crate::proofs::Arguments::start_found, crate::proofs::Arguments::start_fault_is))]
     pub fn start_options(self) -> Result<Option<StartOptions>, AllocError>
         ensures other_has_none { AsksForOtherThan (codes "start") self.entry
             → IfOk result (λ options. options ≡ None) }
-        // There is none only where an argument in the place of an address or a topic isn't one.
+        // There is none only where an address, `--sync` or a topic isn't what may stand there.
         ensures is_asked_for { (rows : List Row) → Finds self.entry (codes "start") rows
             → IfOk result (λ options. MatchOption options (IsUnfit rows) (IsStarter rows)) }
     {

@@ -2,8 +2,9 @@
 
 ghost use Rattle.std.specs.Prelude.{◌≡◌, [], IfOk, codes, false};
 ghost use Rattle.clap.specs.Words.{App, app_of, new_app, rule_of, with_subcommand};
-ghost use Rattle.tcp_edge.specs.CommandLine.{IsRoles, IsSubcommand, Roles, kbroker, session_app, serve_app, role_rule, first_producer_rule, top, topics_rule, port_rule, connections_rule, start_app, listen_rule, advertise_rule, most_connections_rule, most_held_rule, idle_rule};
+ghost use Rattle.tcp_edge.specs.CommandLine.{IsRoles, IsSubcommand, Roles, kbroker, session_app, serve_app, role_rule, first_producer_rule, top, topics_rule, port_rule, connections_rule, start_app, listen_rule, advertise_rule, most_connections_rule, most_held_rule, idle_rule, data_rule, sync_rule};
 
+use clap::builder::ValueParser;
 use clap::{Arg, Command, value_parser};
 use std::alloc::{AllocError, Global};
 
@@ -20,8 +21,8 @@ const ABOUT_SERVE: &str = "Listens on 127.0.0.1 as a new broker with these topic
 requests of one connection after the other, and prints a line for each";
 
 const ABOUT_START: &str =
-    "Listens as a new broker with these topics, and answers the requests of many \
-connections at once, until it is ended";
+    "Listens as a broker with these topics, a new one or the one that a directory \
+keeps, and answers the requests of many connections at once, until it is ended";
 
 const ABOUT_REPLAY: &str =
     "Reads a script of events from standard input, makes them happen to the copies \
@@ -79,6 +80,14 @@ const HELP_MOST_HELD: &str =
 most; above it the one that holds most ends";
 
 const HELP_IDLE: &str = "After how many seconds without a request or a reply a connection ends";
+
+const HELP_DATA: &str =
+    "The directory in which it keeps what it acknowledged, and from which it goes on when it starts \
+again; without one that is kept in memory alone";
+
+const HELP_SYNC: &str =
+    "When what it keeps is synced to the disk: always (before a reply tells of it, the default), \
+never (when the system does), or within so many milliseconds, 1 to 60000";
 
 static ROLES: [&str; 2] = ["leader", "follower"];
 
@@ -215,6 +224,29 @@ fn idle_arg<'a>(alloc: Global) -> Arg<'a>
         .default_value("600")
 }
 
+/// The directory of what is kept.
+fn data_arg<'a>(alloc: Global) -> Arg<'a>
+    ensures rule { rule_of result ≡ data_rule }
+    ensures local { result.global ≡ false }
+{
+    Arg::new(alloc, "data")
+        .long("data")
+        .value_name("DIR")
+        .help(HELP_DATA)
+        .value_parser(ValueParser::NonEmptyString)
+}
+
+/// When what is kept is synced.
+fn sync_arg<'a>(alloc: Global) -> Arg<'a>
+    ensures rule { rule_of result ≡ sync_rule }
+    ensures local { result.global ≡ false }
+{
+    Arg::new(alloc, "sync")
+        .long("sync")
+        .value_name("WHEN")
+        .help(HELP_SYNC)
+}
+
 /// The subcommand `session`.
 fn session<'a>(alloc: Global, roles: &'a [&'a str]) -> Result<Command<'a>, AllocError>
     ensures { IfOk result (IsSubcommand (session_app roles.entry)) }
@@ -255,6 +287,8 @@ fn start<'a>(alloc: Global, roles: &'a [&'a str]) -> Result<Command<'a>, AllocEr
         .arg(most_connections_arg(alloc))?
         .arg(most_held_arg(alloc))?
         .arg(idle_arg(alloc))?
+        .arg(data_arg(alloc))?
+        .arg(sync_arg(alloc))?
         .arg(topics_arg(alloc))
 }
 

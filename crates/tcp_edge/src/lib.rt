@@ -7,14 +7,18 @@ mod asked;
 mod calls;
 mod command_line;
 mod commands;
+mod keeping;
 mod refusals;
 mod topics;
 
 pub use calls::{run_line, run_serve, run_start, serve_port, start_options};
 pub use command_line::CommandLine;
-pub use listeners::{Connection, PromptStream, Replies, Requests, ServeOptions, StartOptions};
+pub use listeners::{
+    Connection, KeptOptions, PromptStream, Replies, Requests, ServeOptions, StartOptions, SyncWay,
+};
 pub use subcommands::{
-    DONE, FAILED, FAULTY, ImagesError, NO_MEMORY, REFUSED, Refusal, SessionFault, TableError,
+    Answer, Config, ConfigError, DONE, Ended, FAILED, FAULTY, GROUP_TOPIC, ImagesError, NO_MEMORY,
+    Node, REFUSED, Refusal, Role, SessionError, SessionFault, TableError, TopicConfig,
     answer_frames, line_ends_once, merge_stream, run_merge, run_replay, run_session, run_table,
-    run_table_subcommand,
+    run_table_subcommand, serve,
 };

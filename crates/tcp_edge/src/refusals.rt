@@ -6,6 +6,7 @@ ghost use Rattle.tcp_edge.specs.Asked.{IsBadValue, IsHelp, IsMistake, IsOutOfMem
 
 use crate::addresses::AddressFault;
 use crate::asked::ArgumentsFault;
+use crate::keeping::KeptFault;
 use clap::Error;
 use clap::error::ErrorKind;
 use std::alloc::Global;
@@ -68,6 +69,14 @@ fn refuse_address<E: Write>(why: AddressFault, err: &mut E) -> u8
     FAULTY
 }
 
+/// Says on one line of `err` what is wrong with what is kept, and answers the status.
+fn refuse_kept<E: Write>(why: KeptFault, err: &mut E) -> u8
+    ensures { result ≡ 2 }
+{
+    let _ = writeln!(err, "error: {why}");
+    FAULTY
+}
+
 /// Says why a command line asks for nothing, and answers the status.
 pub(crate) fn refuse_line<W: Write, E: Write>(
     alloc: Global,
@@ -88,6 +97,7 @@ pub(crate) fn refuse_line<W: Write, E: Write>(
     match why {
         ArgumentsFault::Clap(error) => explain(alloc, error, sink, err),
         ArgumentsFault::Address(fault) => refuse_address(*fault, err),
+        ArgumentsFault::Kept(fault) => refuse_kept(*fault, err),
         ArgumentsFault::Topic(fault) => refuse_configuration(*fault, err),
     }
 }

@@ -6,7 +6,7 @@ ghost use Rattle.tcp_edge.specs.Asked.{IsConfigFault};
 ghost use Rattle.tcp_edge.specs.CommandLine.{IsTopic, AddsTopic, AreTopics, HasTopics};
 
 use crate::asked::ArgumentsFault;
-use broker_core::{ConfigError, TopicConfig};
+use broker_state::{ConfigError, TopicConfig};
 use std::alloc::{AllocError, Global};
 use std::string::String;
 

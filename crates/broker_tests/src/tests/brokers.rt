@@ -1,10 +1,10 @@
 //! The brokers of the tests: topics of one name with two partitions, and `u` with nine.
 
-use broker_core::{Config, ConfigError, GROUP_TOPIC, Node, Role, TopicConfig};
 use copy_answers::put_answers;
 use segment::BatchStore;
 use std::alloc::{AllocError, Allocator};
 use std::string::String;
+use tcp_edge::{Config, ConfigError, GROUP_TOPIC, Node, Role, TopicConfig};
 
 /// How many bytes a broker is made of at least: 12 partitions, each held in more than 128.
 pub(crate) const CONFIGURED: usize = 12 * 128;

@@ -4,12 +4,12 @@
 use crate::tests::brokers::configured;
 use crate::tests::frames::{FETCHED, LIST, LISTED, NOT_STORED, PRODUCE, STORED};
 use crate::tests::served::READ_ROOM;
-use broker_core::{Node, Role};
 use refusing_alloc::Refusing;
 use segment::{BatchStore, ProgramStore};
 use sessions::{Plainly, Seat, Sessions, Then, Visit, Why};
 use std::alloc::Allocator;
 use std::test::Fail;
+use tcp_edge::{Node, Role};
 
 /// More allocations than any run below asks for.
 const MOST: u64 = 100;

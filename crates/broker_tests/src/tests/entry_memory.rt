@@ -6,10 +6,10 @@ use crate::tests::brokers::{CONFIGURED, new_node, partition_answers};
 use crate::tests::exchanges::STORE_REQUEST;
 use crate::tests::request_memory::is_answered;
 use crate::tests::stores::{BOTH, Kept};
-use broker_core::{GROUP_TOPIC, Node, Role};
 use refusing_alloc::Refusing;
 use segment::{BatchStore, SegStore, VecStore};
 use std::alloc::{AllocError, Allocator};
+use tcp_edge::{GROUP_TOPIC, Node, Role};
 
 /// What stands in the output before.
 const OLD: &[u8] = b"old";

@@ -8,12 +8,12 @@ use crate::tests::frames::{
 use crate::tests::pieces::{reader_of, writer_of};
 use crate::tests::served::{READ_ROOM, session};
 use crate::tests::stores::{BOTH, Kept};
-use broker_core::{Answer, Node};
 use refusing_alloc::Refusing;
 use request_frames::parse;
 use segment::{BatchStore, SegStore, VecStore};
 use std::alloc::Allocator;
 use std::test::Fail;
+use tcp_edge::{Answer, Node};
 
 // The calls that may lack memory, each a bit of a number, in the order in which they are made.
 const CONFIG: u32 = 1;

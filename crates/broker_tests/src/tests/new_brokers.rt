@@ -2,9 +2,9 @@
 //! `frames.rows` and `sessions.rows` have the topics that are refused.
 
 use crate::tests::brokers::{has_logs, new_node, prints, refused_producer};
-use broker_core::Role;
 use segment::{BatchStore, ProgramStore};
 use std::test::Fail;
+use tcp_edge::Role;
 
 /// A role, how many bytes the host has, how many topics have which name, and the answer: no refusal, or
 /// one by its printed name.

@@ -8,11 +8,11 @@ use crate::tests::exchanges::{
     PRODUCER_ID, SEEN, STORE, TAKE, TRIM, VALUE, VERSIONS,
 };
 use crate::tests::stores::{BOTH, Kept};
-use broker_core::{GROUP_TOPIC, Node, Role};
 use refusing_alloc::Refusing;
 use request_frames::parse;
 use segment::{BatchStore, SegStore, VecStore};
 use std::alloc::Allocator;
+use tcp_edge::{GROUP_TOPIC, Node, Role};
 
 /// What a broker is asked, in this order, and the ends of partition 0 of `t`, of `u` and of the topic of groups then.
 struct Run {

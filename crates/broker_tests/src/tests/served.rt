@@ -4,13 +4,13 @@
 use crate::tests::brokers::{end_of, leader};
 use crate::tests::frames::{LIST, LISTED, LISTED_AT_1, PRODUCE, STORED, repeated};
 use crate::tests::pieces::{Halting, NONE, Pieces, WAYS, reader_of, writer_of};
-use broker_core::{Ended, Node, SessionError, serve};
 use refusing_alloc::Refusing;
 use segment::{BatchStore, ProgramStore};
 use std::alloc::Allocator;
 use std::io::ErrorKind;
 use std::test::Fail;
 use streams::{Sink, Source};
+use tcp_edge::{Ended, Node, SessionError, serve};
 
 /// What comes of a session: how it ends, how many frames it has answered and how many bytes of another
 /// are left, how many bytes of its replies weren't taken, and how many reads it made.

@@ -3,12 +3,11 @@
 use crate::tests::brokers::configured;
 use crate::tests::frames::{LIST, LISTED};
 use crate::tests::served::READ_ROOM;
-use broker_core::{Config, Role};
 use refusing_alloc::Refusing;
 use std::alloc::Allocator;
 use std::test::Fail;
 use streams::{Sink, Source};
-use tcp_edge::run_session;
+use tcp_edge::{Config, Role, run_session};
 
 /// More allocations than any run below asks for.
 const MOST: u64 = 100;

@@ -1,0 +1,246 @@
+//! The sessions of a broker, as connections visit them: those of one that keeps nothing on disk, and those of one that keeps
+//! its changes in a journal.
+
+use crate::options::SyncWay;
+use crate::reports::is_over;
+use kept_starts::sessions::{Plainly, Seat, Session, Sessions, Visit, Why};
+use kept_starts::{CommitError, Disk, JournalError, Keeper, Sent};
+use segment::BatchStore;
+use std::alloc::{AllocError, Global};
+use std::io::{Read, Write};
+use std::time::{Duration, Instant};
+
+/// A round notes no more once it has so many bytes of frames.
+const FULL_GROUP: usize = 1_048_576;
+
+/// So many bytes are synced at once, whatever the time.
+const MOST_UNSYNCED: u64 = 4_194_304;
+
+/// Why what was done can't be kept.
+#[derive(Drop)]
+pub(crate) enum Unkept {
+    /// An entry that may have changed something lacked memory.
+    OutOfMemory,
+    /// The journal took no more.
+    Journal(JournalError),
+}
+
+/// The sessions of a broker. What the calls do that `Sessions` has too is said there.
+pub(crate) trait ServedSessions {
+    /// Whether a visit sends what is owed. Else it leaves by `send`, once it is settled.
+    const SENDS_AT_ONCE: bool;
+
+    fn open(&mut self) -> Result<u64, AllocError>;
+
+    fn visit<R: Read, W: Write>(
+        &mut self,
+        number: u64,
+        clock: u64,
+        seat: &mut Seat,
+        from: &mut R,
+        to: &mut W,
+    ) -> Option<Visit>;
+
+    fn send<W: Write>(
+        &mut self,
+        number: u64,
+        seat: &mut Seat,
+        to: &mut W,
+    ) -> Option<Result<usize, Why>>;
+
+    fn close(&mut self, number: u64) -> bool;
+
+    fn session(&self, number: u64) -> Option<&Session<Global>>;
+
+    fn next_woken(&mut self, clock: u64) -> Option<u64>;
+
+    fn awaited(&self, number: u64) -> usize;
+
+    fn next_due(&self) -> Option<u128>;
+
+    /// Whether so much was done since it was settled that no more is to be.
+    fn is_full(&self) -> bool;
+
+    /// Keeps what was done, so that what is owed for it may leave.
+    fn settle(&mut self, now: Instant) -> Result<(), Unkept>;
+
+    /// When it is to be settled, though nothing is done.
+    fn settle_at(&self) -> Option<Instant>;
+}
+
+impl<S: BatchStore> ServedSessions for Sessions<S, Global> {
+    const SENDS_AT_ONCE: bool = true;
+
+    fn open(&mut self) -> Result<u64, AllocError> {
+        self.open()
+    }
+
+    fn visit<R: Read, W: Write>(
+        &mut self,
+        number: u64,
+        clock: u64,
+        seat: &mut Seat,
+        from: &mut R,
+        to: &mut W,
+    ) -> Option<Visit> {
+        self.visit(number, clock, &mut Plainly, seat, from, to)
+    }
+
+    fn send<W: Write>(
+        &mut self,
+        number: u64,
+        seat: &mut Seat,
+        to: &mut W,
+    ) -> Option<Result<usize, Why>> {
+        self.send(number, seat, to)
+    }
+
+    fn close(&mut self, number: u64) -> bool {
+        self.close(number)
+    }
+
+    fn session(&self, number: u64) -> Option<&Session<Global>> {
+        self.session(number)
+    }
+
+    fn next_woken(&mut self, clock: u64) -> Option<u64> {
+        self.next_woken(clock)
+    }
+
+    fn awaited(&self, number: u64) -> usize {
+        self.awaited(number)
+    }
+
+    fn next_due(&self) -> Option<u128> {
+        self.next_due()
+    }
+
+    fn is_full(&self) -> bool {
+        false
+    }
+
+    fn settle(&mut self, _now: Instant) -> Result<(), Unkept> {
+        Ok(())
+    }
+
+    fn settle_at(&self) -> Option<Instant> {
+        None
+    }
+}
+
+/// The sessions of a broker that keeps its changes in a journal.
+#[derive(Drop)]
+pub(crate) struct Kept<S: BatchStore, D: Disk> {
+    keeper: Keeper<S, Global, D>,
+    sync: SyncWay,
+    /// When the journal is to be synced, if something in it isn't.
+    sync_at: Option<Instant>,
+}
+
+impl<S: BatchStore, D: Disk> Kept<S, D> {
+    /// A broker whose journal is synced in this way.
+    pub(crate) fn new(keeper: Keeper<S, Global, D>, sync: SyncWay) -> Kept<S, D> {
+        Kept {
+            keeper,
+            sync,
+            sync_at: None,
+        }
+    }
+
+    /// Appends what was noted, and syncs where it is time to, or much isn't synced.
+    fn append_and_sync(&mut self, now: Instant, patience: u32) -> Result<(), Unkept> {
+        why_unkept(self.keeper.append())?;
+        let unsynced = self.keeper.unsynced();
+        if unsynced == 0 {
+            return Ok(());
+        }
+        if self.sync_at.is_none() {
+            self.sync_at = now.checked_add(Duration::from_millis(u64::from(patience)));
+        }
+        if unsynced < MOST_UNSYNCED && !is_over(self.sync_at, now) {
+            return Ok(());
+        }
+        self.sync_at = None;
+        match self.keeper.sync() {
+            Ok(()) => Ok(()),
+            Err(why) => Err(Unkept::Journal(why)),
+        }
+    }
+}
+
+/// Why frames aren't kept that were to be committed.
+fn why_unkept(committed: Result<(), CommitError>) -> Result<(), Unkept> {
+    match committed {
+        Ok(()) => Ok(()),
+        Err(CommitError::OutOfMemory) => Err(Unkept::OutOfMemory),
+        Err(CommitError::Journal(why)) => Err(Unkept::Journal(why)),
+    }
+}
+
+impl<S: BatchStore, D: Disk> ServedSessions for Kept<S, D> {
+    const SENDS_AT_ONCE: bool = false;
+
+    fn open(&mut self) -> Result<u64, AllocError> {
+        self.keeper.open()
+    }
+
+    fn visit<R: Read, W: Write>(
+        &mut self,
+        number: u64,
+        clock: u64,
+        seat: &mut Seat,
+        from: &mut R,
+        _to: &mut W,
+    ) -> Option<Visit> {
+        self.keeper.answer(number, clock, seat, from)
+    }
+
+    fn send<W: Write>(
+        &mut self,
+        number: u64,
+        seat: &mut Seat,
+        to: &mut W,
+    ) -> Option<Result<usize, Why>> {
+        match self.keeper.send(number, seat, to)? {
+            Sent::Bytes(count) => Some(Ok(count)),
+            Sent::HeldBack => Some(Ok(0)),
+            Sent::Failed(why) => Some(Err(why)),
+        }
+    }
+
+    fn close(&mut self, number: u64) -> bool {
+        self.keeper.close(number)
+    }
+
+    fn session(&self, number: u64) -> Option<&Session<Global>> {
+        self.keeper.session(number)
+    }
+
+    fn next_woken(&mut self, clock: u64) -> Option<u64> {
+        self.keeper.next_woken(clock)
+    }
+
+    fn awaited(&self, number: u64) -> usize {
+        self.keeper.awaited(number)
+    }
+
+    fn next_due(&self) -> Option<u128> {
+        self.keeper.next_due()
+    }
+
+    fn is_full(&self) -> bool {
+        self.keeper.noted() >= FULL_GROUP
+    }
+
+    fn settle(&mut self, now: Instant) -> Result<(), Unkept> {
+        match self.sync {
+            SyncWay::Always => why_unkept(self.keeper.commit()),
+            SyncWay::Every(patience) => self.append_and_sync(now, patience),
+            SyncWay::Never => why_unkept(self.keeper.append()),
+        }
+    }
+
+    fn settle_at(&self) -> Option<Instant> {
+        self.sync_at
+    }
+}
