@@ -23,6 +23,7 @@ SECONDS = 60  # that a client, or a look at what the program writes, waits at mo
 FILES = 200  # that a program whose open files are limited could have if it raised the limit itself
 ENDED = re.compile(r"connection (\d+) (\S+): (.*)")
 MORE = re.compile(r"(\d+) more connections? ended")
+NOTHING_KEPT = "nothing is kept on disk: --data DIR keeps it"  # which is said at the start where no directory is given
 
 
 class Fault(Exception):
@@ -183,6 +184,7 @@ class Started:
         self.files, self.closed = files, ways.pop("closed", ())
         self.ways = {"stdin": subprocess.DEVNULL, "stdout": subprocess.PIPE, "stderr": subprocess.PIPE, **ways}
         self.program, self.lines, self.reader, self.listening, self.is_over = program, [], None, None, False
+        self.notices = []  # lines that say that nothing is kept
 
     def prepare(self):
         """Limits what will be the program, and lets signals end it: a shell may have them passed over in what it doesn't wait for."""
@@ -219,8 +221,9 @@ class Started:
         return line.rstrip("\n")
 
     def read(self):
-        for line in self.process.stderr:
-            self.lines.append(line.decode("ascii", "replace").rstrip("\n"))
+        for data in self.process.stderr:
+            line = data.decode("ascii", "replace").rstrip("\n")
+            (self.notices if line == NOTHING_KEPT else self.lines).append(line)
 
     def __exit__(self, kind, *_):
         status = self.process.poll()
@@ -333,7 +336,8 @@ def free_port():
 
 
 def ends_by_itself(program, *arguments):
-    """The status, standard output and standard error of a `kbroker start` that must end by itself."""
+    """The status, standard output and standard error, but for the line that nothing is kept, of a `kbroker start` that must end by
+    itself."""
     started = subprocess.Popen(
         ["kbroker", "start", *arguments],
         executable=program,
@@ -347,4 +351,4 @@ def ends_by_itself(program, *arguments):
         started.kill()
         started.communicate()
         raise Fault("it did not end") from None
-    return started.returncode, out.decode("ascii", "replace"), err.decode("ascii", "replace")
+    return started.returncode, out.decode("ascii", "replace"), err.decode("ascii", "replace").replace(f"{NOTHING_KEPT}\n", "")
