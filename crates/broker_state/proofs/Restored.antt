@@ -1,10 +1,10 @@
 -- What becomes of a partition in whose place a copy is put.
-use Rattle.std.proofs.Common.{◌≡◌, ℕ, ℤ, List, true, Result, Ok, Err, sym, ap, ◌∙◌}
-use Rattle.std.specs.Prelude.{is_some, None, OnOk, OnErr, IfErr}
+use Rattle.std.proofs.Common.{◌≡◌, ℕ, ℤ, List, true, Result, Ok, Err, ap, ◌∙◌}
+use Rattle.std.specs.Prelude.{OnOk, OnErr, IfErr}
 use Rattle.content.specs.Content.{Content}
 use Rattle.broker_state.specs.declared.restoring.RestoreError.{RestoreError}
 use Rattle.broker_state.specs.declared.restoring.RestoreError.TheVariants.{UnknownPartition, Gapped}
-use Rattle.broker_state.specs.State.{State, is_known, partition_at, with_content}
+use Rattle.broker_state.specs.State.{State, is_known, with_content}
 use Rattle.broker_state.specs.Changes.{ChangesAt}
 use Rattle.broker_state.specs.Restoring.{CanRestore, RefusesRestore, Restores}
 use Rattle.broker_state.proofs.OwnContent.{unchanged_at}

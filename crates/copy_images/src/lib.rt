@@ -23,4 +23,4 @@ mod write;
 
 pub use error::ImageError;
 pub use read::read_image;
-pub use write::{has_image_within, write_image};
+pub use write::{has_image_within, image_into, image_size, write_image};

@@ -109,6 +109,37 @@ pub fn write_image<A: Allocator + Copy, S: BatchStore>(
     new_image(alloc, copy, range_count, batch_count)
 }
 
+/// Makes the image of a copy in the place of what a buffer holds, whose memory is used again.
+///
+/// # Errors
+///
+/// As of [`write_image`]; what the buffer holds then is not said.
+pub fn image_into<A: Allocator + Copy, S: BatchStore>(
+    copy: &PartitionLog<S>,
+    out: &mut Vec<u8, A>,
+) -> Result<(), AllocError>
+    ensures gives_the_image { OnOk result (out.new.items ≡ image_of copy.now) }
+    ensures counts_the_ranges { OnOk result (length copy.now.cover ≤ MAX_COUNT) }
+    ensures counts_the_batches { OnOk result (length copy.now.kept ≤ MAX_COUNT) }
+{
+    let range_count = count_field(copy.cover().ranges().len())?;
+    let batch_count = count_field(copy.len())?;
+    out.clear();
+    out.reserve(size_of(copy))?;
+    put_image(out, copy, range_count, batch_count)
+}
+
+/// How many bytes the image of a copy has. Takes no memory.
+///
+/// # Errors
+///
+/// Out of memory: 2^63 or more, since no memory holds that many.
+pub fn image_size<S: BatchStore>(copy: &PartitionLog<S>) -> Result<i64, AllocError>
+    ensures { IfOk result (λ size. size ≡ pos (length (image_of copy.now))) }
+{
+    i64::try_from(size_of(copy)).map_err(|_| AllocError)
+}
+
 /// Whether the image of a copy has at most this many bytes. Takes no memory.
 pub fn has_image_within<S: BatchStore>(copy: &PartitionLog<S>, limit: u32) -> bool
     ensures { IsTrue result ↔ (length (image_of copy.now) ≤ limit) }

@@ -1,0 +1,9 @@
+use Rattle.std.proofs.Common.{◌≡◌, ◌++◌, drop}
+use Rattle.broker_state.specs.Parts.{topic_contents}
+use Rattle.state_snapshots.proofs.Written.{sizes}
+use Rattle.state_snapshots.proofs.head.sizes_of.Given as goal
+
+-- with those of what is left they are the sizes of all
+abbrev pub invariant-loop-index : goal.invariant-loop-index
+invariant-loop-index g l =
+    l.sizes.items ++ sizes (drop l.index (topic_contents l.topic).partitions) ≡ sizes (topic_contents l.topic).partitions

@@ -1,0 +1,42 @@
+-- The snapshot of what a broker holds, from its first byte to its last. The form is this project's own.
+use Rattle.std.specs.Prelude.{ℕ, ℤ, pos, List, ◌++◌, length, map}
+use Rattle.std.specs.List.{flat_map}
+use Rattle.frame_fields.specs.Fields.{Value}
+use Rattle.frame_fields.specs.Types.{topic}
+use Rattle.frame_fields.specs.Reading.{nothing}
+use Rattle.copy_images.specs.Images.{image_of}
+use Rattle.broker_state.specs.declared.config.Role.{Role}
+use Rattle.broker_state.specs.declared.config.Role.TheVariants.{Leader, Follower}
+use Rattle.broker_state.specs.State.{Topic, State}
+use Rattle.snapshots.specs.Heads.{partition_fields, snapshot_fields, head_bytes}
+
+-- ---- the head
+
+abbrev pub role_number : Role → ℤ
+role_number Leader = pos 0
+role_number Follower = pos 1
+
+-- how many bytes the image of each partition has
+abbrev pub image_sizes : Topic → List ℤ
+image_sizes t = map (λ c. pos (length (image_of c))) t.partitions
+
+-- the name of a topic, and these sizes
+abbrev pub topic_said : Topic → Value (topic partition_fields)
+topic_said t = (t.name, (map (λ z. (z, nothing)) (image_sizes t), nothing))
+
+-- number, role, first_producer, next_producer, topics
+abbrev pub state_said : (number : ℤ) → State → Value snapshot_fields
+state_said number s =
+    (number, (role_number s.config.role, (s.config.first_producer, (s.next_producer, (map topic_said s.topics, nothing)))))
+
+-- ---- the whole
+
+-- the images of a topic's partitions, from 0 on
+abbrev pub topic_images : Topic → List ℕ
+topic_images t = flat_map image_of t.partitions
+
+abbrev pub images_of : List Topic → List ℕ
+images_of ts = flat_map topic_images ts
+
+abbrev pub snapshot_bytes : (number : ℤ) → State → List ℕ
+snapshot_bytes number s = head_bytes (state_said number s) ++ images_of s.topics
