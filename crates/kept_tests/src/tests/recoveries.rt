@@ -194,10 +194,9 @@ fn failing_second<A: Allocator + Copy>(
     story: Story<'_, A>,
     first: &Ended<A>,
     failing: u64,
-    way: Way,
 ) -> Result<Ended<A>, AllocError> {
     let mut store = first.store.copy()?;
-    store.fail_at(failing, way);
+    store.fail_at(failing, Way::Last);
     let store = RefCell::new(store);
     let known = (story.alloc, story.known);
     let killed = Bounds::killed(&first.life);
@@ -224,10 +223,10 @@ fn bounds_behind(first: &Life, second: &Life) -> Bounds {
 fn wrong_second<A: Allocator + Copy>(
     story: Story<'_, A>,
     first: &Ended<A>,
-    (failing, way): (u64, Way),
+    failing: u64,
     before: &mut Ended<A>,
 ) -> Option<Fault> {
-    let Ok(ended) = failing_second(story, first, failing, way) else {
+    let Ok(ended) = failing_second(story, first, failing) else {
         return Some((None, 0, End::NoMemory));
     };
     let fault = if !ended.is_right(failing) {
@@ -246,31 +245,16 @@ fn wrong_second<A: Allocator + Copy>(
 fn second_calls<A: Allocator + Copy>(
     story: Story<'_, A>,
     first: &Ended<A>,
-    way: Way,
 ) -> Option<(u64, Fault)> {
     let mut before = Ended::none(story.alloc);
     for failing in 1..MOST_CALLS {
-        match wrong_second(story, first, (failing, way), &mut before) {
+        match wrong_second(story, first, failing, &mut before) {
             Some(fault) => return Some((failing, fault)),
             None if before.has_made(failing) => {}
             None => return None,
         }
     }
     Some((MOST_CALLS, (None, 0, before.life.end)))
-}
-
-/// The first call of a second life that is wrong, whether it fails untold or not.
-fn wrong_call<A: Allocator + Copy>(
-    story: Story<'_, A>,
-    first: &Ended<A>,
-    failing: u64,
-) -> Option<Wrong> {
-    for way in [Way::Last, Way::Untold] {
-        if let Some((call, fault)) = second_calls(story, first, way) {
-            return Some((way, failing, call, fault));
-        }
-    }
-    None
 }
 
 /// How many calls of a first life fail before none does, each with all calls of the second; or the first two with which
@@ -280,8 +264,8 @@ fn both_calls<A: Allocator + Copy>(story: Story<'_, A>) -> Result<u64, Wrong> {
     for failing in 1..MOST_CALLS {
         let first = failing_first(story.alloc, story.rounds, failing, Way::Last);
         if !first.is_same(&before) {
-            if let Some(wrong) = wrong_call(story, &first, failing) {
-                return Err(wrong);
+            if let Some((call, fault)) = second_calls(story, &first) {
+                return Err((Way::Last, failing, call, fault));
             }
         }
         if !first.has_made(failing) {
@@ -343,6 +327,10 @@ fn each_call_fails(rt: HostRuntime) {
         let is_right = matches!(told, Ok((calls, tried)) if 80 < calls && 500 < tried);
         assert!(rt; is_right, "{told:?}");
     }
+}
+
+#[test]
+fn each_call_of_two_lives_fails(rt: HostRuntime) {
     let told = told(rt.alloc(), &APPENDED, true);
     let is_right = matches!(told, Ok((calls, tried)) if 25 < calls && 200 < tried);
     assert!(rt; is_right, "{told:?}");

@@ -202,8 +202,9 @@ fn told<A: Allocator + Copy>(
 
 #[test]
 fn each_allocation_fails(rt: HostRuntime) {
-    for (rounds, of_later) in [(&CHANGING, false), (&APPENDED, true)] {
-        let told = told(rt.alloc(), rounds, of_later);
+    let first = told(rt.alloc(), &CHANGING, false);
+    let later = told(rt.alloc(), &APPENDED, true);
+    for told in [first, later] {
         let is_right = matches!(told, Ok(came) if came.is_each());
         assert!(rt; is_right, "{told:?}");
     }
