@@ -104,7 +104,7 @@ fn wrong_crash<A: Allocator + Copy>(
 
 /// Whether a front of so many bytes is tried, of so many that there are at most.
 fn is_tried(count: usize, most: usize) -> bool {
-    count % 29 == 0 || count.saturating_add(2) > most
+    count % 43 == 0 || count.saturating_add(2) > most
 }
 
 /// The first front that a crash leaves and that is wrong; or one with zeros behind it.
@@ -165,6 +165,8 @@ pub(crate) enum Reach {
     Many,
     /// All or nothing.
     Outermost,
+    /// A kill alone.
+    Kill,
 }
 
 /// What is wrong with what a first life leaves.
@@ -180,6 +182,7 @@ pub(crate) fn wrong_behind<A: Allocator + Copy>(
             wrong_front(story, store, &bounds).or(wrong_sector(story, store, &bounds))
         }
         Reach::Outermost => wrong_outermost(story, store, &bounds),
+        Reach::Kill => None,
     };
     killed.or(crashed)
 }

@@ -278,10 +278,11 @@ fn both_calls<A: Allocator + Copy>(story: Story<'_, A>) -> Result<u64, Wrong> {
 
 // ---- tests
 
-/// How calls fail, and how much of what a crash may leave is tried then.
+/// How calls fail, and how much of what a crash may leave is tried then. Of a call that fails alone only the life differs
+/// from that of the last one: it ends all the same.
 static WAYS: [(Way, Reach); 3] = [
     (Way::Last, Reach::Many),
-    (Way::Alone, Reach::Outermost),
+    (Way::Alone, Reach::Kill),
     (Way::Untold, Reach::Outermost),
 ];
 
@@ -324,7 +325,7 @@ fn each_call_fails(rt: HostRuntime) {
     // a start makes some twenty calls, and each of five groups an append and a sync
     for rounds in [&COMMITTED, &APPENDED] {
         let told = told(rt.alloc(), rounds, false);
-        let is_right = matches!(told, Ok((calls, tried)) if 80 < calls && 500 < tried);
+        let is_right = matches!(told, Ok((calls, tried)) if 80 < calls && 300 < tried);
         assert!(rt; is_right, "{told:?}");
     }
 }
@@ -332,6 +333,6 @@ fn each_call_fails(rt: HostRuntime) {
 #[test]
 fn each_call_of_two_lives_fails(rt: HostRuntime) {
     let told = told(rt.alloc(), &APPENDED, true);
-    let is_right = matches!(told, Ok((calls, tried)) if 25 < calls && 200 < tried);
+    let is_right = matches!(told, Ok((calls, tried)) if 25 < calls && 100 < tried);
     assert!(rt; is_right, "{told:?}");
 }
