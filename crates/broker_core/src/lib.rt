@@ -11,7 +11,7 @@ mod receiving;
 mod replying;
 mod session;
 
-pub use broker_node::{
+pub use sessions::{
     Answer, Config, ConfigError, ErrorCode, GROUP_TOPIC, MAX_FETCH_BYTES, MAX_HOST_BYTES,
     MAX_PARTITIONS, MAX_TOPICS, Node, Role, TopicConfig,
 };

@@ -5,7 +5,7 @@ ghost use Rattle.frame_fields.specs.Frames.{IsIncomplete};
 ghost use Rattle.broker_core.specs.SessionSteps.{AnswersFront, StopsNext, StopsWithin};
 
 use crate::session::SessionError;
-use broker_node::Node;
+use sessions::Node;
 use bytes::BytesMut;
 use segment::BatchStore;
 use sessions::{Next, NextError, Plainly, answer_first};

@@ -5,7 +5,7 @@ ghost use Rattle.broker_core.specs.Sessions.{EndsAs, StopsAs};
 
 use crate::receiving::read_more;
 use crate::replying::answer_held;
-use broker_node::Node;
+use sessions::Node;
 use bytes::BytesMut;
 use frame_fields::FrameError;
 use segment::BatchStore;

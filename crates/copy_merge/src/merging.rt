@@ -5,7 +5,7 @@ ghost use Rattle.content.specs.Joins.{join, Agree};
 ghost use Rattle.copy_merge.specs.Merges.{IsFirstDisagreement, RefusesMerge};
 
 use crate::error::MergeError;
-use partition_log::PartitionLog;
+use side_by_side::PartitionLog;
 use segment::BatchStore;
 use side_by_side::{KeptBatches, SeenCover, judge, patch};
 use std::alloc::AllocError;

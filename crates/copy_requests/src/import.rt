@@ -14,7 +14,7 @@ use crate::codes::image_code;
 use answering::{ErrorCode, respond_once};
 use broker_state::{BrokerState, Change, Place, Role};
 use copy_images::read_image;
-use copy_merge::{MergeError, merge_into};
+use copy_deltas::{MergeError, merge_into};
 use partition_log::{Gapped, LeaderLog, PartitionLog};
 use request_frames::ImportRequest;
 use responses::RESPONSE_HEAD_BYTES;

@@ -11,7 +11,7 @@ mod notes;
 mod recovering;
 mod replaying;
 
-pub use broker_node::{Answer, GROUP_TOPIC, Node};
+pub use sessions::{Answer, GROUP_TOPIC, Node};
 pub use keeper::{CommitError, Keeper, Sent};
 pub use notes::FrameNotes;
 pub use recovering::{RecoverError, ResumeError, recover, resume};

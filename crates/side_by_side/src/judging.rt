@@ -20,7 +20,7 @@ use crate::telling::Telling;
 use batch_codec::BatchView;
 use cover_ranges::Cover;
 use delta_bytes::entries::EntryView;
-use partition_log::PartitionLog;
+use delta_bytes::PartitionLog;
 use segment::BatchStore;
 use std::alloc::Allocator;
 

@@ -29,7 +29,7 @@ use batch_codec::{BatchView, one_encoding, put_thinned};
 use cover_ranges::Cover;
 use delta_bytes::entries::EntryView;
 use delta_bytes::lists::OffsetBytes;
-use partition_log::PartitionLog;
+use delta_bytes::PartitionLog;
 use segment::{BatchStore, Turn};
 use std::alloc::{AllocError, Allocator};
 

@@ -16,7 +16,7 @@ pub use command_line::CommandLine;
 pub use listeners::{
     Connection, KeptOptions, PromptStream, Replies, Requests, ServeOptions, StartOptions, SyncWay,
 };
-pub use subcommands::{
+pub use listeners::{
     Answer, Config, ConfigError, DONE, Ended, FAILED, FAULTY, GROUP_TOPIC, ImagesError, NO_MEMORY,
     Node, REFUSED, Refusal, Role, SessionError, SessionFault, TableError, TopicConfig,
     answer_frames, line_ends_once, merge_stream, run_merge, run_replay, run_session, run_table,
