@@ -122,7 +122,8 @@ module _ (s t : State) (hold : HoldTheSame s t) where
         late = refl;
         done = (
           (λ i. produce_result e.index no_error (appended (c i) (batch_of e.records)).0),
-          with_both s t hold name e.index (appended (content_at s name e.index) (batch_of e.records)).1 (appended (content_at t name e.index) (batch_of e.records)).1 (λ i. (appended (c i) (batch_of e.records)).1));
+          with_both s t hold name e.index (appended (content_at s name e.index) (batch_of e.records)).1 (appended (content_at t name e.index) (batch_of e.records)).1 (λ i. (appended (c i) (batch_of e.records)).1),
+        );
         failed = λ code. refl;
       }
 
@@ -149,7 +150,8 @@ module _ (s t : State) (hold : HoldTheSame s t) where
     late = λ i. forget_group_checks (group i) (group_keys (group i) name);
     done = (
       (λ i. record { code = no_error; count = pos (length (group_keys (group i) name)) }),
-      with_both s t hold group_topic (pos 0) (forgotten (content_at s group_topic (pos 0)) (group_keys (content_at s group_topic (pos 0)) name)) (forgotten (content_at t group_topic (pos 0)) (group_keys (content_at t group_topic (pos 0)) name)) (λ i. forgotten (group i) (group_keys (group i) name)));
+      with_both s t hold group_topic (pos 0) (forgotten (content_at s group_topic (pos 0)) (group_keys (content_at s group_topic (pos 0)) name)) (forgotten (content_at t group_topic (pos 0)) (group_keys (content_at t group_topic (pos 0)) name)) (λ i. forgotten (group i) (group_keys (group i) name)),
+    );
     failed = λ code. refl;
   }
 
@@ -178,7 +180,8 @@ module _ (s t : State) (hold : HoldTheSame s t) where
         late = refl;
         done = (
           (λ i. record { code = no_error; repeat = has_seen_all (c i) b }),
-          with_both s t hold q.topic q.partition (add (content_at s q.topic q.partition) b) (add (content_at t q.topic q.partition) b) (λ i. add (c i) b));
+          with_both s t hold q.topic q.partition (add (content_at s q.topic q.partition) b) (add (content_at t q.topic q.partition) b) (λ i. add (c i) b),
+        );
         failed = λ code. refl;
       }
 
@@ -190,7 +193,8 @@ module _ (s t : State) (hold : HoldTheSame s t) where
         late = refl;
         done = (
           (λ i. clean_result (clean_report q.upto q.tomb_before (c i))),
-          with_both s t hold q.topic q.partition (clean q.upto q.tomb_before (content_at s q.topic q.partition)) (clean q.upto q.tomb_before (content_at t q.topic q.partition)) (λ i. clean q.upto q.tomb_before (c i)));
+          with_both s t hold q.topic q.partition (clean q.upto q.tomb_before (content_at s q.topic q.partition)) (clean q.upto q.tomb_before (content_at t q.topic q.partition)) (λ i. clean q.upto q.tomb_before (c i)),
+        );
         failed = λ code. refl;
       }
 
@@ -275,7 +279,8 @@ changed_alike s t after q out hold change replies =
     let both = body_same s t q.correlation q.body change hold in
     let sent : out ≡ (reply t q).0 = ap (λ x. x.0) is ∙ both.0 in
     let left : after ≡ (reply s q).1 = ap (λ x. x.1) is in
-    let other = (reply t q).1 in
-    (other,
-    (one_reply t other q out).1 (λ i. (sent i, other)),
-    subst (λ (m : State). HoldTheSame m other) (sym left) both.1)
+    let other = (reply t q).1 in (
+      other,
+      (one_reply t other q out).1 (λ i. (sent i, other)),
+      subst (λ (m : State). HoldTheSame m other) (sym left) both.1,
+    )

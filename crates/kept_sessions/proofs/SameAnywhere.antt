@@ -11,16 +11,21 @@ replayed_alike s t after [] hold replays = (t, refl, subst (λ (m : State). Hold
 replayed_alike s t after (frame ∷ frames) hold replays =
     let first = replays.1 in
     let next = changed_alike s t replays.0 first.request first.response hold first.changes first.replies in
-    let others = replayed_alike replays.0 next.0 after frames next.2 replays.2 in
-    (others.0,
-    (next.0, record {
-      request = first.request;
-      reads = first.reads;
-      changes = first.changes;
-      response = first.response;
-      replies = next.1;
-    }, others.1),
-    others.2)
+    let others = replayed_alike replays.0 next.0 after frames next.2 replays.2 in (
+      others.0,
+      (
+        next.0,
+        record {
+          request = first.request;
+          reads = first.reads;
+          changes = first.changes;
+          response = first.response;
+          replies = next.1;
+        },
+        others.1,
+      ),
+      others.2,
+    )
 
 pub started_alike : (g h : ConfigValue) (after : State) (frames : List (List ℕ)) → AskForTheSame g h → Replays (new_state g) frames after → (other : State) × Replays (new_state h) frames other × HoldTheSame after other
 started_alike g h after frames same = replayed_alike (new_state g) (new_state h) after frames (begin_alike g h same)

@@ -19,8 +19,8 @@ use crate::seen::{Seen, has_all_or_none};
 use crate::telling::Telling;
 use batch_codec::BatchView;
 use cover_ranges::Cover;
-use delta_bytes::entries::EntryView;
 use delta_bytes::PartitionLog;
+use delta_bytes::entries::EntryView;
 use segment::BatchStore;
 use std::alloc::Allocator;
 

@@ -15,17 +15,16 @@ ghost use Rattle.listeners.specs.Below.{PrintsTable};
 
 use crate::asked::{ArgumentsFault, Asked, parse};
 use crate::refusals::refuse_line;
-use listeners::{ServeOptions, StartOptions, listen};
+use listeners::{
+    FAULTY, ServeOptions, SessionError, SessionFault, StartOptions, fail_session, listen,
+    run_merge, run_replay, run_session, run_table_subcommand,
+};
 use std::alloc::{AllocError, Global};
 use std::convert::AsStr;
 use std::io::{Read, Write};
 use std::marker::Model;
 use std::net::TcpListener;
 use streams::{Sink, Source};
-use listeners::{
-    FAULTY, SessionError, SessionFault, fail_session, run_merge, run_replay, run_session,
-    run_table_subcommand,
-};
 
 /// The arguments of a command line, of which the first is the program's name, and what they ask for.
 /// Contracts see it as the arguments' texts.
