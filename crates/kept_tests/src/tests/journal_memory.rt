@@ -190,17 +190,22 @@ fn made_without<A: Allocator + Copy>(inner: A, refused: u64) -> (bool, bool) {
     (is_made, heap.calls() >= refused)
 }
 
-/// Whether a frame is pushed, if need be once more, where this allocation fails, and taken back; and whether it is asked for.
+/// A frame behind its size.
+const FRAME: &[u8] = b"\0\0\0\x01a";
+
+/// Whether a frame is pushed, once more where that fails for lack of memory, and taken back; and whether this allocation,
+/// which fails, is asked for.
 fn pushed_without<A: Allocator + Copy>(inner: A, refused: u64) -> (bool, bool) {
     let heap = Refusing::new(inner, refused);
     let mut group = GroupBuffer::new(&heap);
-    let is_first = group.push(b"size", b"frame").is_ok();
-    let is_pushed = is_first || group.frames() == b"" && group.push(b"size", b"frame").is_ok();
-    let is_whole = is_pushed && group.frames() == b"sizeframe";
+    let (size, frame) = FRAME.split_at(4);
+    let is_first = group.push(size, frame).is_ok();
+    let is_pushed = is_first || group.frames().is_empty() && group.push(size, frame).is_ok();
+    let is_whole = is_pushed && group.frames() == FRAME;
     group.truncate(4);
-    let is_cut = is_whole && group.frames() == b"size";
+    let is_cut = is_whole && group.frames() == size;
     group.clear();
-    (is_cut && group.frames() == b"", heap.calls() >= refused)
+    (is_cut && group.frames().is_empty(), heap.calls() >= refused)
 }
 
 #[test]
