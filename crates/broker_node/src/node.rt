@@ -46,6 +46,13 @@ impl<S: BatchStore> Node<S> {
         }
     }
 
+    /// The broker that holds this.
+    pub fn from_state(state: BrokerState<S>) -> Node<S>
+        ensures { result ≡ state }
+    {
+        Node { state }
+    }
+
     /// What the broker holds.
     pub fn state(&self) -> &BrokerState<S>
         ensures { result.now ≡ self.now }

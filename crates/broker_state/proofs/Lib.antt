@@ -6,6 +6,7 @@ pub mod Names
 pub mod NewTopics
 pub mod NewStates
 pub mod OwnContent
+pub mod Restored
 pub mod PlacedTopics
 pub mod NumberedPartitions
 pub mod Shapes

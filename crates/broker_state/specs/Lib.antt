@@ -8,6 +8,7 @@ pub mod Batches
 pub mod Places
 pub mod Changes
 pub mod Appending
+pub mod Restoring
 pub mod Partitions
 pub mod ConfigValues
 pub mod Taken

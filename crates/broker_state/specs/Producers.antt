@@ -16,3 +16,7 @@ abbrev pub GivesProducerId : State → Option ℤ → State → Type 0
 GivesProducerId s (Some id) after =
     (s.next_producer ≢ greatest_int64) × (id ≡ s.next_producer) × (after ≡ with_id_given s)
 GivesProducerId s None after = (s.next_producer ≡ greatest_int64) × (after ≡ s)
+
+-- this id is the next one
+abbrev pub with_next_id : State → ℤ → State
+with_next_id s id = record s { next_producer = id }

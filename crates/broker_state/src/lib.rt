@@ -15,6 +15,7 @@ mod limits;
 mod new_topics;
 mod partition;
 mod place;
+mod restoring;
 mod state;
 mod topic;
 
@@ -26,5 +27,6 @@ pub use config::{Config, Role, TopicConfig};
 pub use error::ConfigError;
 pub use limits::{GROUP_TOPIC, MAX_HOST_BYTES, MAX_PARTITIONS, MAX_TOPICS};
 pub use place::Place;
+pub use restoring::{EarlyProducer, RestoreError};
 pub use state::BrokerState;
 pub use topic::TopicLogs;

@@ -1,6 +1,6 @@
 //! What a broker holds: its configuration, the partitions of its topics, and the next producer id.
 
-ghost use Rattle.std.specs.Prelude.{◌≡◌, ◌≤◌, ◌+◌, ℕ, ℤ, pos, List, [], ◌∷◌, Some, None, IfOk, IfErr, IfSome, IfNone, map, length};
+ghost use Rattle.std.specs.Prelude.{◌≡◌, ◌≤◌, ◌≤ℤ◌, ◌<ℤ◌, ◌+◌, ℕ, ℤ, pos, List, [], ◌∷◌, Some, None, IfOk, IfErr, OnOk, OnErr, IfSome, IfNone, map, length};
 ghost use Rattle.std.specs.List.{All};
 ghost use Rattle.std.specs.Option.{option_map};
 ghost use Rattle.answering.specs.Lists.{first_some};
@@ -11,7 +11,7 @@ ghost use Rattle.broker_state.specs.Changes.{ChangesAt};
 ghost use Rattle.broker_state.specs.Configs.{IsValidConfig, ConfigFault};
 ghost use Rattle.broker_state.specs.ConfigValues.{config_value};
 ghost use Rattle.broker_state.specs.Parts.{topic_contents};
-ghost use Rattle.broker_state.specs.Producers.{GivesProducerId};
+ghost use Rattle.broker_state.specs.Producers.{GivesProducerId, with_next_id};
 ghost use Rattle.broker_state.specs.Sound.{IsSound};
 
 use crate::change::Change;
@@ -21,6 +21,7 @@ use crate::judging::config_fault;
 use crate::limits::{GROUP_TOPIC, MAX_PARTITIONS, MAX_TOPICS};
 use crate::new_topics::new_topics;
 use crate::place::Place;
+use crate::restoring::EarlyProducer;
 use crate::topic::{TopicLogs, topic_index};
 use answering::ErrorCode;
 use partition_log::PartitionLog;
@@ -195,6 +196,38 @@ impl<S: BatchStore> BrokerState<S> {
             }
             None => None,
         }
+    }
+
+    /// Makes an id the next one that is given out to a producer.
+    ///
+    /// # Errors
+    ///
+    /// It lies below the first producer id of the configuration; then nothing changes.
+    pub fn give_ids_from(&mut self, id: i64) -> Result<(), EarlyProducer>
+        ensures gives { OnOk result (self.new ≡ with_next_id self.old id) }
+        ensures is_not_early { OnOk result (self.old.config.first_producer ≤ℤ id) }
+        ensures refuses { OnErr result (id <ℤ self.old.config.first_producer) }
+        ensures unchanged_on_error { OnErr result (self.new ≡ self.old) }
+    {
+        if id < self.config.first_producer {
+            return Err(EarlyProducer);
+        }
+        self.next_producer = id;
+        Ok(())
+    }
+
+    /// The producer id that was configured as the first one.
+    pub fn first_producer(&self) -> i64
+        ensures { result ≡ self.now.config.first_producer }
+    {
+        self.config.first_producer
+    }
+
+    /// The producer id that is given out next.
+    pub fn next_producer(&self) -> i64
+        ensures { result ≡ self.now.next_producer }
+    {
+        self.next_producer
     }
 
     /// The broker's number.

@@ -81,7 +81,7 @@ impl<S: BatchStore> TopicLogs<S> {
     }
 
     /// The copy of the partition of an index.
-    pub(crate) fn partition_copy(&self, index: usize) -> &PartitionLog<S>
+    pub fn partition_copy(&self, index: usize) -> &PartitionLog<S>
         requires { index < length self.now.partitions }
         ensures { partition_of (pos index) (topic_contents self.now) ≡ Some result.now }
     {
