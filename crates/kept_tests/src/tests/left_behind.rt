@@ -11,7 +11,6 @@ use std::alloc::Allocator;
 use std::cell::{Cell, RefCell};
 
 /// What lives are told by.
-#[derive(Clone, Copy)]
 pub(crate) struct Story<'a, A: Allocator + Copy> {
     pub(crate) alloc: A,
     /// The rounds of the first life.
@@ -39,7 +38,7 @@ fn are_whole(rounds: &[Round], frames: u64) -> bool {
 
 /// What a later life knows that ended cleanly, and that found what is within bounds.
 fn known_then<A: Allocator + Copy>(
-    story: Story<'_, A>,
+    story: &Story<'_, A>,
     store: &RefCell<Store<A>>,
     bounds: &Bounds,
 ) -> Result<Bounds, End> {
@@ -54,24 +53,29 @@ fn known_then<A: Allocator + Copy>(
 
 /// How two starts go on with files and names in which is what is within bounds, if not cleanly.
 fn wrong_end<A: Allocator + Copy>(
-    story: Story<'_, A>,
+    story: &Story<'_, A>,
     store: Store<A>,
     bounds: &Bounds,
 ) -> Option<End> {
     story.tried.set(story.tried.get().saturating_add(1));
     let store = RefCell::new(store);
-    match known_then(story, &store, bounds) {
-        Ok(then) if bounds.are_whole && !are_whole(story.rounds, then.frames.0) => {
-            Some(End::Wrong("a part of a round"))
-        }
-        Ok(then) => known_then(story, &store, &then).err(),
+    let then = match known_then(story, &store, bounds) {
+        Ok(then) => then,
+        Err(end) => return Some(end),
+    };
+    let (frames, _) = then.frames;
+    if bounds.are_whole && !are_whole(story.rounds, frames) {
+        return Some(End::Wrong("a part of a round"));
+    }
+    match known_then(story, &store, &then) {
+        Ok(_) => None,
         Err(end) => Some(end),
     }
 }
 
 /// What is wrong where the process is killed, and the machine goes on.
 pub(crate) fn wrong_kill<A: Allocator + Copy>(
-    story: Story<'_, A>,
+    story: &Story<'_, A>,
     store: &Store<A>,
     bounds: &Bounds,
 ) -> Option<Fault> {
@@ -86,7 +90,7 @@ pub(crate) fn wrong_kill<A: Allocator + Copy>(
 
 /// What is wrong where a crash leaves so much of the files' bytes, and any of the changes of names.
 fn wrong_crash<A: Allocator + Copy>(
-    story: Story<'_, A>,
+    story: &Story<'_, A>,
     store: &Store<A>,
     left: Left,
     bounds: &Bounds,
@@ -109,7 +113,7 @@ fn is_tried(count: usize, most: usize) -> bool {
 
 /// The first front that a crash leaves and that is wrong; or one with zeros behind it.
 fn wrong_front<A: Allocator + Copy>(
-    story: Story<'_, A>,
+    story: &Story<'_, A>,
     store: &Store<A>,
     bounds: &Bounds,
 ) -> Option<Fault> {
@@ -128,7 +132,7 @@ fn wrong_front<A: Allocator + Copy>(
 
 /// The first torn sector with which it is wrong.
 fn wrong_sector<A: Allocator + Copy>(
-    story: Story<'_, A>,
+    story: &Story<'_, A>,
     store: &Store<A>,
     bounds: &Bounds,
 ) -> Option<Fault> {
@@ -144,7 +148,7 @@ fn wrong_sector<A: Allocator + Copy>(
 
 /// What is wrong where a crash leaves all or nothing of what isn't on the disk for certain, or zeros.
 pub(crate) fn wrong_outermost<A: Allocator + Copy>(
-    story: Story<'_, A>,
+    story: &Story<'_, A>,
     store: &Store<A>,
     bounds: &Bounds,
 ) -> Option<Fault> {
@@ -171,7 +175,7 @@ pub(crate) enum Reach {
 
 /// What is wrong with what a first life leaves.
 pub(crate) fn wrong_behind<A: Allocator + Copy>(
-    story: Story<'_, A>,
+    story: &Story<'_, A>,
     (life, store): (&Life, &Store<A>),
     reach: Reach,
 ) -> Option<Fault> {

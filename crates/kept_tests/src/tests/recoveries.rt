@@ -152,7 +152,7 @@ pub(crate) fn failing_first<A: Allocator + Copy>(
 
 /// What is wrong where this call of a first life fails. Nothing is, where it leaves the same as the one before.
 fn wrong_first<A: Allocator + Copy>(
-    story: Story<'_, A>,
+    story: &Story<'_, A>,
     (way, reach): (Way, Reach),
     failing: u64,
     before: &mut Ended<A>,
@@ -171,7 +171,7 @@ fn wrong_first<A: Allocator + Copy>(
 
 /// How many calls of a first life fail before none does; or the first one with which something is wrong.
 fn first_calls<A: Allocator + Copy>(
-    story: Story<'_, A>,
+    story: &Story<'_, A>,
     way: Way,
     reach: Reach,
 ) -> Result<u64, Wrong> {
@@ -191,7 +191,7 @@ fn first_calls<A: Allocator + Copy>(
 
 /// A second life of which this call fails, over what was left by a first one that was killed.
 fn failing_second<A: Allocator + Copy>(
-    story: Story<'_, A>,
+    story: &Story<'_, A>,
     first: &Ended<A>,
     failing: u64,
 ) -> Result<Ended<A>, AllocError> {
@@ -221,7 +221,7 @@ fn bounds_behind(first: &Life, second: &Life) -> Bounds {
 
 /// What is wrong where this call of a second life fails. Nothing is, where it leaves the same as the one before.
 fn wrong_second<A: Allocator + Copy>(
-    story: Story<'_, A>,
+    story: &Story<'_, A>,
     first: &Ended<A>,
     failing: u64,
     before: &mut Ended<A>,
@@ -243,7 +243,7 @@ fn wrong_second<A: Allocator + Copy>(
 
 /// The first call of a second life with which something is wrong, and its number.
 fn second_calls<A: Allocator + Copy>(
-    story: Story<'_, A>,
+    story: &Story<'_, A>,
     first: &Ended<A>,
 ) -> Option<(u64, Fault)> {
     let mut before = Ended::none(story.alloc);
@@ -259,7 +259,7 @@ fn second_calls<A: Allocator + Copy>(
 
 /// How many calls of a first life fail before none does, each with all calls of the second; or the first two with which
 /// something is wrong. Where the first life left the same as the one before, the second one is as that one's was.
-fn both_calls<A: Allocator + Copy>(story: Story<'_, A>) -> Result<u64, Wrong> {
+fn both_calls<A: Allocator + Copy>(story: &Story<'_, A>) -> Result<u64, Wrong> {
     let mut before = Ended::none(story.alloc);
     for failing in 1..MOST_CALLS {
         let first = failing_first(story.alloc, story.rounds, failing, Way::Last);
@@ -287,7 +287,7 @@ static WAYS: [(Way, Reach); 3] = [
 ];
 
 /// How many calls of first lives fail, all ways taken together.
-fn first_calls_in_all<A: Allocator + Copy>(story: Story<'_, A>) -> Result<u64, Wrong> {
+fn first_calls_in_all<A: Allocator + Copy>(story: &Story<'_, A>) -> Result<u64, Wrong> {
     let mut calls = 0_u64;
     for (way, reach) in &WAYS {
         calls = calls.saturating_add(first_calls(story, *way, *reach)?);
@@ -313,9 +313,9 @@ fn told<A: Allocator + Copy>(
         tried: &tried,
     };
     let calls = if of_two {
-        both_calls(story)?
+        both_calls(&story)?
     } else {
-        first_calls_in_all(story)?
+        first_calls_in_all(&story)?
     };
     Ok((calls, tried.get()))
 }

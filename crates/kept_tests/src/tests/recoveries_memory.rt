@@ -87,7 +87,7 @@ fn wrong_life(life: &Life, ends: &[End]) -> Option<Fault> {
 /// A first life for which this allocation fails: what is wrong with it and with what it leaves, and whether it was asked
 /// for.
 fn first_without<A: Allocator + Copy>(
-    story: Story<'_, A>,
+    story: &Story<'_, A>,
     refused: u64,
     came: &mut Came,
 ) -> (Option<Fault>, bool) {
@@ -104,7 +104,7 @@ fn first_without<A: Allocator + Copy>(
 /// A later life for which this allocation fails, over what a first one left: what it knows, what it leaves, and whether it
 /// was asked for.
 fn later_without<A: Allocator + Copy>(
-    story: Story<'_, A>,
+    story: &Story<'_, A>,
     first: &Ended<A>,
     refused: u64,
 ) -> Result<(Ended<A>, bool), AllocError> {
@@ -122,7 +122,7 @@ fn later_without<A: Allocator + Copy>(
 
 /// What is wrong with such a life, and with what it leaves: all as it was, where there was no start.
 fn wrong_later<A: Allocator + Copy>(
-    story: Story<'_, A>,
+    story: &Story<'_, A>,
     first: &Ended<A>,
     later: &Ended<A>,
 ) -> Option<Fault> {
@@ -147,7 +147,7 @@ fn wrong_later<A: Allocator + Copy>(
 type Wrong = (u64, Fault);
 
 /// What comes of first lives, each without one allocation.
-fn all_first<A: Allocator + Copy>(story: Story<'_, A>) -> Result<Came, Wrong> {
+fn all_first<A: Allocator + Copy>(story: &Story<'_, A>) -> Result<Came, Wrong> {
     let mut came = Came::new();
     for refused in 1..MOST {
         match first_without(story, refused, &mut came) {
@@ -160,7 +160,7 @@ fn all_first<A: Allocator + Copy>(story: Story<'_, A>) -> Result<Came, Wrong> {
 }
 
 /// What comes of later lives, each without one allocation.
-fn all_later<A: Allocator + Copy>(story: Story<'_, A>, first: &Ended<A>) -> Result<Came, Wrong> {
+fn all_later<A: Allocator + Copy>(story: &Story<'_, A>, first: &Ended<A>) -> Result<Came, Wrong> {
     let mut came = Came::new();
     for refused in 1..MOST {
         let Ok((later, is_asked)) = later_without(story, first, refused) else {
@@ -194,9 +194,9 @@ fn told<A: Allocator + Copy>(
         tried: &tried,
     };
     if of_later {
-        all_later(story, &failing_first(alloc, rounds, LATE, Way::Alone))
+        all_later(&story, &failing_first(alloc, rounds, LATE, Way::Alone))
     } else {
-        all_first(story)
+        all_first(&story)
     }
 }
 
