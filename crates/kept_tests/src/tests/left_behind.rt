@@ -11,6 +11,7 @@ use std::alloc::Allocator;
 use std::cell::{Cell, RefCell};
 
 /// What lives are told by.
+#[derive(Drop)]
 pub(crate) struct Story<'a, A: Allocator + Copy> {
     pub(crate) alloc: A,
     /// The rounds of the first life.
