@@ -294,8 +294,9 @@ def each_call_fails(program):
 def each_write_fails(program):
     """A write or a sync of the journal fails while it runs: it ends with status 4 and the file's line, and the next start has what
     was acknowledged."""
-    for call, error in (("write", "EIO"), ("fdatasync", "EIO")):
-        for number in range(3, 10):
+    # of the start are the write of the head and two syncs; then each group has one of both
+    for call, error, first in (("write", "EIO", 2), ("fdatasync", "EIO", 3)):
+        for number in range(first, 10):
             with new_folder() as folder:
                 with Failing(program, folder, call, error, number, [JOURNAL]) as broker:
                     acknowledged = acknowledged_of(broker, FILLING[:20])

@@ -11,7 +11,7 @@ use Rattle.sessions.proofs.Frames.{no_frames, one_cut, cut_append, cut_length}
 use Rattle.broker_core.specs.declared.session.SessionError.TheVariants.{Frame, Write, OutOfMemory}
 use Rattle.broker_core.specs.declared.session.SessionError.{SessionError}
 use Rattle.broker_state.specs.State.{State}
-use Rattle.broker_node.specs.Streams.{AreAnswered}
+use Rattle.sessions.specs.Below.{AreAnswered}
 use Rattle.broker_core.specs.SessionSteps.{AnswersFront, StopsNext, StopsWithin}
 
 -- ---- one frame

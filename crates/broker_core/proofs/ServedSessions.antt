@@ -7,7 +7,7 @@ use Rattle.frame_fields.specs.Frames.{IsIncomplete}
 use Rattle.broker_core.specs.declared.session.SessionError.{SessionError}
 use Rattle.broker_core.specs.declared.session.SessionError.TheVariants.{Frame, Read, Write, OutOfMemory}
 use Rattle.broker_state.specs.State.{State}
-use Rattle.broker_node.specs.Streams.{IsAnswered}
+use Rattle.sessions.specs.Below.{IsAnswered}
 use Rattle.broker_core.specs.Sessions.{Session, EndsAs, StopsAs}
 use Rattle.broker_core.specs.SessionSteps.{StopsReading, AnswersFront, StopsNext, StopsWithin, Serves}
 use Rattle.sessions.proofs.Frames.{cut_append, cut_longer, one_cut}

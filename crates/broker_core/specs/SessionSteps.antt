@@ -6,7 +6,7 @@ use Rattle.frame_fields.specs.Frames.{IsIncomplete, IsFirstFrame}
 use Rattle.broker_core.specs.declared.session.SessionError.{SessionError}
 use Rattle.broker_core.specs.declared.session.SessionError.TheVariants.{Frame, Read, Write, OutOfMemory}
 use Rattle.broker_state.specs.State.{State}
-use Rattle.broker_node.specs.Streams.{IsAnswered, Answered, RefusesNext}
+use Rattle.sessions.specs.Below.{IsAnswered, Answered, RefusesNext}
 use Rattle.broker_core.specs.Sessions.{HasNoBadSize}
 
 -- ---- reads

@@ -8,7 +8,7 @@ use Rattle.broker_core.specs.declared.session.Ended.{Ended}
 use Rattle.broker_core.specs.declared.session.SessionError.{SessionError}
 use Rattle.broker_core.specs.declared.session.SessionError.TheVariants.{Frame, Read, Write, OutOfMemory}
 use Rattle.broker_state.specs.State.{State}
-use Rattle.broker_node.specs.Streams.{IsAnswered, AreAnswered, Answered, RefusesNext}
+use Rattle.sessions.specs.Below.{IsAnswered, AreAnswered, Answered, RefusesNext}
 
 -- the bytes that left the source, and those that the sink took
 pub record Moves (source source' : SourceState) (sink sink' : SinkState) (input output : List ℕ) : Type 0 where

@@ -11,10 +11,10 @@ mod receiving;
 mod replying;
 mod session;
 
-pub use broker_node::{
+pub use cluster::{Cluster, ClusterError, Event, EventError, MAX_COPIES, Outcome};
+pub use session::{Ended, SessionError, serve};
+pub use sessions::{
     Answer, Config, ConfigError, ErrorCode, GROUP_TOPIC, MAX_FETCH_BYTES, MAX_HOST_BYTES,
     MAX_PARTITIONS, MAX_TOPICS, Node, Role, TopicConfig,
 };
-pub use cluster::{Cluster, ClusterError, Event, EventError, MAX_COPIES, Outcome};
-pub use session::{Ended, SessionError, serve};
 pub use streams::{Failed, Sink, Source};

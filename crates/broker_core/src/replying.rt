@@ -5,10 +5,9 @@ ghost use Rattle.frame_fields.specs.Frames.{IsIncomplete};
 ghost use Rattle.broker_core.specs.SessionSteps.{AnswersFront, StopsNext, StopsWithin};
 
 use crate::session::SessionError;
-use broker_node::Node;
 use bytes::BytesMut;
 use segment::BatchStore;
-use sessions::{Next, NextError, Plainly, answer_first};
+use sessions::{Next, NextError, Node, Plainly, answer_first};
 use std::alloc::Allocator;
 use std::io::Write;
 use streams::Sink;

@@ -5,10 +5,10 @@ ghost use Rattle.broker_core.specs.Sessions.{EndsAs, StopsAs};
 
 use crate::receiving::read_more;
 use crate::replying::answer_held;
-use broker_node::Node;
 use bytes::BytesMut;
 use frame_fields::FrameError;
 use segment::BatchStore;
+use sessions::Node;
 use std::alloc::Allocator;
 use std::io::{Read, Write};
 use streams::{MOST_READS, Sink, Source};

@@ -7,3 +7,4 @@ pub mod Fitting
 pub mod Streams
 pub mod Handling
 pub mod Answers
+pub mod Below

@@ -9,3 +9,4 @@ pub mod Decided
 pub mod Outcomes
 pub mod Exchanged
 pub mod Known
+pub mod Below

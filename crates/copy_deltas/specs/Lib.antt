@@ -4,3 +4,4 @@ pub mod Outcomes
 pub mod Deciding
 pub mod DeltaParts
 pub mod Exchanging
+pub mod Below

@@ -21,6 +21,7 @@ mod told;
 mod write;
 
 pub use apply::{apply_delta, check_delta};
+pub use copy_merge::{MergeError, merge_into};
 pub use error::PatchError;
 pub use size::has_delta_within;
 pub use write::write_delta;

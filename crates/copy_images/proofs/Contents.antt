@@ -13,7 +13,7 @@ use Rattle.content.specs.ByOffset.{look_up}
 use Rattle.content.specs.Records.{IsKeepable}
 use Rattle.content.specs.Content.{IsContent}
 use Rattle.content_laws.proofs.ByOffset.{all_at, look_up-offset}
-use Rattle.cleaner.specs.Given.{content_of}
+use Rattle.partition_log.specs.Below.{content_of}
 use Rattle.copy_images.specs.Refusals.{IsLogStart, IsCoverFrom}
 
 -- ---- ranges from a start on

@@ -17,7 +17,7 @@ use Rattle.batch_codec.proofs.Encoded.{size_again, batch_again}
 use Rattle.batch_codec.proofs.Views.{one_encoding}
 use Rattle.content.specs.ByOffset.{put}
 use Rattle.content.specs.Content.{Content, IsContent, IsInRange}
-use Rattle.cleaner.specs.Given.{content_of}
+use Rattle.partition_log.specs.Below.{content_of}
 use Rattle.cover_ranges.specs.Runs.{Runs}
 use Rattle.segment.specs.BatchLists.{IsBatchList, MeetsNone}
 use Rattle.copy_images.specs.Judging.{AreJudged, IsEncoded, IsBuilt}

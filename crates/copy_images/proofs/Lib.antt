@@ -10,3 +10,4 @@ pub mod Unique
 pub mod FirstFaults
 pub mod ReadBack
 pub mod Sizes
+pub mod Below

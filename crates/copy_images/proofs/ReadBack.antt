@@ -29,7 +29,7 @@ use Rattle.cover_ranges.proofs.RunEnds.{has_all_covers, covers_has_all}
 use Rattle.cover_ranges.proofs.RunsFrom.{RunsFrom}
 use Rattle.content.specs.Records.{IsKeepable}
 use Rattle.content.specs.Content.{Content, IsContent}
-use Rattle.cleaner.specs.Given.{content_of}
+use Rattle.partition_log.specs.Below.{content_of}
 use Rattle.copy_images.specs.declared.layout.TheConstants.{MARK, VERSION, FIRST_VERSION, RANGE_SIZE, COUNTS_SIZE, LEAST_SIZE, MAX_COUNT}
 use Rattle.copy_images.specs.Images.{front_of, body_of, IsImage}
 use Rattle.copy_images.specs.Refusals.{IsOwnCrc, IsLogStart, HasStart, version_in, start_in, body_in, range_count, HasFront, IsCoverFrom}

@@ -20,7 +20,7 @@ use Rattle.content.specs.Records.{IsKeepable}
 use Rattle.content.specs.Content.{IsContent, IsInRange}
 use Rattle.content_laws.proofs.ByOffset.{all_from_at}
 use Rattle.content_laws.proofs.Slots.{bases_rise, kept_keepable}
-use Rattle.cleaner.specs.Given.{content_of}
+use Rattle.partition_log.specs.Below.{content_of}
 use Rattle.copy_images.specs.declared.error.ImageError.{ImageError}
 use Rattle.copy_images.specs.declared.error.ImageError.TheVariants.{BadBatch, Outside, Extra, OutOfMemory}
 use Rattle.copy_images.specs.Refusals.{HasFront, IsNext, end_of_batches}

@@ -16,7 +16,7 @@ use Rattle.batch_codec.specs.Checks.{Checked, size_at, check_batch}
 use Rattle.cover_ranges.specs.Runs.{Runs, has_all}
 use Rattle.cover_ranges.specs.declared.TheConstants.{OFFSETS_END}
 use Rattle.content.specs.Content.{Content}
-use Rattle.cleaner.specs.Given.{content_of}
+use Rattle.partition_log.specs.Below.{content_of}
 use Rattle.copy_images.specs.declared.layout.TheConstants.{MARK, VERSION, FIRST_VERSION, RANGE_SIZE, COUNT_SIZE, COUNTS_SIZE, CRC_SIZE, LEAST_SIZE}
 use Rattle.copy_images.specs.Refusals.{version_in, start_in, body_in, range_count}
 use Rattle.copy_images.specs.Judging.{ranges_of}

@@ -12,7 +12,7 @@ use Rattle.batch_codec.specs.Offsets.{first_offset, last_offset, HasKeys}
 use Rattle.cover_ranges.specs.Runs.{Runs, IsCanonical, CoversAll}
 use Rattle.cover_ranges.specs.declared.TheConstants.{OFFSETS_END}
 use Rattle.content.specs.Content.{Content, IsContent, IsInRange}
-use Rattle.cleaner.specs.Given.{content_of}
+use Rattle.partition_log.specs.Below.{content_of}
 use Rattle.copy_images.specs.declared.layout.TheConstants.{MARK, VERSION_AT, VERSION, FIRST_VERSION, START_AT, BODY_AT, FIRST_BODY_AT, RANGE_SIZE, COUNT_SIZE, COUNTS_SIZE, CRC_SIZE, LEAST_SIZE, MAX_COUNT}
 use Rattle.copy_images.specs.declared.error.ImageError.{ImageError}
 use Rattle.copy_images.specs.declared.error.ImageError.TheVariants.{Short, BadMark, BadVersion, BadCrc, BadCover, BadBatch, Outside, Extra, OutOfMemory}

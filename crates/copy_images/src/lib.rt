@@ -22,5 +22,6 @@ mod read;
 mod write;
 
 pub use error::ImageError;
+pub use partition_log::{KeptWalk, PartitionLog};
 pub use read::read_image;
 pub use write::{has_image_within, image_into, image_size, write_image};

@@ -5,9 +5,8 @@ ghost use Rattle.content.specs.Joins.{join, Agree};
 ghost use Rattle.copy_merge.specs.Merges.{IsFirstDisagreement, RefusesMerge};
 
 use crate::error::MergeError;
-use partition_log::PartitionLog;
 use segment::BatchStore;
-use side_by_side::{KeptBatches, SeenCover, judge, patch};
+use side_by_side::{KeptBatches, PartitionLog, SeenCover, judge, patch};
 use std::alloc::AllocError;
 
 /// Whether two copies agree; if not, the least base offset at which they don't. Takes no memory.

@@ -15,7 +15,7 @@ use Rattle.content.specs.Cleaning.{clean, clean_report, is_cleanable, is_superse
 use Rattle.content.specs.Content.{Content, IsContent}
 use Rattle.content_laws.proofs.ByOffset.{all_from_at}
 use Rattle.content_laws.proofs.Slots.{bases_rise}
-use Rattle.side_by_side.proofs.KeptRange.{kept_in_range}
+use Rattle.copy_deltas.proofs.Below.{kept_in_range}
 use Rattle.copy_requests.specs.Outcomes.{CountsFit, Cleans}
 
 count_within : {X : Type 0} (p : X → Bool) (xs : List X) → count_by p xs ≤ length xs

@@ -15,8 +15,8 @@ use Rattle.content.specs.declared.delivery.Delivered.{Delivered}
 use Rattle.content.specs.declared.delivery.Delivered.TheVariants.{Added, Repeat}
 use Rattle.content.specs.declared.delivery.DeliverError.{DeliverError}
 use Rattle.content.specs.declared.delivery.DeliverError.TheVariants.{NotWhole, NoKey, BadOffset, Overlap, OutOfMemory}
-use Rattle.copy_merge.specs.Agreeing.{has_any}
-use Rattle.copy_merge.proofs.Deciding.{none_covered, covered_none}
+use Rattle.copy_deltas.specs.Below.{has_any}
+use Rattle.copy_deltas.proofs.Below.{none_covered, covered_none}
 use Rattle.answering.specs.declared.codes.ErrorCode.{ErrorCode}
 use Rattle.answering.specs.declared.codes.ErrorCode.TheVariants.{StorageError}
 use Rattle.answering.specs.Lists.{first_some, fault_if}

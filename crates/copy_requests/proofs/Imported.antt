@@ -13,9 +13,9 @@ use Rattle.copy_images.specs.Refusals.{Refuses}
 use Rattle.copy_images.specs.Reading.{IsBytes, image_at}
 use Rattle.copy_images.proofs.ReadBack.{image_read, image_is_read}
 use Rattle.copy_images.proofs.FirstFaults.{not_refused}
-use Rattle.copy_merge.specs.Agreeing.{agree}
-use Rattle.copy_merge.specs.Merges.{IsFirstDisagreement}
-use Rattle.copy_merge.proofs.Deciding.{decided}
+use Rattle.copy_deltas.specs.Below.{agree}
+use Rattle.copy_deltas.specs.Below.{IsFirstDisagreement}
+use Rattle.copy_deltas.proofs.Below.{decided}
 use Rattle.answering.specs.declared.codes.ErrorCode.{ErrorCode}
 use Rattle.answering.specs.declared.codes.ErrorCode.TheVariants.{InvalidRequest, StorageError}
 use Rattle.broker_state.specs.declared.config.Role.TheVariants.{Leader, Follower}

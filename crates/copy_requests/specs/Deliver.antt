@@ -10,7 +10,7 @@ use Rattle.batch_codec.specs.Reading.{batch_of}
 use Rattle.content.specs.Content.{Content, has_seen_all, add}
 use Rattle.content.specs.declared.delivery.DeliverError.{DeliverError}
 use Rattle.content.specs.declared.delivery.DeliverError.TheVariants.{NotWhole, NoKey, BadOffset, Overlap}
-use Rattle.copy_merge.specs.Agreeing.{has_any}
+use Rattle.copy_deltas.specs.Below.{has_any}
 use Rattle.request_frames.specs.Deliver.{DeliverValue}
 use Rattle.responses.specs.declared.deliver.DeliverAnswer.{DeliverAnswer}
 use Rattle.responses.specs.Responses.{response}

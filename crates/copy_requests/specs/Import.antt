@@ -8,7 +8,7 @@ use Rattle.cover_ranges.specs.Runs.{has_all}
 use Rattle.content.specs.Content.{Content, empty, end}
 use Rattle.content.specs.Joins.{join}
 use Rattle.copy_images.specs.Reading.{image_at}
-use Rattle.copy_merge.specs.Agreeing.{agree}
+use Rattle.copy_deltas.specs.Below.{agree}
 use Rattle.request_frames.specs.Import.{ImportValue}
 use Rattle.responses.specs.declared.import.ImportAnswer.{ImportAnswer}
 use Rattle.responses.specs.Responses.{response}

@@ -13,3 +13,4 @@ pub mod DeltaAgain
 pub mod EntriesRead
 pub mod ReadBack
 pub mod EntryViews
+pub mod Below

@@ -22,5 +22,6 @@ pub mod lists;
 mod ranges;
 pub mod seen;
 
+pub use copy_images::{KeptWalk, PartitionLog};
 pub use delta::{DeltaBytes, judge_delta};
 pub use error::{BodyError, DeltaError, EntriesError, FrontError, RangesError};

@@ -9,3 +9,6 @@ mod ToldKinds
 mod OnlyReading
 mod OneExactReply
 mod HandledExactly
+mod SameContents
+pub mod SameChanges
+pub mod SameStarts

@@ -44,12 +44,12 @@ use Rattle.group_requests.specs.ForgetGroup.{forget_group_checks, forget_group_w
 use Rattle.group_offsets.specs.Batches.{forget_batch}
 use Rattle.group_offsets.specs.Groups.{group_keys}
 use Rattle.setup_requests.specs.InitProducerId.{init_producer_id_work}
-use Rattle.copy_requests.specs.Codes.{deliver_code}
-use Rattle.copy_requests.specs.Deliver.{is_in_range, has_seen_none, deliver_fault, deliver_checks, deliver_work}
-use Rattle.copy_requests.specs.Clean.{clean_work}
-use Rattle.copy_requests.specs.Import.{import_role_fault, import_fault, import_work}
-use Rattle.copy_requests.specs.ImportDelta.{import_delta_work}
-use Rattle.copy_requests.specs.Trim.{trim_work}
+use Rattle.broker_node.specs.Below.{deliver_code}
+use Rattle.broker_node.specs.Below.{is_in_range, has_seen_none, deliver_fault, deliver_checks, deliver_work}
+use Rattle.broker_node.specs.Below.{clean_work}
+use Rattle.broker_node.specs.Below.{import_role_fault, import_fault, import_work}
+use Rattle.broker_node.specs.Below.{import_delta_work}
+use Rattle.broker_node.specs.Below.{trim_work}
 use Rattle.exact_replies.proofs.OtherFaults.{is_storage, IsOther, AreOther, no_other, one_other, if_other, first_other, both_other, mapped_other}
 
 -- ---- the bytes of a batch

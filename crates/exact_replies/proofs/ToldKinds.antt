@@ -21,11 +21,11 @@ use Rattle.log_requests.specs.Produce.{produce_plan}
 use Rattle.group_requests.specs.OffsetCommit.{offset_commit_plan}
 use Rattle.group_requests.specs.ForgetGroup.{forget_group_work, forget_group_sent}
 use Rattle.setup_requests.specs.InitProducerId.{init_producer_id_work, init_producer_id_sent}
-use Rattle.copy_requests.specs.Deliver.{deliver_work, deliver_sent}
-use Rattle.copy_requests.specs.Clean.{clean_work, clean_sent}
-use Rattle.copy_requests.specs.Import.{import_work, import_sent}
-use Rattle.copy_requests.specs.ImportDelta.{import_delta_work}
-use Rattle.copy_requests.specs.Trim.{trim_work, trim_sent}
+use Rattle.broker_node.specs.Below.{deliver_work, deliver_sent}
+use Rattle.broker_node.specs.Below.{clean_work, clean_sent}
+use Rattle.broker_node.specs.Below.{import_work, import_sent}
+use Rattle.broker_node.specs.Below.{import_delta_work}
+use Rattle.broker_node.specs.Below.{trim_work, trim_sent}
 use Rattle.broker_node.specs.Ways.Way.{planned}
 use Rattle.broker_node.specs.Kinds.{kind}
 use Rattle.broker_node.specs.Replies.{RepliesTo}

@@ -1,3 +1,4 @@
 -- Read in this order; each module uses only those above it.
 pub mod Exact
+pub mod SameHeld
 pub mod Looking

@@ -1,11 +1,12 @@
 //! Laws about the definitions alone. The functions do nothing: what they ensure is the law.
 
-ghost use Rattle.std.specs.Prelude.{◌≡◌, ℕ, false, List, Option};
+ghost use Rattle.std.specs.Prelude.{◌≡◌, ℕ, false, true, List, Option};
 ghost use Rattle.request_frames.specs.Requests.{RequestValue};
-ghost use Rattle.broker_state.specs.State.{State};
+ghost use Rattle.broker_state.specs.State.{ConfigValue, State, new_state};
 ghost use Rattle.broker_node.specs.Replies.{IsReply, MayReply};
 ghost use Rattle.exact_replies.specs.declared.memory.Memory.TheVariants.{Sufficed};
 ghost use Rattle.exact_replies.specs.Exact.{may_change, HandlesExactly};
+ghost use Rattle.exact_replies.specs.SameHeld.{AskForTheSame, HoldTheSame};
 
 /// In one state a request has one exact reply, and one state comes of it.
 pub fn exact_replies_are_one()
@@ -24,4 +25,19 @@ pub fn handled_again_it_leaves_the_same()
 pub fn reading_changes_nothing()
     ensures unchanged { (s after : State) (q : RequestValue) (out : Option (List ℕ))
         → may_change q.body ≡ false → MayReply s q out after → after ≡ s }
+{}
+
+/// Two brokers that hold the same, wherever clients reach them and in whatever order they have their topics, answer a
+/// request that may change something with the same bytes, and hold the same after it.
+pub fn those_that_hold_the_same_change_alike()
+    ensures alike { (s t after : State) (q : RequestValue) (out : Option (List ℕ))
+        → HoldTheSame s t → may_change q.body ≡ true → IsReply s q out after
+        → (other : State) × IsReply t q out other × HoldTheSame after other }
+{}
+
+/// New brokers hold the same, where their configurations differ in the broker's number, in where clients reach it and in
+/// the order of the topics alone.
+pub fn those_asked_for_the_same_begin_alike()
+    ensures alike { (g h : ConfigValue) → AskForTheSame g h
+        → HoldTheSame (new_state g) (new_state h) }
 {}

@@ -28,5 +28,8 @@ mod memory;
 
 pub use changes::may_change;
 pub use handling::handle_exactly;
-pub use laws::{exact_replies_are_one, handled_again_it_leaves_the_same, reading_changes_nothing};
+pub use laws::{
+    exact_replies_are_one, handled_again_it_leaves_the_same, reading_changes_nothing,
+    those_asked_for_the_same_begin_alike, those_that_hold_the_same_change_alike,
+};
 pub use memory::Memory;

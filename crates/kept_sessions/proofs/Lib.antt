@@ -2,6 +2,7 @@ pub mod Handling
 pub mod Replayed
 pub mod Kept
 pub mod OneState
+mod SameAnywhere
 pub mod Recovered
 pub mod GroupsReplayed
 pub mod StartedAgain

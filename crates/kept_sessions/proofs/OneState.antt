@@ -5,8 +5,8 @@ use Rattle.request_frames.proofs.OneOutcome.{one_request}
 use Rattle.frame_fields.specs.Frames.{HasNoFrame}
 use Rattle.frame_fields.proofs.FramesCut.{one_cutting}
 use Rattle.broker_state.specs.State.{State}
-use Rattle.broker_node.specs.Replies.{IsReply}
-use Rattle.broker_node.proofs.PlannedReplies.{one_reply}
+use Rattle.sessions.specs.Below.{IsReply}
+use Rattle.sessions.proofs.Below.{one_reply}
 use Rattle.kept_sessions.specs.Replaying.{IsHandled, Replays, ReplaysFrames}
 
 one_after : (s a b : State) (q r : RequestValue) (out other : Option (List ℕ)) → q ≡ r → IsReply s q out a → IsReply s r other b → a ≡ b

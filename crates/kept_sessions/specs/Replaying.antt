@@ -4,8 +4,8 @@ use Rattle.std.specs.Prelude.{◌≡◌, ℕ, ◌<◌, Bool, true, false, List, 
 use Rattle.request_frames.specs.Requests.{RequestValue, IsRequest, IsRefused}
 use Rattle.frame_fields.specs.Frames.{IsFrames, IsFirstFrame, IsIncomplete}
 use Rattle.broker_state.specs.State.{State}
-use Rattle.broker_node.specs.Streams.{RefusesNext}
-use Rattle.broker_node.specs.Replies.{IsReply}
+use Rattle.sessions.specs.Below.{RefusesNext}
+use Rattle.sessions.specs.Below.{IsReply}
 use Rattle.exact_replies.specs.Exact.{may_change}
 use Rattle.kept_sessions.specs.declared.replaying.ReplayError.{ReplayError}
 use Rattle.kept_sessions.specs.declared.replaying.ReplayError.TheVariants as replay

@@ -21,3 +21,9 @@ pub use options::{KeptOptions, ServeOptions, StartOptions, SyncWay};
 pub use serving::listen;
 pub use standard_streams::PromptStream;
 pub use starting::start;
+pub use subcommands::{
+    Answer, Config, ConfigError, DONE, Ended, FAILED, FAULTY, GROUP_TOPIC, ImagesError, NO_MEMORY,
+    Node, REFUSED, Refusal, Role, SessionError, SessionFault, TableError, TopicConfig,
+    answer_frames, fail_session, line_ends_once, merge_stream, refuse_configuration, run_merge,
+    run_replay, run_session, run_table, run_table_subcommand, serve,
+};

@@ -5,3 +5,4 @@ pub mod Going
 pub mod Passing
 pub mod OneOrder
 pub mod Sending
+pub mod Below

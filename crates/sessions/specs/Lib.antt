@@ -3,3 +3,4 @@ pub mod Turns
 pub mod Visits
 pub mod Orders
 pub mod Steps
+pub mod Below

@@ -16,6 +16,10 @@ mod sessions;
 mod visiting;
 mod waiting;
 
+pub use broker_node::{
+    Answer, Config, ConfigError, ErrorCode, GROUP_TOPIC, MAX_FETCH_BYTES, MAX_HOST_BYTES,
+    MAX_PARTITIONS, MAX_TOPICS, Node, Role, TopicConfig,
+};
 pub use handler::{Handler, Plainly};
 pub use laws::many_clients_are_one_list;
 pub use replying::{Next, NextError, answer_first};

@@ -12,7 +12,7 @@ use Rattle.content.specs.Content.{Content, IsContent, IsInRange, end}
 use Rattle.content_laws.proofs.ByOffset.{look_up-offset, all_from_at}
 use Rattle.content_laws.proofs.Batches.{Batches}
 use Rattle.content_laws.proofs.Slots.{bases_rise, kept_ends}
-use Rattle.partition_log.proofs.Behind.{below_end, end_within}
+use Rattle.delta_bytes.proofs.Below.{below_end, end_within}
 use Rattle.side_by_side.specs.Steps.{first_batch, HasSpan}
 
 pub kept_in_range : (c : Content) (o : ℤ) (x : BatchValue) → IsContent c → look_up first_offset o c.kept ≡ Some x → IsInRange x

@@ -19,8 +19,8 @@ use crate::seen::{Seen, has_all_or_none};
 use crate::telling::Telling;
 use batch_codec::BatchView;
 use cover_ranges::Cover;
+use delta_bytes::PartitionLog;
 use delta_bytes::entries::EntryView;
-use partition_log::PartitionLog;
 use segment::BatchStore;
 use std::alloc::Allocator;
 

@@ -8,7 +8,7 @@ ghost use Rattle.side_by_side.specs.Steps.{first_batch, HasSpan};
 use crate::telling::Telling;
 use batch_codec::BatchView;
 use delta_bytes::entries::EntryView;
-use partition_log::{KeptWalk, PartitionLog};
+use delta_bytes::{KeptWalk, PartitionLog};
 use segment::BatchStore;
 use std::marker::Model;
 

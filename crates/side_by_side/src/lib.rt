@@ -19,6 +19,7 @@ mod record_walk;
 mod seen;
 mod telling;
 
+pub use delta_bytes::PartitionLog;
 pub use judging::judge;
 pub use kept::{KeptBatches, know_content};
 pub use patching::patch;

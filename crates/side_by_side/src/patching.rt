@@ -10,7 +10,7 @@ use crate::kept::know_content;
 use crate::planning::{WeavePlan, later_start, make_plan};
 use crate::telling::Telling;
 use cover_ranges::Cover;
-use partition_log::PartitionLog;
+use delta_bytes::PartitionLog;
 use segment::BatchStore;
 use std::alloc::AllocError;
 

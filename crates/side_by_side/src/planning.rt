@@ -27,9 +27,9 @@ use crate::next::{Next, has_next, next_of, pass_told};
 use crate::telling::Telling;
 use batch_codec::{BatchView, one_encoding, put_thinned};
 use cover_ranges::Cover;
+use delta_bytes::PartitionLog;
 use delta_bytes::entries::EntryView;
 use delta_bytes::lists::OffsetBytes;
-use partition_log::PartitionLog;
 use segment::{BatchStore, Turn};
 use std::alloc::{AllocError, Allocator};
 

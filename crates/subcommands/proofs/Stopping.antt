@@ -8,7 +8,7 @@ use Rattle.streams.specs.State.{SourceState, SinkState}
 use Rattle.broker_core.specs.declared.session.SessionError.{SessionError}
 use Rattle.broker_core.specs.declared.session.SessionError.TheVariants.{Frame, Read, Write, OutOfMemory}
 use Rattle.broker_state.specs.State.{State}
-use Rattle.broker_node.specs.Streams.{Answered}
+use Rattle.broker_core.specs.Below.{Answered}
 use Rattle.broker_core.specs.declared.session.Ended.{Ended}
 use Rattle.broker_core.specs.Sessions.{Moves, Session, EndsAs, CutReply, StopsAs}
 use Rattle.subcommands.specs.Answering.{AnswersFrom, RefusesFrom}

@@ -5,7 +5,7 @@ use Rattle.frame_fields.specs.declared.error.FrameError.{FrameError}
 use Rattle.frame_fields.specs.Frames.{IsIncomplete}
 use Rattle.streams.specs.State.{SourceState, SinkState}
 use Rattle.broker_state.specs.State.{State}
-use Rattle.broker_node.specs.Streams.{Answered, RefusesNext}
+use Rattle.broker_core.specs.Below.{Answered, RefusesNext}
 use Rattle.broker_core.specs.declared.session.Ended.{Ended}
 use Rattle.broker_core.specs.declared.session.SessionError.{SessionError}
 use Rattle.broker_core.specs.declared.session.SessionError.TheVariants.{Write}

@@ -7,11 +7,11 @@ ghost use Rattle.clap.specs.Words.{Row};
 ghost use Rattle.tcp_edge.specs.Addresses.{IsUnfit};
 ghost use Rattle.tcp_edge.specs.Asked.{AsksForOther, AsksForOtherThan, IsStarter};
 ghost use Rattle.tcp_edge.specs.CommandLine.{AsksForHelp, AsksForMerge, AsksForTable, Finds, HasMistake, HasTopics, IsConfigOf, IsPort, NamesReplay, NamesSession, topic_words};
-ghost use Rattle.subcommands.specs.Merges.{PrintsMerge};
-ghost use Rattle.subcommands.specs.Ends.{IsUntouched};
-ghost use Rattle.subcommands.specs.Runs.{RunsMerge, RunsTable};
-ghost use Rattle.subcommands.specs.SessionRuns.{RunsSession};
-ghost use Rattle.subcommands.specs.Tables.{PrintsTable};
+ghost use Rattle.listeners.specs.Below.{PrintsMerge};
+ghost use Rattle.listeners.specs.Below.{IsUntouched};
+ghost use Rattle.listeners.specs.Below.{RunsMerge, RunsTable};
+ghost use Rattle.listeners.specs.Below.{RunsSession};
+ghost use Rattle.listeners.specs.Below.{PrintsTable};
 
 use crate::command_line::CommandLine;
 use listeners::{StartOptions, start};

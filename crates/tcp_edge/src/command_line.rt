@@ -7,25 +7,24 @@ ghost use Rattle.clap.specs.Words.{Row};
 ghost use Rattle.tcp_edge.specs.Addresses.{IsUnfit};
 ghost use Rattle.tcp_edge.specs.Asked.{AsksForOther, AsksForOtherThan, IfListens, IfMerge, IfReplay, IfSession, IfTable, IsListener, IsOutOfMemory, IsParsed, IsStarter};
 ghost use Rattle.tcp_edge.specs.CommandLine.{AsksForHelp, AsksForMerge, AsksForTable, Finds, HasMistake, HasTopics, IsConfigOf, IsPort, NamesReplay, NamesSession, topic_words};
-ghost use Rattle.subcommands.specs.Merges.{PrintsMerge};
-ghost use Rattle.subcommands.specs.Ends.{IsUntouched};
-ghost use Rattle.subcommands.specs.Runs.{RunsMerge, RunsTable};
-ghost use Rattle.subcommands.specs.SessionRuns.{RunsSession};
-ghost use Rattle.subcommands.specs.Tables.{PrintsTable};
+ghost use Rattle.listeners.specs.Below.{PrintsMerge};
+ghost use Rattle.listeners.specs.Below.{IsUntouched};
+ghost use Rattle.listeners.specs.Below.{RunsMerge, RunsTable};
+ghost use Rattle.listeners.specs.Below.{RunsSession};
+ghost use Rattle.listeners.specs.Below.{PrintsTable};
 
 use crate::asked::{ArgumentsFault, Asked, parse};
 use crate::refusals::refuse_line;
-use listeners::{ServeOptions, StartOptions, listen};
+use listeners::{
+    FAULTY, ServeOptions, SessionError, SessionFault, StartOptions, fail_session, listen,
+    run_merge, run_replay, run_session, run_table_subcommand,
+};
 use std::alloc::{AllocError, Global};
 use std::convert::AsStr;
 use std::io::{Read, Write};
 use std::marker::Model;
 use std::net::TcpListener;
 use streams::{Sink, Source};
-use subcommands::{
-    FAULTY, SessionError, SessionFault, fail_session, run_merge, run_replay, run_session,
-    run_table_subcommand,
-};
 
 /// The arguments of a command line, of which the first is the program's name, and what they ask for.
 /// Contracts see it as the arguments' texts.

@@ -14,11 +14,9 @@ mod topics;
 pub use calls::{run_line, run_serve, run_start, serve_port, start_options};
 pub use command_line::CommandLine;
 pub use listeners::{
-    Connection, KeptOptions, PromptStream, Replies, Requests, ServeOptions, StartOptions, SyncWay,
-};
-pub use subcommands::{
-    Answer, Config, ConfigError, DONE, Ended, FAILED, FAULTY, GROUP_TOPIC, ImagesError, NO_MEMORY,
-    Node, REFUSED, Refusal, Role, SessionError, SessionFault, TableError, TopicConfig,
+    Answer, Config, ConfigError, Connection, DONE, Ended, FAILED, FAULTY, GROUP_TOPIC, ImagesError,
+    KeptOptions, NO_MEMORY, Node, PromptStream, REFUSED, Refusal, Replies, Requests, Role,
+    ServeOptions, SessionError, SessionFault, StartOptions, SyncWay, TableError, TopicConfig,
     answer_frames, line_ends_once, merge_stream, run_merge, run_replay, run_session, run_table,
     run_table_subcommand, serve,
 };

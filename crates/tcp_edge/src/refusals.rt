@@ -9,10 +9,10 @@ use crate::asked::ArgumentsFault;
 use crate::keeping::KeptFault;
 use clap::Error;
 use clap::error::ErrorKind;
+use listeners::{DONE, FAILED, FAULTY, NO_MEMORY, refuse_configuration};
 use std::alloc::Global;
 use std::io::Write;
 use streams::Sink;
-use subcommands::{DONE, FAILED, FAULTY, NO_MEMORY, refuse_configuration};
 
 /// Says that there is no memory, and answers the status.
 fn say_no_memory<E: Write>(err: &mut E) -> u8

@@ -3,10 +3,12 @@
 //! synced among them; the end is no damage, and a further group goes on from there.
 
 use crate::tests::journal_bytes::FOUR;
-use crate::tests::journals::{KEPT_HEAD, frames_of, joined, journal_name, refusal};
+use crate::tests::journals::{KEPT_HEAD, frames_of, group_of, joined, journal_name, refusal};
 use crate::tests::lent::{Lent, Watched};
 use journal::layout::{FRAMES_AT, HEAD_SIZE};
-use journal::{CreateError, Disk, Journal, JournalError, MemoryDisk, Reader, SECTOR_SIZE};
+use journal::{
+    CreateError, Disk, GroupBuffer, Journal, JournalError, MemoryDisk, Reader, SECTOR_SIZE,
+};
 use refusing_alloc::Refusing;
 use std::alloc::{AllocError, Allocator};
 
@@ -34,33 +36,41 @@ static GROUPS: [(&[u8], Way); 5] = [
 const MOST_CALLS: u64 = 40;
 
 /// Writes a group.
-fn put<D: Disk>(journal: &mut Journal<D>, frames: &[u8], way: Way) -> Result<(), JournalError> {
+fn put<D: Disk, A: Allocator + Copy>(
+    journal: &mut Journal<D>,
+    group: &mut GroupBuffer<A>,
+    way: Way,
+) -> Result<(), JournalError> {
     match way {
-        Way::Append => journal.append(frames),
+        Way::Append => journal.append(group),
         Way::Sync => {
-            journal.append(frames)?;
+            journal.append(group)?;
             journal.sync()
         }
-        Way::Commit => journal.commit(frames),
+        Way::Commit => journal.commit(group),
     }
 }
 
 /// Whether each further call is refused.
-fn is_closed<D: Disk>(journal: &mut Journal<D>) -> bool {
+fn is_closed<D: Disk, A: Allocator + Copy>(
+    journal: &mut Journal<D>,
+    group: &mut GroupBuffer<A>,
+) -> bool {
     let names = [
-        journal_name(journal.append(b"x")),
+        journal_name(journal.append(group)),
         journal_name(journal.sync()),
-        journal_name(journal.commit(b"x")),
+        journal_name(journal.commit(group)),
     ];
     journal.has_failed() && names == ["Failed"; 3]
 }
 
 /// How many groups are written to a journal, up to the first that fails; none where a call behind it doesn't.
-fn written_to<D: Disk>(journal: &mut Journal<D>) -> Option<usize> {
+fn written_to<D: Disk, A: Allocator + Copy>(alloc: A, journal: &mut Journal<D>) -> Option<usize> {
     let mut count = 0_usize;
     for (frames, way) in &GROUPS {
-        let name = journal_name(put(journal, frames, *way));
-        if name == "OnDisk" && is_closed(journal) {
+        let mut group = group_of(alloc, frames);
+        let name = journal_name(put(journal, &mut group, *way));
+        if name == "OnDisk" && is_closed(journal, &mut group) {
             return Some(count);
         }
         if !name.is_empty() {
@@ -72,9 +82,9 @@ fn written_to<D: Disk>(journal: &mut Journal<D>) -> Option<usize> {
 }
 
 /// The same of a new journal on a disk, which may fail while it is made.
-fn written<D: Disk + Drop>(disk: D) -> Option<usize> {
+fn written<D: Disk + Drop, A: Allocator + Copy>(alloc: A, disk: D) -> Option<usize> {
     match Journal::create(disk, &KEPT_HEAD) {
-        Ok(mut journal) => written_to(&mut journal),
+        Ok(mut journal) => written_to(alloc, &mut journal),
         Err(CreateError::OnDisk(_)) => Some(0),
         Err(CreateError::NotEmpty) => None,
     }
@@ -124,8 +134,9 @@ fn is_gone_on_with<A: Allocator + Copy>(alloc: A, lent: Lent<'_, A>, count: usiz
     };
     let is_read = has_first(&mut reader, count) && matches!(reader.next(), Ok(false));
     let is_sound = is_read && matches!(reader.has_later_sync(), Ok(false));
+    let mut group = group_of(alloc, frames_of(FOUR));
     match reader.into_journal() {
-        Ok(mut journal) => is_sound && journal.commit(frames_of(FOUR)).is_ok(),
+        Ok(mut journal) => is_sound && journal.commit(&mut group).is_ok(),
         Err(_) => false,
     }
 }
@@ -256,9 +267,10 @@ fn outcome_in<A: Allocator + Copy, B: Allocator + Copy>(
         return (None, Some(0));
     };
     watched.disk.fail_at(failing);
-    let count = written(Lent {
+    let lent = Lent {
         watched: &mut watched,
-    });
+    };
+    let count = written(alloc, lent);
     (first_wrong(alloc, &watched), count)
 }
 
@@ -293,8 +305,8 @@ fn allocations_that_fail<A: Allocator + Copy>(inner: A) -> Result<u64, (u64, Out
 
 #[test]
 fn each_call_fails_and_a_crash_follows(rt: HostRuntime) {
-    // the head: its length, an append and a sync; two appends for each group; three syncs
-    assert_eq!(rt; calls_that_fail(rt.alloc()), Ok(3 + 10 + 3));
+    // the head: its length, an append and a sync; an append for each group; three syncs
+    assert_eq!(rt; calls_that_fail(rt.alloc()), Ok(3 + 5 + 3));
     let allocations = allocations_that_fail(rt.alloc());
     assert!(rt; allocations.is_ok_and(|count| 3 < count), "{allocations:?}");
 }

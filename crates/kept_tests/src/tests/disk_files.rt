@@ -40,8 +40,8 @@ fn has_parts(rt: &HostRuntime, path: Path<'_>, parts: &[&[u8]]) -> io::Result<bo
 
 /// Whether a journal is made of a new file, and of one that has bytes none is.
 fn is_made(rt: &HostRuntime, path: Path<'_>) -> io::Result<bool> {
-    let is_done = is_written(FileDisk::new(opened(rt, path, true)?));
-    let is_refused = !is_written(FileDisk::new(opened(rt, path, false)?));
+    let is_done = is_written(rt.alloc(), FileDisk::new(opened(rt, path, true)?));
+    let is_refused = !is_written(rt.alloc(), FileDisk::new(opened(rt, path, false)?));
     Ok(is_done && is_refused && has_parts(rt, path, &[HEAD, ONE, TWO, THREE])?)
 }
 
@@ -52,7 +52,7 @@ fn goes_on(rt: &HostRuntime, disk: FileDisk) -> bool {
     };
     let is_read = has_three(&mut reader) && reader.size() == 147;
     match reader.into_journal() {
-        Ok(mut journal) => is_read && is_gone_on_with(&mut journal),
+        Ok(mut journal) => is_read && is_gone_on_with(rt.alloc(), &mut journal),
         Err(_) => false,
     }
 }

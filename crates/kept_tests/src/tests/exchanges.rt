@@ -3,6 +3,7 @@
 //! as those of `broker_tests` are.
 
 /// A request, its response, and its response where the work lacks memory; none of a request whose work takes none.
+#[derive(Clone, Copy)]
 pub(crate) struct Exchange {
     pub(crate) name: &'static str,
     pub(crate) changes: bool,

@@ -2,9 +2,9 @@
 //! lacks it, the reader is where it was, and made again the call does what it is to do.
 
 use crate::tests::journal_bytes::{FOUR, HEAD, ONE, SECOND, THIRD};
-use crate::tests::journals::{frames_of, joined};
+use crate::tests::journals::{frames_of, group_of, joined};
 use crate::tests::lent::{Lent, Watched};
-use journal::{Disk, MemoryDisk, OpenError, ReadError, Reader};
+use journal::{Disk, GroupBuffer, MemoryDisk, OpenError, ReadError, Reader};
 use refusing_alloc::Refusing;
 use std::alloc::{AllocError, Allocator};
 use std::test::Fail;
@@ -92,22 +92,25 @@ fn read_all<D: Disk, A: Allocator + Copy>(
 /// A reader made a journal, and a group committed: the bit of the call if it failed, after which the disk that is given
 /// back is opened anew and goes on.
 fn settled<A: Allocator + Copy, B: Allocator + Copy>(
-    alloc: B,
+    alloc: A,
+    heap: B,
     reader: Reader<Lent<'_, A>, B>,
 ) -> Option<u32> {
+    let mut group = group_of(alloc, frames_of(FOUR));
     match reader.into_journal() {
-        Ok(mut journal) => journal.commit(frames_of(FOUR)).ok().map(|_| 0),
+        Ok(mut journal) => journal.commit(&mut group).ok().map(|_| 0),
         Err(unsettled) => {
-            let mut reader = Reader::open(unsettled.disk, alloc).ok()?;
+            let mut reader = Reader::open(unsettled.disk, heap).ok()?;
             read_one(&mut reader, ONE, false)?;
             let mut journal = reader.into_journal().ok()?;
-            journal.commit(frames_of(FOUR)).ok().map(|_| SETTLE)
+            journal.commit(&mut group).ok().map(|_| SETTLE)
         }
     }
 }
 
 /// The bits of the calls that fail over a disk; none where something else comes of one.
 fn failing_of<A: Allocator + Copy, B: Allocator + Copy>(
+    alloc: A,
     heap: B,
     lent: Lent<'_, A>,
     later: bool,
@@ -119,7 +122,7 @@ fn failing_of<A: Allocator + Copy, B: Allocator + Copy>(
             if later {
                 return Some(bits);
             }
-            Some(bits | settled(heap, reader)?)
+            Some(bits | settled(alloc, heap, reader)?)
         }
         Err(OpenError::OnDisk(_)) if !of_memory => Some(OPEN),
         Err(_) => None,
@@ -141,7 +144,7 @@ fn failing<A: Allocator + Copy, B: Allocator + Copy>(
     let lent = Lent {
         watched: &mut watched,
     };
-    failing_of(heap, lent, case.1, call == 0)
+    failing_of(alloc, heap, lent, case.1, call == 0)
 }
 
 /// The same where this allocation of the reader fails, and whether it is asked for.
@@ -187,6 +190,24 @@ fn made_without<A: Allocator + Copy>(inner: A, refused: u64) -> (bool, bool) {
     (is_made, heap.calls() >= refused)
 }
 
+/// A frame behind its size.
+const FRAME: &[u8] = b"\0\0\0\x01a";
+
+/// Whether a frame is pushed, once more where that fails for lack of memory, and taken back; and whether this allocation,
+/// which fails, is asked for.
+fn pushed_without<A: Allocator + Copy>(inner: A, refused: u64) -> (bool, bool) {
+    let heap = Refusing::new(inner, refused);
+    let mut group = GroupBuffer::new(&heap);
+    let (size, frame) = FRAME.split_at(4);
+    let is_first = group.push(size, frame).is_ok();
+    let is_pushed = is_first || group.frames().is_empty() && group.push(size, frame).is_ok();
+    let is_whole = is_pushed && group.frames() == FRAME;
+    group.truncate(4);
+    let is_cut = is_whole && group.frames() == size;
+    group.clear();
+    (is_cut && group.frames().is_empty(), heap.calls() >= refused)
+}
+
 #[test]
 fn each_call_lacks_it_once(rt: HostRuntime) -> Result<(), Fail> {
     // behind the first group a damaged one, and one that tells that it was synced; or the front of one
@@ -210,5 +231,8 @@ fn each_call_lacks_it_once(rt: HostRuntime) -> Result<(), Fail> {
     assert_eq!(rt; made_without(rt.alloc(), 1), (false, true));
     assert_eq!(rt; made_without(rt.alloc(), 2), (false, true));
     assert_eq!(rt; made_without(rt.alloc(), 3), (true, false));
+    assert_eq!(rt; pushed_without(rt.alloc(), 1), (true, true));
+    assert_eq!(rt; pushed_without(rt.alloc(), 2), (true, true));
+    assert_eq!(rt; pushed_without(rt.alloc(), 3), (true, false));
     Ok(())
 }

@@ -7,7 +7,9 @@ use crate::tests::journal_bytes::{
 };
 use crate::tests::lent::{Lent, Watched};
 use journal::layout::MOST_GROUP;
-use journal::{CreateError, Disk, Head, Journal, JournalError, MemoryDisk, OpenError, Reader};
+use journal::{
+    CreateError, Disk, GroupBuffer, Head, Journal, JournalError, MemoryDisk, OpenError, Reader,
+};
 use std::alloc::{AllocError, Allocator};
 use std::test::Fail;
 
@@ -28,6 +30,13 @@ const LAST_HEAD: Head = Head {
 /// The frames of a group.
 pub(crate) fn frames_of(group: &'static [u8]) -> &'static [u8] {
     group.get(32..).unwrap_or(b"")
+}
+
+/// A group with these frames, which is written as it is; with none where there is no memory.
+pub(crate) fn group_of<A: Allocator + Copy>(alloc: A, frames: &[u8]) -> GroupBuffer<A> {
+    let mut group = GroupBuffer::new(alloc);
+    let _pushed = group.push(frames, b"");
+    group
 }
 
 /// Some parts, one after the other.
@@ -73,12 +82,15 @@ pub(crate) fn open_name(why: OpenError) -> &'static str {
 }
 
 /// Writes the first group and the second, syncs, and commits the third: what became of each call.
-fn write_three<D: Disk>(journal: &mut Journal<D>) -> [&'static str; 4] {
+fn write_three<D: Disk, A: Allocator + Copy>(
+    alloc: A,
+    journal: &mut Journal<D>,
+) -> [&'static str; 4] {
     [
-        journal_name(journal.append(frames_of(ONE))),
-        journal_name(journal.append(frames_of(TWO))),
+        journal_name(journal.append(&mut group_of(alloc, frames_of(ONE)))),
+        journal_name(journal.append(&mut group_of(alloc, frames_of(TWO)))),
         journal_name(journal.sync()),
-        journal_name(journal.commit(frames_of(THREE))),
+        journal_name(journal.commit(&mut group_of(alloc, frames_of(THREE)))),
     ]
 }
 
@@ -89,9 +101,9 @@ fn is_synced<D: Disk>(journal: &Journal<D>, size: u64) -> bool {
 }
 
 /// Whether a journal is made of a disk, and the three groups are written.
-pub(crate) fn is_written<D: Disk + Drop>(disk: D) -> bool {
+pub(crate) fn is_written<D: Disk + Drop, A: Allocator + Copy>(alloc: A, disk: D) -> bool {
     match Journal::create(disk, &KEPT_HEAD) {
-        Ok(mut journal) => write_three(&mut journal) == [""; 4] && is_synced(&journal, 145),
+        Ok(mut journal) => write_three(alloc, &mut journal) == [""; 4] && is_synced(&journal, 145),
         Err(_) => false,
     }
 }
@@ -117,8 +129,12 @@ pub(crate) fn has_three<D: Disk, A: Allocator + Copy>(reader: &mut Reader<D, A>)
 }
 
 /// Whether a journal is gone on with by the fourth group.
-pub(crate) fn is_gone_on_with<D: Disk>(journal: &mut Journal<D>) -> bool {
-    is_synced(journal, 145) && journal.commit(frames_of(FOUR)).is_ok() && is_synced(journal, 182)
+pub(crate) fn is_gone_on_with<D: Disk, A: Allocator + Copy>(
+    alloc: A,
+    journal: &mut Journal<D>,
+) -> bool {
+    let mut group = group_of(alloc, frames_of(FOUR));
+    is_synced(journal, 145) && journal.commit(&mut group).is_ok() && is_synced(journal, 182)
 }
 
 /// Whether a disk is read as the three groups, and gone on with.
@@ -128,7 +144,7 @@ fn goes_on<A: Allocator + Copy>(alloc: A, lent: Lent<'_, A>) -> bool {
     };
     let is_read = has_three(&mut reader) && reader.disk().watched.disk.bytes().len() == 145;
     match reader.into_journal() {
-        Ok(mut journal) => is_read && is_gone_on_with(&mut journal),
+        Ok(mut journal) => is_read && is_gone_on_with(alloc, &mut journal),
         Err(_) => false,
     }
 }
@@ -172,9 +188,10 @@ fn journals_are_written_and_read(rt: HostRuntime) -> Result<(), Fail> {
     assert!(rt; is_made(rt.alloc(), &KEPT_HEAD, HEAD), "a head");
     assert!(rt; is_made(rt.alloc(), &LAST_HEAD, OTHER_HEAD), "another head");
     let mut watched = Watched::new(rt.alloc(), b"")?;
-    let is_done = is_written(Lent {
+    let lent = Lent {
         watched: &mut watched,
-    });
+    };
+    let is_done = is_written(rt.alloc(), lent);
     let parts = [HEAD, ONE, TWO, THREE, FOUR];
     assert!(rt; is_done && has_bytes(&watched, &parts[..4]), "written");
     let lent = Lent {
@@ -243,14 +260,19 @@ fn creation<A: Allocator + Copy>(
 }
 
 /// What becomes of appends, and then of a sync.
-fn appended<D: Disk + Drop>(disk: D, large: &[u8]) -> [&'static str; 6] {
+fn appended<D: Disk + Drop, A: Allocator + Copy>(
+    alloc: A,
+    disk: D,
+    large: &[u8],
+) -> [&'static str; 6] {
+    let most = large.get(1..).unwrap_or(b"");
     match Journal::create(disk, &KEPT_HEAD) {
         Ok(mut journal) => [
-            journal_name(journal.append(b"")),
-            journal_name(journal.commit(b"")),
-            journal_name(journal.append(large)),
-            journal_name(journal.commit(large)),
-            journal_name(journal.append(large.get(1..).unwrap_or(b""))),
+            journal_name(journal.append(&mut GroupBuffer::new(alloc))),
+            journal_name(journal.commit(&mut GroupBuffer::new(alloc))),
+            journal_name(journal.append(&mut group_of(alloc, large))),
+            journal_name(journal.commit(&mut group_of(alloc, large))),
+            journal_name(journal.append(&mut group_of(alloc, most))),
             journal_name(journal.sync()),
         ],
         Err(_) => ["Create"; 6],
@@ -283,12 +305,10 @@ fn each_refusal_by_its_name(rt: HostRuntime) -> Result<(), Fail> {
     let mut large = Vec::new(rt.alloc());
     large.resize(MOST_GROUP + 1, b'x')?;
     let mut watched = Watched::new(rt.alloc(), b"")?;
-    let became = appended(
-        Lent {
-            watched: &mut watched,
-        },
-        &large,
-    );
+    let lent = Lent {
+        watched: &mut watched,
+    };
+    let became = appended(rt.alloc(), lent, &large);
     assert_eq!(rt; became, APPENDED);
     assert!(rt;
         has_the_most(

@@ -62,7 +62,10 @@ fn add_topic<A: Allocator + Copy>(
 }
 
 /// A configuration with the topics `t` and `u`.
-fn configured<A: Allocator + Copy>(alloc: A, role: Role) -> Result<Config<A>, AllocError> {
+pub(crate) fn configured<A: Allocator + Copy>(
+    alloc: A,
+    role: Role,
+) -> Result<Config<A>, AllocError> {
     let mut topics = Vec::new(alloc);
     add_topic(alloc, &mut topics, "t")?;
     add_topic(alloc, &mut topics, "u")?;
@@ -78,7 +81,7 @@ fn configured<A: Allocator + Copy>(alloc: A, role: Role) -> Result<Config<A>, Al
 }
 
 /// A new broker; none where there is no memory for it.
-fn new_node<S: BatchStore>(alloc: S::Alloc, role: Role) -> Option<Node<S>> {
+pub(crate) fn new_node<S: BatchStore>(alloc: S::Alloc, role: Role) -> Option<Node<S>> {
     let config = configured(alloc, role).ok()?;
     Node::new(alloc, config).ok()
 }
@@ -130,7 +133,7 @@ fn has_ends<S: BatchStore>(node: &Node<S>, ends: (i64, i64, i64)) -> bool {
 }
 
 /// The request in a frame behind its size.
-fn request_in(frame: &'static [u8]) -> Option<Request<'static>> {
+pub(crate) fn request_in(frame: &'static [u8]) -> Option<Request<'static>> {
     parse(frame.get(4..).unwrap_or(b"")).ok()
 }
 

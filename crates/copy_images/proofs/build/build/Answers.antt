@@ -2,7 +2,7 @@ use Rattle.std.proofs.Common.{rules, ◌∙◌, sym, subst}
 use Rattle.std.specs.Prelude.{ℤ, FitsSigned}
 use Rattle.std.specs.Int.{w64, cast_signed, cast_unsigned}
 use Rattle.std.proofs.lemmas.Int.{to_z-of_z}
-use Rattle.cleaner.specs.Given.{content_of}
+use Rattle.partition_log.specs.Below.{content_of}
 use Rattle.copy_images.specs.Judging.{ranges_of, AreJudged}
 use Rattle.copy_images.proofs.Kept.{is_content, is_built}
 use Rattle.copy_images.proofs.build.build.Goals as goal

@@ -1,5 +1,5 @@
 use Rattle.std.proofs.Common.{subst}
-use Rattle.copy_merge.specs.Merges.{RefusesMerge}
+use Rattle.copy_deltas.specs.Below.{RefusesMerge}
 use Rattle.copy_requests.proofs.Imported.{merges, merges_without_memory, disagrees}
 use Rattle.copy_requests.proofs.import.merge_copy.Goals as goal
 

@@ -1,6 +1,6 @@
 use Rattle.std.proofs.Common.{◌≡◌, codes, inl, inr, refl, sym, ◌∙◌, arith}
 use Rattle.tcp_edge.proofs.Arguments.{done_by, if_table, if_merge, if_session, if_replay, if_serve, if_start, table_fault, merge_fault, replay_fault, session_is_no_start, serve_is_no_start, topic_or_memory, unfit_or_memory, refused_left, refused_topic, mistake_stops, help_stops, helped, no_help, parsed_ok, parsed_err}
-use Rattle.subcommands.proofs.RunLemmas.{table_out_of_memory, merge_out_of_memory}
+use Rattle.listeners.proofs.Below.{table_out_of_memory, merge_out_of_memory}
 use Rattle.tcp_edge.proofs.command_line.CommandLine.run.Goals as goal
 
 -- ---- what was asked for is done
