@@ -107,25 +107,17 @@ fn wrong_crash<A: Allocator + Copy>(
     None
 }
 
-/// Whether a front of so many bytes is tried, of so many that there are at most.
-fn is_tried(count: usize, most: usize) -> bool {
-    count % 43 == 0 || count.saturating_add(2) > most
-}
-
 /// The first front that a crash leaves and that is wrong; or one with zeros behind it.
 fn wrong_front<A: Allocator + Copy>(
     story: &Story<'_, A>,
     store: &Store<A>,
     bounds: &Bounds,
 ) -> Option<Fault> {
-    let most = store.uncertain();
-    for count in 0..=most {
-        if is_tried(count, most) {
-            let front = wrong_crash(story, store, Left::Front(count), bounds);
-            let filled = wrong_crash(story, store, Left::Filled(count), bounds);
-            if front.is_some() || filled.is_some() {
-                return front.or(filled);
-            }
+    for count in 0..=store.uncertain() {
+        let front = wrong_crash(story, store, Left::Front(count), bounds);
+        let filled = wrong_crash(story, store, Left::Filled(count), bounds);
+        if front.is_some() || filled.is_some() {
+            return front.or(filled);
         }
     }
     None
