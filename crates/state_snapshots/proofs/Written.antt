@@ -1,7 +1,7 @@
 -- The parts of a snapshot, as they are written one after the other.
-use Rattle.std.proofs.Common.{◌≡◌, ℕ, zero, suc, ◌+◌, ◌<◌, ◌≤◌, ℤ, pos, List, [], ◌∷◌, ◌++◌, length, drop, get_or, Option, Some, None, refl, sym, ap, ◌∙◌, append_assoc, append-nil, arith}
+use Rattle.std.proofs.Common.{◌≡◌, ℕ, zero, suc, ◌+◌, ◌<◌, ◌≤◌, ℤ, pos, List, [], ◌∷◌, ◌++◌, length, drop, get_or, Bool, Option, Some, None, refl, sym, ap, subst, ◌∙◌, append_assoc, append-nil, arith}
 use Rattle.std.specs.Prelude.{map, slice_get}
-use Rattle.std.specs.List.{flat_map}
+use Rattle.std.specs.List.{flat_map, AllByRecursion}
 use Rattle.std.specs.Io.KnownBytes.{append_known}
 use Rattle.std.proofs.lemmas.List.{drop_more, length-map, map-append}
 use Rattle.std.proofs.lemmas.Option.{slice_get_within, get_or_from_slice_get}
@@ -15,7 +15,10 @@ use Rattle.snapshots.specs.declared.writing.SnapshotTopic.{SnapshotTopic}
 use Rattle.snapshots.specs.declared.writing.SnapshotNumbers.{SnapshotNumbers}
 use Rattle.snapshots.specs.Heads.{head_bytes}
 use Rattle.snapshots.specs.Writing.{fields_value, topic_value}
-use Rattle.state_snapshots.specs.Snapshots.{role_number, image_sizes, topic_said, state_said, topic_images, images_of}
+use Rattle.state_snapshots.specs.Snapshots.{role_number, image_sizes, topic_said, state_said, topic_images, images_of, IsCounted, IsCountedTopic}
+use Rattle.state_snapshots.specs.declared.error.WriteError.{WriteError}
+use Rattle.state_snapshots.specs.declared.error.WriteError.TheVariants.{OutOfMemory, OnDisk}
+use Rattle.state_snapshots.specs.Writing.{HasWritten, StopsWriting}
 
 -- the element of an index stands at the front of what is left
 drop_at : {X : Type 0} (xs : List X) (i : ℕ) (x : X) → slice_get xs i ≡ Some x → drop i xs ≡ x ∷ drop (i + 1) xs
@@ -34,6 +37,14 @@ pub one_size_more : (cs : List Content) (i : ℕ) (c : Content) (z : ℤ) (zs ne
 one_size_more cs i c z zs new there is made so_far =
     ap (λ (xs : List ℤ). xs ++ sizes (drop (i + 1) cs)) made ∙ append_assoc zs (z ∷ []) (sizes (drop (i + 1) cs))
     ∙ ap (λ (y : ℤ). zs ++ y ∷ sizes (drop (i + 1) cs)) is ∙ ap (λ (xs : List Content). zs ++ sizes xs) (sym (drop_at cs i c there)) ∙ so_far
+
+-- each of them has a property, and one more
+pub all_more : (P : ℤ → Type 0) (old new : List ℤ) (z z' : ℤ) → new ≡ old ++ z' ∷ [] → z' ≡ z → P z → AllByRecursion P old → AllByRecursion P new
+all_more P old new z z' made same holds all = subst (AllByRecursion P) (sym made) (all_append old all)
+  where
+    all_append : (xs : List ℤ) → AllByRecursion P xs → AllByRecursion P (xs ++ z' ∷ [])
+    all_append [] each = (subst P (sym same) holds, tt)
+    all_append (x ∷ xs) each = (each.0, all_append xs each.1)
 
 pub all_done : {X Y : Type 0} (f : X → Y) (xs : List X) (n : ℕ) (ys : List Y) → length xs ≤ n → ys ++ map f (drop n xs) ≡ map f xs → ys ≡ map f xs
 all_done {X = X} f xs n ys all so_far =
@@ -80,6 +91,10 @@ pub head_made : (n : SnapshotNumbers) (rows : List SnapshotTopic) (number : ℤ)
     → map topic_value rows ≡ map topic_said s.topics → fields_value n rows ≡ state_said number s
 head_made n rows number s is_number is_role is_first is_next said = λ i. (is_number i, (is_role i, (is_first i, (is_next i, (said i, nothing)))))
 
+-- the number was passed on by value
+pub same_head : (passed number : ℤ) (s : State) (items : List ℕ) → items ≡ head_bytes (state_said passed s) → passed ≡ number → items ≡ head_bytes (state_said number s)
+same_head passed number s items made same = made ∙ ap (λ (z : ℤ). head_bytes (state_said z s)) same
+
 -- ---- known bytes
 
 pub known_twice : (known : Option (List ℕ)) (a b : List ℕ) → append_known (append_known known a) b ≡ append_known known (a ++ b)
@@ -90,25 +105,71 @@ pub known_nothing : (known : Option (List ℕ)) → append_known known [] ≡ kn
 known_nothing None = refl
 known_nothing (Some xs) = ap (λ (ys : List ℕ). Some ys) (append-nil xs)
 
--- one image more
-pub one_image_more : (seen old new : Option (List ℕ)) (cs : List Content) (i : ℕ) (c : Content) (image : List ℕ) → slice_get cs i ≡ Some c → image ≡ image_of c → new ≡ append_known old image
-    → append_known old (flat_map image_of (drop i cs)) ≡ seen → append_known new (flat_map image_of (drop (i + 1) cs)) ≡ seen
-one_image_more seen old new cs i c image there is made so_far =
-    ap (λ (o : Option (List ℕ)). append_known o (flat_map image_of (drop (i + 1) cs))) (made ∙ ap (append_known old) is)
-    ∙ known_twice old (image_of c) (flat_map image_of (drop (i + 1) cs))
-    ∙ ap (λ (xs : List Content). append_known old (flat_map image_of xs)) (sym (drop_at cs i c there)) ∙ so_far
+-- ---- written part by part
 
-pub all_known : {X : Type 0} (F : List X → List ℕ) (seen known : Option (List ℕ)) (xs : List X) (n : ℕ) → F [] ≡ [] → length xs ≤ n → append_known known (F (drop n xs)) ≡ seen → known ≡ seen
-all_known {X = X} F seen known xs n none all so_far =
-    sym (known_nothing known) ∙ ap (append_known known) (sym (ap F (drop_of_length-le xs all) ∙ none)) ∙ so_far
+pub none_written : (before : Option (List ℕ)) (all left : List ℕ) → left ≡ all → HasWritten before before all left
+none_written before all left same = record { front = []; parts = same; file = sym (known_nothing before) }
 
--- one topic's images more
-pub one_topic_more : (seen old new : Option (List ℕ)) (ts : List TopicParts) (i : ℕ) (t : TopicParts) → i < length ts → t ≡ get_or ts i t → new ≡ append_known old (topic_images (topic_contents t))
-    → append_known old (images_of (map topic_contents (drop i ts))) ≡ seen → append_known new (images_of (map topic_contents (drop (i + 1) ts))) ≡ seen
-one_topic_more seen old new ts i t low at made so_far =
-    ap (λ (o : Option (List ℕ)). append_known o (images_of (map topic_contents (drop (i + 1) ts)))) made
-    ∙ known_twice old (topic_images (topic_contents t)) (images_of (map topic_contents (drop (i + 1) ts)))
-    ∙ ap (λ (us : List TopicParts). append_known old (images_of (map topic_contents us))) (sym (drop_here ts i t low at)) ∙ so_far
+pub more_written : (before old now : Option (List ℕ)) (all piece left : List ℕ) → now ≡ append_known old piece → HasWritten before old all (piece ++ left) → HasWritten before now all left
+more_written before old now all piece left made so_far = record {
+  front = so_far.front ++ piece;
+  parts = append_assoc so_far.front piece left ∙ so_far.parts;
+  file = made ∙ ap (λ (known : Option (List ℕ)). append_known known piece) so_far.file ∙ known_twice before so_far.front piece;
+}
+
+pub all_written : {X : Type 0} (F : List X → List ℕ) (before now : Option (List ℕ)) (all : List ℕ) (xs : List X) (n : ℕ) → F [] ≡ [] → length xs ≤ n → HasWritten before now all (F (drop n xs)) → now ≡ append_known before all
+all_written {X = X} F before now all xs n none enough so_far =
+    let nothing_left : F (drop n xs) ≡ [] = ap F (drop_of_length-le xs enough) ∙ none in
+    so_far.file ∙ ap (append_known before) (sym (append-nil so_far.front) ∙ ap (λ (left : List ℕ). so_far.front ++ left) (sym nothing_left) ∙ so_far.parts)
+
+-- what comes first, and what is to follow
+pub first_written : (before now : Option (List ℕ)) (first items rest others : List ℕ) → now ≡ append_known before items → items ≡ first → rest ≡ others → HasWritten before now (first ++ others) (rest ++ [])
+first_written before now first items rest others made is same = record {
+  front = items;
+  parts = (λ i. is i ++ append-nil rest i) ∙ ap (λ (xs : List ℕ). first ++ xs) same;
+  file = made;
+}
+
+-- a part of it isn't written to its end
+pub stops_within : (before old now : Option (List ℕ)) (has_failed : Bool) (all piece left : List ℕ) (e : WriteError) → HasWritten before old all (piece ++ left) → StopsWriting old now has_failed piece e → StopsWriting before now has_failed all e
+stops_within before old now has_failed all piece left OutOfMemory so_far stops =
+    let part = stops.1 in
+    let front = so_far.front in (
+      stops.0 ++ left,
+      record {
+        front = front ++ part.front;
+        parts = append_assoc front part.front (stops.0 ++ left) ∙ ap (λ (xs : List ℕ). front ++ xs) (sym (append_assoc part.front stops.0 left) ∙ ap (λ (xs : List ℕ). xs ++ left) part.parts) ∙ so_far.parts;
+        file = part.file ∙ ap (λ (known : Option (List ℕ)). append_known known part.front) so_far.file ∙ known_twice before front part.front;
+      },
+    )
+stops_within before old now has_failed all piece left (OnDisk e) so_far stops = stops
+
+-- what is left, with its first part
+images_left : (before now : Option (List ℕ)) (all : List ℕ) (cs : List Content) (i : ℕ) (c : Content) → slice_get cs i ≡ Some c → HasWritten before now all (flat_map image_of (drop i cs))
+    → HasWritten before now all (image_of c ++ flat_map image_of (drop (i + 1) cs))
+images_left before now all cs i c there so_far = subst (λ (xs : List Content). HasWritten before now all (flat_map image_of xs)) (drop_at cs i c there) so_far
+
+pub image_written : (before old now : Option (List ℕ)) (all : List ℕ) (cs : List Content) (i : ℕ) (c : Content) (sent : List ℕ) → slice_get cs i ≡ Some c → sent ≡ image_of c → now ≡ append_known old sent
+    → HasWritten before old all (flat_map image_of (drop i cs)) → HasWritten before now all (flat_map image_of (drop (i + 1) cs))
+image_written before old now all cs i c sent there is made so_far =
+    more_written before old now all (image_of c) (flat_map image_of (drop (i + 1) cs)) (made ∙ ap (append_known old) is) (images_left before old all cs i c there so_far)
+
+pub topics_left : (before now : Option (List ℕ)) (all : List ℕ) (ts : List TopicParts) (i : ℕ) (t : TopicParts) → i < length ts → t ≡ get_or ts i t → HasWritten before now all (images_of (map topic_contents (drop i ts)))
+    → HasWritten before now all (topic_images (topic_contents t) ++ images_of (map topic_contents (drop (i + 1) ts)))
+topics_left before now all ts i t low at so_far = subst (λ (us : List TopicParts). HasWritten before now all (images_of (map topic_contents us))) (drop_here ts i t low at) so_far
+
+-- ---- what was counted
+
+pub one_counted : (cs : List Content) (i : ℕ) (c : Content) → slice_get cs i ≡ Some c → IsCounted c → (AllByRecursion IsCounted (drop i cs) → AllByRecursion IsCounted cs) → AllByRecursion IsCounted (drop (i + 1) cs) → AllByRecursion IsCounted cs
+one_counted cs i c there counted so_far rest = so_far (subst (AllByRecursion IsCounted) (sym (drop_at cs i c there)) (counted, rest))
+
+pub topic_counted : (ts : List TopicParts) (i : ℕ) (t : TopicParts) → i < length ts → t ≡ get_or ts i t → IsCountedTopic (topic_contents t)
+    → (AllByRecursion IsCountedTopic (map topic_contents (drop i ts)) → AllByRecursion IsCountedTopic (map topic_contents ts))
+    → AllByRecursion IsCountedTopic (map topic_contents (drop (i + 1) ts)) → AllByRecursion IsCountedTopic (map topic_contents ts)
+topic_counted ts i t low at counted so_far rest = so_far (subst (λ (us : List TopicParts). AllByRecursion IsCountedTopic (map topic_contents us)) (sym (drop_here ts i t low at)) (counted, rest))
+
+pub all_counted : {X Y : Type 0} (P : Y → Type 0) (f : X → Y) (xs : List X) (n : ℕ) → length xs ≤ n → (AllByRecursion P (map f (drop n xs)) → AllByRecursion P (map f xs)) → AllByRecursion P (map f xs)
+all_counted {X = X} P f xs n enough so_far = so_far (subst (λ (ys : List X). AllByRecursion P (map f ys)) (sym (drop_of_length-le xs enough)) tt)
 
 -- how many partitions there are
 pub counted : (t : TopicParts) (count i : ℕ) → count ≡ length t.partitions → count ≤ i → length (topic_contents t).partitions ≤ i

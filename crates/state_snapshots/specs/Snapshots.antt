@@ -1,9 +1,12 @@
 -- The snapshot of what a broker holds, from its first byte to its last. The form is this project's own.
-use Rattle.std.specs.Prelude.{ℕ, ℤ, pos, List, ◌++◌, length, map}
-use Rattle.std.specs.List.{flat_map}
-use Rattle.frame_fields.specs.Fields.{Value}
+use Rattle.std.specs.Prelude.{ℕ, ◌≤◌, ℤ, pos, List, ◌++◌, length, map, FitsSigned}
+use Rattle.std.specs.List.{flat_map, AllByRecursion}
+use Rattle.std.specs.Int.{w64}
+use Rattle.frame_fields.specs.Fields.{Value, Fits, FitsLength, encoded, size32}
 use Rattle.frame_fields.specs.Types.{topic}
 use Rattle.frame_fields.specs.Reading.{nothing}
+use Rattle.content.specs.Content.{Content}
+use Rattle.copy_images.specs.declared.layout.TheConstants.{MAX_COUNT}
 use Rattle.copy_images.specs.Images.{image_of}
 use Rattle.broker_state.specs.declared.config.Role.{Role}
 use Rattle.broker_state.specs.declared.config.Role.TheVariants.{Leader, Follower}
@@ -40,3 +43,25 @@ images_of ts = flat_map topic_images ts
 
 abbrev pub snapshot_bytes : (number : ℤ) → State → List ℕ
 snapshot_bytes number s = head_bytes (state_said number s) ++ images_of s.topics
+
+-- ---- what can be written
+
+-- the ranges and the batches of a copy are no more than its image can count
+abbrev pub IsCounted : Content → Type 0
+IsCounted c = (length c.cover ≤ MAX_COUNT) × (length c.kept ≤ MAX_COUNT)
+
+-- those of each partition
+abbrev pub IsCountedTopic : Topic → Type 0
+IsCountedTopic t = AllByRecursion IsCounted t.partitions
+
+abbrev pub AreCounted : State → Type 0
+AreCounted s = AllByRecursion IsCountedTopic s.topics
+
+-- the sizes of a topic's images are int64
+abbrev pub SizesFit : Topic → Type 0
+SizesFit t = AllByRecursion (FitsSigned w64) (image_sizes t)
+
+-- what the head says fits into its fields, and so can be read again
+pub record IsReadable (number : ℤ) (s : State) : Type 0 where
+  pub fits : Fits snapshot_fields (state_said number s)
+  pub sized : FitsLength size32 (length (encoded snapshot_fields (state_said number s)))

@@ -1,10 +1,11 @@
 //! The head of a broker's snapshot.
 
-ghost use Rattle.std.specs.Prelude.{◌≡◌, map, IfOk};
+ghost use Rattle.std.specs.Prelude.{◌≡◌, map, IfOk, OnOk};
+ghost use Rattle.std.specs.List.{AllByRecursion};
 ghost use Rattle.broker_state.specs.Parts.{topic_contents};
 ghost use Rattle.snapshots.specs.Heads.{head_bytes};
 ghost use Rattle.snapshots.specs.Writing.{topic_value};
-ghost use Rattle.state_snapshots.specs.Snapshots.{role_number, image_sizes, topic_said, state_said};
+ghost use Rattle.state_snapshots.specs.Snapshots.{role_number, image_sizes, topic_said, state_said, SizesFit, IsReadable};
 
 use broker_state::{BrokerState, Role, TopicLogs};
 use copy_images::image_size;
@@ -27,7 +28,8 @@ fn sizes_of<S: BatchStore, A: Allocator + Copy>(
     alloc: A,
     topic: &TopicLogs<S>,
 ) -> Result<Vec<i64, A>, AllocError>
-    ensures { IfOk result (λ sizes. sizes.items ≡ image_sizes (topic_contents topic.now)) }
+    ensures sizes { IfOk result (λ sizes. sizes.items ≡ image_sizes (topic_contents topic.now)) }
+    ensures fit { OnOk result (SizesFit (topic_contents topic.now)) }
 {
     let mut sizes = Vec::new(alloc);
     for index in 0..topic.partition_count() {
@@ -41,8 +43,9 @@ fn sizes_of_all<S: BatchStore, A: Allocator + Copy>(
     alloc: A,
     topics: &[TopicLogs<S>],
 ) -> Result<Vec<Vec<i64, A>, A>, AllocError>
-    ensures { IfOk result (λ all. map (λ sizes. sizes.items) all.items
+    ensures sizes { IfOk result (λ all. map (λ sizes. sizes.items) all.items
         ≡ map (λ t. image_sizes (topic_contents t)) topics.now) }
+    ensures fit { OnOk result (AllByRecursion SizesFit (map topic_contents topics.now)) }
 {
     let mut all = Vec::new(alloc);
     for topic in topics {
@@ -88,13 +91,20 @@ fn numbers_of<S: BatchStore>(number: i64, state: &BrokerState<S>) -> SnapshotNum
 }
 
 /// The head of the snapshot of what a broker holds.
-pub(crate) fn head_of<S: BatchStore, A: Allocator + Copy>(
+///
+/// # Errors
+///
+/// Out of memory.
+pub fn head_of<S: BatchStore, A: Allocator + Copy>(
     alloc: A,
     number: i64,
     state: &BrokerState<S>,
 ) -> Result<Vec<u8, A>, AllocError>
-    ensures { IfOk result (λ head. head.items ≡ head_bytes (state_said number state.now)) }
+    ensures bytes { IfOk result (λ head. head.items ≡ head_bytes (state_said number state.now)) }
+    ensures readable { OnOk result (IsReadable number state.now) }
 {
+    // Called for its contract alone: names, topics and partitions are few enough for their fields.
+    state.know_sound();
     let topics = state.topics();
     let sizes = sizes_of_all(alloc, topics)?;
     let rows = rows_of(alloc, topics, &sizes)?;

@@ -1,12 +1,22 @@
-//! Snapshots of what a broker holds, written image by image: there is never a second copy of the whole.
+//! Snapshots of what a broker holds, written and read back image by image: there is never a second copy of the whole.
 //!
-//! The form of a snapshot is in docs/FORMATS.md; `specs/` says which bytes are that of a broker's state.
+//! [`write_snapshot`] appends the snapshot of a broker to a file. [`restore_snapshot`] reads the images behind a head
+//! that was judged before, and puts each in the place of what a partition holds. [`laws`] say that what was written is
+//! read back.
+//!
+//! The form of a snapshot is in docs/FORMATS.md; `specs/` says which bytes are that of a broker's state, what it means
+//! that they were put back, and what each refusal means.
 #![tactic(auto)]
 
 mod error;
+mod fault;
 mod head;
+pub mod laws;
+mod restoring;
 mod writing;
 
 pub use error::WriteError;
-pub use head::role_number;
+pub use fault::{ImageFault, RestoreFault};
+pub use head::{head_of, role_number};
+pub use restoring::restore_snapshot;
 pub use writing::write_snapshot;

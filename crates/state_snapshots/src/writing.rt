@@ -1,9 +1,11 @@
 //! A broker's snapshot, written into a file.
 
-ghost use Rattle.std.specs.Prelude.{◌≡◌, OnOk, map};
+ghost use Rattle.std.specs.Prelude.{◌≡◌, IfErr, OnOk, map};
+ghost use Rattle.std.specs.List.{AllByRecursion};
 ghost use Rattle.std.specs.Io.KnownBytes.{append_known};
 ghost use Rattle.broker_state.specs.Parts.{topic_contents};
-ghost use Rattle.state_snapshots.specs.Snapshots.{topic_images, images_of, snapshot_bytes};
+ghost use Rattle.state_snapshots.specs.Snapshots.{topic_images, images_of, snapshot_bytes, IsCountedTopic, AreCounted, IsReadable};
+ghost use Rattle.state_snapshots.specs.Writing.{StopsWriting};
 
 use crate::error::WriteError;
 use crate::head::head_of;
@@ -19,8 +21,11 @@ fn append_topic<D: Disk, S: BatchStore, A: Allocator + Copy>(
     buffer: &mut Vec<u8, A>,
     disk: &mut D,
 ) -> Result<(), WriteError>
-    ensures { OnOk result (D.seen disk.new
+    ensures writes { OnOk result (D.seen disk.new
         ≡ append_known (D.seen disk.old) (topic_images (topic_contents topic.now))) }
+    ensures counts { OnOk result (IsCountedTopic (topic_contents topic.now)) }
+    ensures stops { IfErr result (StopsWriting (D.seen disk.old) (D.seen disk.new)
+        (D.has_failed disk.new) (topic_images (topic_contents topic.now))) }
 {
     for index in 0..topic.partition_count() {
         image_into(topic.partition_copy(index), buffer)?;
@@ -35,8 +40,12 @@ fn append_images<D: Disk, S: BatchStore, A: Allocator + Copy>(
     buffer: &mut Vec<u8, A>,
     disk: &mut D,
 ) -> Result<(), WriteError>
-    ensures { OnOk result (D.seen disk.new
+    ensures writes { OnOk result (D.seen disk.new
         ≡ append_known (D.seen disk.old) (images_of (map topic_contents topics.now))) }
+    ensures counts { OnOk result
+        (AllByRecursion IsCountedTopic (map topic_contents topics.now)) }
+    ensures stops { IfErr result (StopsWriting (D.seen disk.old) (D.seen disk.new)
+        (D.has_failed disk.new) (images_of (map topic_contents topics.now))) }
 {
     for topic in topics {
         append_topic(topic, buffer, disk)?;
@@ -49,15 +58,19 @@ fn append_images<D: Disk, S: BatchStore, A: Allocator + Copy>(
 ///
 /// # Errors
 ///
-/// `OutOfMemory`, or else the disk failed. What was appended until then stays.
+/// `OutOfMemory`, and the first bytes of the snapshot stand in the file, or none; or else the disk failed.
 pub fn write_snapshot<D: Disk, S: BatchStore, A: Allocator + Copy>(
     alloc: A,
     number: i64,
     state: &BrokerState<S>,
     disk: &mut D,
 ) -> Result<(), WriteError>
-    ensures { OnOk result (D.seen disk.new
+    ensures writes { OnOk result (D.seen disk.new
         ≡ append_known (D.seen disk.old) (snapshot_bytes number state.now)) }
+    ensures counts { OnOk result (AreCounted state.now) }
+    ensures readable { OnOk result (IsReadable number state.now) }
+    ensures stops { IfErr result (StopsWriting (D.seen disk.old) (D.seen disk.new)
+        (D.has_failed disk.new) (snapshot_bytes number state.now)) }
 {
     let mut buffer = head_of(alloc, number, state)?;
     disk.append(&buffer)?;
