@@ -2,6 +2,8 @@
 
 use crate::names::Name;
 use journal::Disk;
+use journal::layout::KEY_SIZE;
+use snapshot_drafts::DraftFile;
 use std::alloc::Allocator;
 use std::io;
 
@@ -16,11 +18,14 @@ pub enum Kind {
     Other,
 }
 
-/// A directory whose files grow at their ends. Each method is one call of the system, but for the list of names, so that
-/// each can fail by itself.
+/// A directory whose files grow at their ends, but for one in the making, which is written at byte offsets. Each method is
+/// one call of the system, but for the list of names, so that each can fail by itself.
 pub trait Directory {
     /// A file that is open for reading and appending.
     type File: Disk + Drop;
+
+    /// A file that is open for writing at byte offsets.
+    type Draft: DraftFile + Drop;
 
     /// The names of a broker's files that are there, in any order. Others are passed over.
     fn names<A: Allocator + Copy>(&self, alloc: A) -> io::Result<Vec<Name, A>>;
@@ -33,6 +38,12 @@ pub trait Directory {
 
     /// Makes a file that isn't there yet, and opens it.
     fn create(&mut self, name: Name) -> io::Result<Self::File>;
+
+    /// Makes a file that isn't there yet, and opens it for writing at byte offsets.
+    fn draft(&mut self, name: Name) -> io::Result<Self::Draft>;
+
+    /// Bytes that are drawn at random, for the key of a new journal.
+    fn draw_key(&mut self) -> io::Result<[u8; KEY_SIZE]>;
 
     /// Gives a file another name, which no file has.
     fn rename(&mut self, from: Name, to: Name) -> io::Result<()>;

@@ -3,15 +3,18 @@
 use crate::directory::{Directory, Kind};
 use crate::names::Name;
 use journal::FileDisk;
+use journal::layout::KEY_SIZE;
+use snapshot_drafts::FileDraft;
 use std::alloc::{Alloc, AllocError, Allocator, Global};
 use std::fs::{self, File, Files, OpenOptions, TryLockError};
 use std::io::{self, Error, ErrorKind};
 use std::path::Path;
+use std::random::RandomSource;
 use std::string::String;
 
 /// A directory of the operating system, which this process alone has locked.
 #[derive(Drop)]
-pub struct Folder<'a, R: Files<File = File> + Alloc + Clone + Drop> {
+pub struct Folder<'a, R: Files<File = File> + RandomSource + Alloc + Clone + Drop> {
     rt: &'a R,
     alloc: Global,
     path: &'a str,
@@ -59,7 +62,7 @@ fn open_directory<R: Files<File = File>>(rt: &R, path: &str) -> io::Result<File>
     File::open(rt, path)
 }
 
-impl<'a, R: Files<File = File> + Alloc + Clone + Drop> Folder<'a, R> {
+impl<'a, R: Files<File = File> + RandomSource + Alloc + Clone + Drop> Folder<'a, R> {
     /// Opens a directory and locks it. It is made if it isn't there; its parent must be. Where it has none of a broker's
     /// files, its own name is on the disk for certain, unless somebody else made it in a directory that can't be read.
     ///
@@ -113,8 +116,10 @@ impl<'a, R: Files<File = File> + Alloc + Clone + Drop> Folder<'a, R> {
     }
 }
 
-impl<'a, R: Files<File = File> + Alloc + Clone + Drop> Directory for Folder<'a, R> {
+impl<'a, R: Files<File = File> + RandomSource + Alloc + Clone + Drop> Directory for Folder<'a, R> {
     type File = FileDisk;
+
+    type Draft = FileDraft;
 
     fn names<A: Allocator + Copy>(&self, alloc: A) -> io::Result<Vec<Name, A>> {
         let mut names = Vec::new(alloc);
@@ -148,6 +153,20 @@ impl<'a, R: Files<File = File> + Alloc + Clone + Drop> Directory for Folder<'a, 
 
     fn create(&mut self, name: Name) -> io::Result<FileDisk> {
         self.opened(name, true)
+    }
+
+    fn draft(&mut self, name: Name) -> io::Result<FileDraft> {
+        let file = OpenOptions::new()
+            .write(true)
+            .create_new(true)
+            .open(self.rt, self.path_of(name)?)?;
+        Ok(FileDraft::new(file))
+    }
+
+    fn draw_key(&mut self) -> io::Result<[u8; KEY_SIZE]> {
+        let mut key = [0; KEY_SIZE];
+        self.rt.fill_bytes(&mut key)?;
+        Ok(key)
     }
 
     fn rename(&mut self, from: Name, to: Name) -> io::Result<()> {

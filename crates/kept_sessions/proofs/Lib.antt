@@ -1,3 +1,4 @@
+pub mod Barred
 pub mod Handling
 pub mod Replayed
 pub mod Kept

@@ -123,6 +123,15 @@ Sends who seat notes old seat' new taken taken' (Bytes count) = SendsAt who seat
 Sends who seat notes old seat' new taken taken' (Failed why) = SendsAt who seat old seat' new taken taken' (Err why)
 Sends who seat notes old seat' new taken taken' HeldBack = HasNotes notes × (new ≡ old) × (seat' ≡ seat) × (taken' ≡ taken)
 
+-- ---- where the journal leads
+
+-- the frames in the journal's file lead from the first state to that of the broker
+pub record LeadsHere {D : Type 0} (seen : D → Option (List ℕ)) (first : State) (k : KeptState D) : Type 0 where
+  pub frames : List (List ℕ)
+  pub within : AreWithinLimit frames
+  pub replays : Replays first frames k.world.state
+  pub holds : IfSome (seen k.journal.disk) (λ file. HoldsFrames k.journal.key file frames)
+
 -- ---- what left
 
 -- There is a front of the frames that were handled, of all sessions in one order, such that each client was sent a front

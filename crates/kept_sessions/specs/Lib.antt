@@ -1,5 +1,6 @@
 -- Read in this order; each module uses only those above it.
 pub mod Replaying
+pub mod Barring
 pub mod Noting
 pub mod NotingLaws
 pub mod Keeping

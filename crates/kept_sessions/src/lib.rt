@@ -3,8 +3,13 @@
 //! What may have changed the broker is noted frame by frame, in the order in which it was handled
 //! ([`FrameNotes`]); frames that are handled again lead to the same state ([`replay`]). So a start reads the journal,
 //! handles its frames again ([`recover`]), and goes on with it ([`resume`]).
+//!
+//! While what the broker holds is written elsewhere, partition by partition, the frames go to another journal
+//! ([`Keeper::switch`]), and the partitions that aren't written yet are barred ([`Keeper::raise_barrier`]): a frame that may
+//! change one is put off ([`Keeper::take_put_off`]) until that one is written and [lifted](Keeper::lift).
 #![tactic(auto)]
 
+mod barrier;
 mod keeper;
 pub mod laws;
 mod notes;

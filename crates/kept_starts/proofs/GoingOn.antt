@@ -1,16 +1,64 @@
--- A broker that was recovered from the journal of its configuration, and goes on with it, is one that was started.
-use Rattle.std.proofs.Common.{◌≡◌, ℕ, List, [], Option, subst}
-use Rattle.broker_state.specs.State.{ConfigValue, State, new_state}
+-- A broker that goes on behind what a snapshot and the frames of former journals led to is one that was started.
+use Rattle.std.proofs.Common.{◌≡◌, ℕ, List, [], ◌++◌, Option, subst, sym, ap, refl}
+use Rattle.broker_state.specs.State.{ConfigValue, State}
 use Rattle.journal.specs.declared.layout.TheConstants.{HEAD_SIZE}
-use Rattle.kept_sessions.specs.Keeping.{IsKept, KeptState}
-use Rattle.kept_sessions.specs.Recovering.{HasRecovered}
-use Rattle.kept_starts.specs.Starts.{IsStarted}
+use Rattle.sessions.specs.Orders.{World, new_world}
+use Rattle.kept_rotations.specs.Below.{replays_then}
+use Rattle.kept_rotations.specs.Below.{IsKept, KeptState}
+use Rattle.kept_rotations.specs.Below.{HasRecovered}
+use Rattle.kept_rotations.specs.GoingOn.{IsKeptOn}
+use Rattle.kept_starts.specs.Starts.{IsOfSnapshot, LeadsTo, IsRecovered, GoesOn, IsStarted}
 
-pub started : {D : Type 0} (seen : D → Option (List ℕ)) (config : ConfigValue) (first node : State) (k : KeptState D) (disk : D) (key : List ℕ) (from at count : ℕ)
-    → first ≡ new_state config → node ≡ k.world.state → k.world.sessions ≡ [] → from ≡ HEAD_SIZE → HasRecovered (seen disk) key from at first node count
-    → ((f : State) (n : ℕ) → HasRecovered (seen disk) key HEAD_SIZE at f node n → IsKept seen f node k) → IsStarted seen config k
-started seen config first node k disk key from at count new same none start recovered keeps = record {
-  no_client = none;
-  kept = subst (λ (s : State). IsKept seen (new_state config) s k) same (subst (λ (f : State). IsKept seen f node k) new
-      (keeps first count (subst (λ (n : ℕ). HasRecovered (seen disk) key n at first node count) start recovered)));
+-- ---- frames that lead on
+
+pub leads_nowhere : (s : State) → LeadsTo s s
+leads_nowhere s = record { frames = []; replays = refl }
+
+pub leads_on : (s mid after : State) → LeadsTo s mid → LeadsTo mid after → LeadsTo s after
+leads_on s mid after first others = record {
+  frames = first.frames ++ others.frames;
+  replays = replays_then s mid after first.frames others.frames first.replays others.replays;
 }
+
+pub recovered_on : {D : Type 0} (seen : D → Option (List ℕ)) (config : ConfigValue) (held s : State) → IsOfSnapshot seen config held → LeadsTo held s → IsRecovered seen s
+recovered_on seen config held s is led = record { config = config; held = held; of_snapshot = is; led = led }
+
+-- ---- the last journal
+
+pub goes_on : {D : Type 0} (seen : D → Option (List ℕ)) (found node : State) (k : KeptState D) (disk : D) (key : List ℕ) (from at count : ℕ)
+    → k.world ≡ new_world node → from ≡ HEAD_SIZE → HasRecovered (seen disk) key from at found node count
+    → ((first : State) (n : ℕ) → HasRecovered (seen disk) key HEAD_SIZE at first node n → IsKept seen first node k) → GoesOn seen found k
+goes_on seen found node k disk key from at count world start recovered keeps = (
+  ap (λ (w : World). w.sessions) world,
+  subst (λ (s : State). IsKept seen found s k) (sym (ap (λ (w : World). w.state) world))
+      (keeps found count (subst (λ (n : ℕ). HasRecovered (seen disk) key n at found node count) start recovered)),
+)
+
+pub started : {D : Type 0} (seen : D → Option (List ℕ)) (found : State) (k : KeptState D) → IsRecovered seen found → GoesOn seen found k → IsStarted seen k
+started seen found k is on = record {
+  no_client = on.0;
+  config = is.config;
+  held = is.held;
+  of_snapshot = is.of_snapshot;
+  kept = record { former = is.led.frames; between = found; led = is.led.replays; kept = on.1 };
+}
+
+-- ---- a snapshot is taken
+
+pub folded : {D : Type 0} (seen : D → Option (List ℕ)) (k new : KeptState D) → new.world ≡ k.world
+    → ((first start : State) → IsKept seen first start k → IsKeptOn seen first start new) → IsStarted seen k → IsStarted seen new
+folded seen k new world keeps is =
+    let on = keeps is.kept.between k.world.state is.kept.kept in
+    let all : IsKeptOn seen is.held k.world.state new = record {
+      former = is.kept.former ++ on.former;
+      between = on.between;
+      led = replays_then is.held is.kept.between on.between is.kept.former on.former is.kept.led on.led;
+      kept = on.kept;
+    } in
+    record {
+      no_client = subst (λ (w : World). w.sessions ≡ []) (sym world) is.no_client;
+      config = is.config;
+      held = is.held;
+      of_snapshot = is.of_snapshot;
+      kept = subst (λ (w : World). IsKeptOn seen is.held w.state new) (sym world) all;
+    }

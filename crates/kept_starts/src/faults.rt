@@ -1,10 +1,11 @@
 //! Why a broker doesn't start with a directory.
 
-use broker_state::{ConfigError, Role};
+use broker_state::{ConfigError, RestoreError, Role};
 use data_directory::Name;
 use journal::{OpenError, ReadError};
-use kept_sessions::ReplayError;
+use kept_rotations::ReplayError;
 use snapshots::SnapshotError;
+use state_snapshots::ImageFault;
 use std::alloc::{AllocError, Allocator};
 use std::io::{Error, ErrorKind};
 use thiserror::Error;
@@ -27,9 +28,7 @@ pub enum StartFault<A: Allocator> {
     NotRegular(Name),
     /// The directory is that of a broker with another role.
     OtherRole(Role),
-    /// The directory is that of a broker which gave out this producer id first.
-    OtherFirstProducer(i64),
-    /// The directory has so many partitions of the topic; where these are none it has no such topic.
+    /// The directory has so many partitions of the topic, and fewer are asked for, or none.
     OtherTopic {
         name: Vec<u8, A>,
         partitions: usize,
@@ -45,18 +44,12 @@ pub enum StartFault<A: Allocator> {
 /// What is known of a file that a later program wrote.
 #[derive(Clone, Copy, Debug, PartialEq, Eq, Error)]
 pub enum LaterWhy {
-    /// It has the name of a later file.
-    #[error("Name")]
-    Name,
     /// Its version is another one.
     #[error("BadVersion")]
     BadVersion,
     /// The definitions by which its frames were handled have another meaning.
     #[error("BadMeaning")]
     BadMeaning,
-    /// It is the snapshot of a broker that isn't empty.
-    #[error("NotEmpty")]
-    NotEmpty,
 }
 
 /// What is wrong with a file.
@@ -74,15 +67,27 @@ pub enum Damage {
     /// The role is neither a leader's nor a follower's.
     #[error("BadRole")]
     BadRole,
-    /// The images aren't those of empty copies.
-    #[error("BadImage")]
-    BadImage,
+    /// No broker can have these topics.
+    #[error("BadTopics")]
+    BadTopics,
+    /// What should be the image of a partition, or what follows the last one.
+    #[error("{0}")]
+    Image(ImageFault),
+    /// The copy that an image is of isn't one that the broker can have.
+    #[error("{0}")]
+    Copy(RestoreError),
+    /// The next producer id lies below the first one.
+    #[error("EarlyProducer")]
+    EarlyProducer,
     /// A sound group has a frame that isn't handled again.
     #[error("{0}")]
     Frame(ReplayError),
     /// No sound group stands there, though one behind it says that more was on the disk.
     #[error("LaterSync")]
     LaterSync,
+    /// No sound group stands there, though another journal follows.
+    #[error("LaterJournal")]
+    LaterJournal,
 }
 
 impl<A: Allocator> From<AllocError> for StartFault<A> {

@@ -4,10 +4,10 @@
 //! cuts what a crash left behind the last sound group, and gives the broker; or it makes the files of a directory that
 //! has none. A directory that it doesn't take is refused by a [`StartFault`], and stays as it was.
 //!
-//! The files of a directory are `snapshot.1`, of an empty broker and its configuration, and `journal.1`, of all that may
-//! have changed it since. They are made in this order: the journal's head, then the snapshot under the name
-//! `snapshot.tmp`, which it loses once it is on the disk. So where `snapshot.1` stands the journal is whole, and a
-//! journal without a group and without `snapshot.1` is one that was being made.
+//! The files of a directory are `snapshot.N`, of what a broker held once, and journals in a row from `journal.N` on, of all
+//! that may have changed it since. New ones are made in this order: the journal's head, then the snapshot under the name
+//! `snapshot.tmp`, which it loses once it is on the disk. So where a snapshot stands its journal is whole, and a
+//! journal without a group and without any snapshot is one that was being made.
 //!
 //! What a listener needs of the crates below is handed on.
 #![tactic(auto)]
@@ -16,13 +16,19 @@ mod configuration;
 mod faults;
 mod making;
 mod reading;
+mod recovering;
 mod snapshot;
 mod standing;
 mod starting;
 
-pub use broker_state::{Config, ConfigError, Role, TopicConfig};
+pub use broker_state::{Config, ConfigError, Place, Role, TopicConfig};
 pub use data_directory::{Directory, Folder, FolderError, Kind, Name};
 pub use faults::{Damage, LaterWhy, StartFault};
+pub use journal::layout::KEY_SIZE;
 pub use journal::{Disk, FileDisk, JournalError};
-pub use kept_sessions::{Answer, CommitError, GROUP_TOPIC, Keeper, Node, Sent, sessions};
-pub use starting::{MEANING, Started, start};
+pub use kept_rotations::{
+    Answer, CommitError, GROUP_TOPIC, Keeper, KeptFiles, MEANING, Missed, Node, Rotation,
+    RotationFault, Sent, sessions,
+};
+pub use snapshot_drafts::DraftFile;
+pub use starting::{Found, Keeping, Started, start};

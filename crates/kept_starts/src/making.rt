@@ -1,9 +1,13 @@
 //! The files of a new directory.
 
+use crate::configuration::asked_config;
 use crate::faults::{StartFault, failed};
-use crate::standing::{JOURNAL, SNAPSHOT, is_there};
+use crate::standing::{FIRST, is_there};
+use broker_state::{BrokerState, Config, ConfigError};
 use data_directory::{Directory, Name};
-use journal::{CreateError, Disk, Head, Journal};
+use kept_rotations::{make_journal, write_whole};
+use segment::BatchStore;
+use snapshot_drafts::DraftError;
 use std::alloc::Allocator;
 use std::io::{self, Error, ErrorKind};
 
@@ -21,47 +25,60 @@ pub(crate) fn remove_unfinished<D: Directory, A: Allocator>(
     }
 }
 
-/// Makes a journal without a group, which is on the disk for certain.
-fn make_journal<D: Directory>(directory: &mut D, head: &Head) -> io::Result<()> {
-    let disk = directory.create(JOURNAL)?;
-    match Journal::create(disk, head) {
-        Ok(_) => {}
-        Err(CreateError::NotEmpty) => return Err(Error::from(ErrorKind::AlreadyExists)),
-        Err(CreateError::OnDisk(why)) => return Err(why),
+/// What it means that a snapshot isn't written.
+fn not_written<A: Allocator>(why: DraftError) -> StartFault<A> {
+    match why {
+        DraftError::OutOfMemory => StartFault::OutOfMemory,
+        DraftError::OnDisk(why) => failed(Some(Name::Making), why),
+        DraftError::OtherSize | DraftError::Unfinished => {
+            failed(Some(Name::Making), Error::from(ErrorKind::Other))
+        }
     }
-    directory.sync()
 }
 
-/// Makes a snapshot of these bytes, which is on the disk for certain before it gets its name.
-fn make_snapshot<D: Directory>(directory: &mut D, bytes: &[u8]) -> io::Result<()> {
-    let mut disk = directory.create(Name::Making)?;
-    disk.append(bytes)?;
-    disk.sync()
+/// Makes the snapshot of a broker to which nothing was done yet, which is on the disk for certain before it gets its name.
+fn make_snapshot<S: BatchStore, D: Directory>(
+    alloc: S::Alloc,
+    directory: &mut D,
+    state: &BrokerState<S>,
+) -> Result<(), StartFault<S::Alloc>> {
+    let file = match directory.draft(Name::Making) {
+        Ok(file) => file,
+        Err(why) => return Err(failed(Some(Name::Making), why)),
+    };
+    match write_whole(alloc, file, FIRST, state) {
+        Ok(_) => Ok(()),
+        Err(why) => Err(not_written(why)),
+    }
 }
 
 /// Gives the snapshot its name, for certain.
 fn name_snapshot<D: Directory>(directory: &mut D) -> io::Result<()> {
-    directory.rename(Name::Making, SNAPSHOT)?;
+    directory.rename(Name::Making, Name::Snapshot(FIRST))?;
     directory.sync()
 }
 
 /// Makes the files of a directory that has none, but for some that were being made. What was removed of these is
 /// gone for certain before the snapshot has its name.
-pub(crate) fn make_files<D: Directory, A: Allocator>(
+pub(crate) fn make_files<S: BatchStore, D: Directory>(
+    alloc: S::Alloc,
     directory: &mut D,
-    head: &Head,
-    snapshot: &[u8],
-) -> Result<(), StartFault<A>> {
+    config: &Config<S::Alloc>,
+) -> Result<(), StartFault<S::Alloc>> {
+    let set_up = asked_config(alloc, config, config.first_producer)?;
+    let state = match BrokerState::<S>::new(alloc, set_up) {
+        Ok(state) => state,
+        Err(ConfigError::OutOfMemory) => return Err(StartFault::OutOfMemory),
+        Err(why) => return Err(StartFault::Configuration(why)),
+    };
     remove_unfinished(directory, Name::Making)?;
-    remove_unfinished(directory, JOURNAL)?;
-    if let Err(why) = make_journal(directory, head) {
-        return Err(failed(Some(JOURNAL), why));
+    remove_unfinished(directory, Name::Journal(FIRST))?;
+    if let Err(why) = make_journal(directory, FIRST) {
+        return Err(failed(Some(Name::Journal(FIRST)), why));
     }
-    if let Err(why) = make_snapshot(directory, snapshot) {
-        return Err(failed(Some(Name::Making), why));
-    }
+    make_snapshot(alloc, directory, &state)?;
     match name_snapshot(directory) {
         Ok(()) => Ok(()),
-        Err(why) => Err(failed(Some(SNAPSHOT), why)),
+        Err(why) => Err(failed(Some(Name::Snapshot(FIRST)), why)),
     }
 }

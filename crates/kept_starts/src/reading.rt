@@ -1,5 +1,8 @@
 //! A small file, read as a whole.
 
+ghost use Rattle.std.specs.Prelude.{IfOk};
+ghost use Rattle.kept_starts.specs.Starts.{IsFrontOf};
+
 use journal::{Disk, ReadError};
 use std::alloc::Allocator;
 
@@ -10,10 +13,13 @@ const PIECE: usize = 65_536;
 pub(crate) const MOST_READ: usize = 4_194_304;
 
 /// Reads a file from its first byte on, up to its end or so many bytes. The memory grows as they come.
+#[tactic(auto, using(crate::proofs::Fronts::nothing_read))]
 pub(crate) fn read_front<D: Disk, A: Allocator + Copy>(
     alloc: A,
     disk: &D,
-) -> Result<Vec<u8, A>, ReadError> {
+) -> Result<Vec<u8, A>, ReadError>
+    ensures { IfOk result (λ bytes. IsFrontOf (D.seen disk.now) bytes.items) }
+{
     let mut piece = vec![in alloc; 0; PIECE]?;
     let mut bytes = Vec::new(alloc);
     for _ in 0..MOST_READ {

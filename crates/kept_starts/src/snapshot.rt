@@ -1,171 +1,176 @@
-//! The snapshot of an empty broker: its bytes, and whether a file has them.
+//! The broker that a snapshot holds.
 
-use crate::configuration::{check_configuration, role_number};
-use crate::faults::{Damage, LaterWhy, StartFault};
-use crate::standing::SNAPSHOT;
-use broker_state::{Config, GROUP_TOPIC};
-use copy_images::write_image;
-use frame_fields::{Array, Topic, Topics};
-use partition_log::PartitionLog;
+ghost use Rattle.std.specs.Prelude.{IfOk};
+ghost use Rattle.broker_state.specs.State.{ConfigValue};
+ghost use Rattle.kept_starts.specs.Starts.{IsFrontOf, IsOfSnapshot};
+
+use crate::configuration::{Change, asked_config, bad_topics, check_configuration, former_config};
+use crate::faults::{Damage, LaterWhy, StartFault, failed, unread};
+use crate::reading::read_front;
+use broker_state::{BrokerState, Config, ConfigError};
+use data_directory::{Directory, Name};
+use journal::Disk;
+use kept_rotations::Node;
 use segment::BatchStore;
-use snapshots::{
-    SnapshotError, SnapshotHead, SnapshotNumbers, SnapshotPartition, SnapshotTopic, judge_head,
-    put_head,
-};
-use std::alloc::{AllocError, Allocator};
+use snapshots::{SnapshotError, SnapshotHead, judge_head};
+use state_snapshots::{RestoreFault, restore_snapshot};
+use std::alloc::Allocator;
 
-/// The number of the first snapshot.
-const FIRST: i64 = 1;
+/// Byte offset of the number in a snapshot.
+const NUMBER_AT: u64 = 14;
 
-/// The image of an empty copy.
-pub(crate) fn empty_image<S: BatchStore>(alloc: S::Alloc) -> Result<Vec<u8, S::Alloc>, AllocError> {
-    write_image(alloc, &PartitionLog::<S>::new(alloc))
-}
+/// Byte offset of the next producer id in a snapshot.
+const NEXT_PRODUCER_AT: u64 = 32;
 
-/// How many partitions a configuration has, with that of the group topic.
-fn partition_count<A: Allocator>(config: &Config<A>) -> usize {
-    let mut count: usize = 1;
-    for topic in &config.topics {
-        count = count.saturating_add(topic.partitions as usize);
-    }
-    count
-}
-
-/// The topics of a configuration, each with the sizes of its partitions' images. `sizes` are those of as many
-/// partitions as any topic has.
-fn topics_of<'a, A: Allocator + Copy>(
-    alloc: A,
-    config: &'a Config<A>,
-    sizes: &'a [i64],
-) -> Result<Vec<SnapshotTopic<'a>, A>, AllocError> {
-    let mut topics = Vec::new(alloc);
-    for topic in &config.topics {
-        topics.push(SnapshotTopic {
-            name: topic.name.as_bytes(),
-            sizes: &sizes[..sizes.len().min(topic.partitions as usize)],
-        })?;
-    }
-    topics.push(SnapshotTopic {
-        name: GROUP_TOPIC,
-        sizes: &sizes[..sizes.len().min(1)],
-    })?;
-    Ok(topics)
-}
-
-/// The snapshot of an empty broker of this configuration.
-pub(crate) fn empty_snapshot<A: Allocator + Copy>(
-    alloc: A,
-    config: &Config<A>,
-    image: &[u8],
-) -> Result<Vec<u8, A>, AllocError> {
-    let count = partition_count(config);
-    let sizes = vec![in alloc; image.len() as i64; count]?;
-    let topics = topics_of(alloc, config, &sizes)?;
-    let numbers = SnapshotNumbers {
-        number: FIRST,
-        role: role_number(config.role),
-        first_producer: config.first_producer,
-        next_producer: config.first_producer,
-    };
-    let mut bytes = Vec::new(alloc);
-    put_head(alloc, numbers, &topics, &mut bytes)?;
-    for _ in 0..count {
-        bytes.extend_from_slice(image)?;
-    }
-    Ok(bytes)
-}
-
-// ---- whether a file has them
-
-/// A fault of the snapshot.
-fn damaged<A: Allocator>(at: usize, why: Damage) -> StartFault<A> {
-    StartFault::Damaged {
-        name: SNAPSHOT,
-        at: at as u64,
-        why,
-    }
+/// The broker that a snapshot holds.
+#[derive(Drop)]
+pub(crate) struct Restored<S: BatchStore> {
+    pub(crate) node: Node<S>,
+    /// How what is asked for differs from it.
+    pub(crate) change: Change,
+    /// The size of the snapshot, in bytes.
+    pub(crate) size: u64,
 }
 
 /// What it means that bytes don't begin with a head.
-fn head_fault<A: Allocator>(bytes: &[u8], why: SnapshotError) -> StartFault<A> {
+fn head_fault<A: Allocator>(name: Name, bytes: &[u8], why: SnapshotError) -> StartFault<A> {
     let at = match why {
-        SnapshotError::Short => bytes.len(),
+        SnapshotError::Short => bytes.len() as u64,
         SnapshotError::BadMark => 4,
-        SnapshotError::BadVersion => return StartFault::Later(SNAPSHOT, LaterWhy::BadVersion),
+        SnapshotError::BadVersion => return StartFault::Later(name, LaterWhy::BadVersion),
         SnapshotError::BadSize => 10,
         SnapshotError::BadCrc => 0,
-        SnapshotError::BadFields => 14,
+        SnapshotError::BadFields => NUMBER_AT,
     };
-    damaged(at, Damage::Snapshot(why))
+    StartFault::Damaged {
+        name,
+        at,
+        why: Damage::Snapshot(why),
+    }
 }
 
-/// Whether all images of a topic have the size of this one.
-fn have_size(partitions: &Array<'_, SnapshotPartition>, image: &[u8]) -> bool {
-    for partition in partitions.duplicate() {
-        if partition.size != image.len() as i64 {
-            return false;
-        }
+/// What it means that images aren't read.
+fn restore_fault<A: Allocator>(name: Name, why: RestoreFault) -> StartFault<A> {
+    match why {
+        RestoreFault::OutOfMemory => StartFault::OutOfMemory,
+        RestoreFault::OnDisk(why) => failed(Some(name), why),
+        RestoreFault::Damaged { at, why } => StartFault::Damaged {
+            name,
+            at,
+            why: Damage::Image(why),
+        },
+        RestoreFault::Refused { at, why } => StartFault::Damaged {
+            name,
+            at,
+            why: Damage::Copy(why),
+        },
+        RestoreFault::EarlyProducer => StartFault::Damaged {
+            name,
+            at: NEXT_PRODUCER_AT,
+            why: Damage::EarlyProducer,
+        },
     }
-    true
 }
 
-/// Whether the images that a head announces all have the size of this one.
-fn all_have_size<'a>(topics: &Array<'a, Topic<'a, SnapshotPartition>>, image: &[u8]) -> bool {
-    for topic in Topics::of(topics) {
-        if !have_size(&topic.partitions, image) {
-            return false;
-        }
+/// What it means that there is no broker of a configuration. Of a snapshot's own the snapshot is at fault.
+fn config_fault<A: Allocator>(name: Name, change: Change, why: ConfigError) -> StartFault<A> {
+    match (why, change) {
+        (ConfigError::OutOfMemory, _) => StartFault::OutOfMemory,
+        (_, Change::Grown) => bad_topics(name),
+        (why, Change::Same) => StartFault::Configuration(why),
     }
-    true
 }
 
-/// Refuses what follows a head, unless it is so many of these images.
-fn check_images<A: Allocator>(
-    bytes: &[u8],
-    at: usize,
-    count: usize,
-    image: &[u8],
-) -> Result<(), StartFault<A>> {
-    let mut rest = bytes;
-    let mut passed: usize = 0;
-    for _ in 0..count {
-        rest = match rest.strip_prefix(image) {
-            Some(more) => more,
-            None => return Err(damaged(at.saturating_add(passed), Damage::BadImage)),
-        };
-        passed = passed.saturating_add(image.len());
-    }
-    if rest.is_empty() {
-        return Ok(());
-    }
-    Err(damaged(at.saturating_add(passed), Damage::BadImage))
+/// How the broker of a snapshot is set up: with what is asked for, or with what the snapshot has of it.
+#[derive(Clone, Copy, Debug, PartialEq, Eq)]
+pub(crate) enum Shape {
+    /// As the snapshot says, where more is asked for.
+    Former,
+    /// As is asked for.
+    Asked,
 }
 
-/// Refuses a head that isn't of an empty broker: its number, the next producer id, the sizes of its images.
-fn check_empty<A: Allocator>(head: &SnapshotHead<'_>, image: &[u8]) -> Result<(), StartFault<A>> {
-    if head.next_producer != head.first_producer || !all_have_size(&head.topics, image) {
-        return Err(StartFault::Later(SNAPSHOT, LaterWhy::NotEmpty));
+/// The configuration of the broker of a snapshot.
+fn config_of<A: Allocator + Copy>(
+    alloc: A,
+    name: Name,
+    config: &Config<A>,
+    head: &SnapshotHead<'_>,
+    is_former: bool,
+) -> Result<Config<A>, StartFault<A>> {
+    if is_former {
+        return former_config(alloc, name, config, head);
+    }
+    Ok(asked_config(alloc, config, head.first_producer)?)
+}
+
+/// Refuses a snapshot of another number than its name has.
+fn check_number<A: Allocator>(number: u64, head: &SnapshotHead<'_>) -> Result<(), StartFault<A>> {
+    if head.number.cast_unsigned() != number {
+        return Err(StartFault::Damaged {
+            name: Name::Snapshot(number),
+            at: NUMBER_AT,
+            why: Damage::BadNumber,
+        });
     }
     Ok(())
 }
 
-/// Refuses bytes that aren't the snapshot of an empty broker of this configuration, where the topics may stand in
-/// another order.
-pub(crate) fn check_snapshot<A: Allocator + Copy>(
-    alloc: A,
+/// Restores the broker of a snapshot that stands in a file, of which the first bytes were read.
+fn restore_from<S: BatchStore, D: Disk>(
+    alloc: S::Alloc,
+    disk: &D,
+    number: u64,
     bytes: &[u8],
-    config: &Config<A>,
-    image: &[u8],
-) -> Result<(), StartFault<A>> {
+    config: &Config<S::Alloc>,
+    shape: Shape,
+) -> Result<(Node<S>, Change), StartFault<S::Alloc>>
+    requires { IsFrontOf (D.seen disk.now) bytes.now }
+    ensures { IfOk result (λ r. (config : ConfigValue) × IsOfSnapshot D.seen config r.0) }
+{
+    let name = Name::Snapshot(number);
     let (head, images) = match judge_head(bytes) {
         Ok(found) => found,
-        Err(why) => return Err(head_fault(bytes, why)),
+        Err(why) => return Err(head_fault(name, bytes, why)),
     };
-    if head.number != FIRST {
-        return Err(damaged(14, Damage::BadNumber));
+    check_number(number, &head)?;
+    let change = check_configuration(alloc, name, config, &head)?;
+    let is_former = change == Change::Grown && shape == Shape::Former;
+    let set_up = config_of(alloc, name, config, &head, is_former)?;
+    let mut state = match BrokerState::new(alloc, set_up) {
+        Ok(state) => state,
+        Err(why) => return Err(config_fault(name, change, why)),
+    };
+    let at = bytes.len().saturating_sub(images.len()) as u64;
+    match restore_snapshot(alloc, disk, &head, at, &mut state) {
+        Ok(()) => Ok((Node::from_state(state), change)),
+        Err(why) => Err(restore_fault(name, why)),
     }
-    check_configuration(alloc, config, &head)?;
-    check_empty(&head, image)?;
-    let at = bytes.len().saturating_sub(images.len());
-    check_images(images, at, partition_count(config), image)
+}
+
+/// Restores the broker of a directory's snapshot.
+pub(crate) fn restore_node<S: BatchStore, D: Directory>(
+    alloc: S::Alloc,
+    directory: &D,
+    number: u64,
+    config: &Config<S::Alloc>,
+    shape: Shape,
+) -> Result<Restored<S>, StartFault<S::Alloc>>
+    ensures { IfOk result (λ r. (config : ConfigValue) × IsOfSnapshot D.File.seen config r.node) }
+{
+    let name = Name::Snapshot(number);
+    let disk = match directory.open(name) {
+        Ok(disk) => disk,
+        Err(why) => return Err(failed(Some(name), why)),
+    };
+    let size = match disk.len() {
+        Ok(size) => size,
+        Err(why) => return Err(failed(Some(name), why)),
+    };
+    let bytes = match read_front(alloc, &disk) {
+        Ok(bytes) => bytes,
+        Err(why) => return Err(unread(name, why)),
+    };
+    let (node, change) = restore_from(alloc, &disk, number, &bytes, config, shape)?;
+    Ok(Restored { node, change, size })
 }

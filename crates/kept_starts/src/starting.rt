@@ -1,235 +1,254 @@
 //! The start of a broker with a directory.
 
-ghost use Rattle.std.specs.Prelude.{◌≡◌, IfOk};
-ghost use Rattle.broker_state.specs.ConfigValues.{config_value};
+ghost use Rattle.std.specs.Prelude.{◌≡◌, IfOk, OnOk};
 ghost use Rattle.journal.specs.declared.layout.TheConstants.{HEAD_SIZE};
-ghost use Rattle.kept_starts.specs.Starts.{IsStarted};
+ghost use Rattle.kept_starts.specs.Starts.{IsRecovered, IsStarted};
 
-use crate::faults::{Damage, LaterWhy, StartFault, failed, unread};
+use crate::configuration::Change;
+use crate::faults::{StartFault, failed};
 use crate::making::{make_files, remove_unfinished};
-use crate::reading::read_front;
-use crate::snapshot::{check_snapshot, empty_image, empty_snapshot};
-use crate::standing::{FIRST, JOURNAL, SNAPSHOT, Standing, standing_of};
-use broker_state::{Config, ConfigError};
+use crate::recovering::{Former, former_of, resume_last};
+use crate::snapshot::Shape;
+use crate::standing::{FIRST_ROW, Row, names_of, standing_of};
+use broker_state::Config;
 use data_directory::{Directory, Name};
-use journal::layout::{CRC_SIZE, KEY_SIZE, NUMBER_AT};
-use journal::{Disk, Head, OpenError, Reader};
-use kept_sessions::{Keeper, Node, RecoverError, ReplayError, ResumeError, recover, resume};
+use kept_rotations::{FoldFault, Keeper, KeptFiles, Missed, Rotation, RotationFault};
 use segment::BatchStore;
 use std::alloc::Allocator;
+use std::io::{Error, ErrorKind};
 
-/// The number of the definitions' meaning: it rises where a frame comes to do something else.
-pub const MEANING: i16 = 1;
-
-/// A broker that was started, and what was found.
-#[derive(Drop)]
-pub struct Started<S: BatchStore, D: Disk> {
-    /// The broker, which keeps its changes.
-    pub keeper: Keeper<S, S::Alloc, D>,
+/// What was found in a directory.
+#[derive(Clone, Copy, Debug, PartialEq, Eq)]
+pub struct Found {
     /// Whether the directory was new.
     pub is_new: bool,
+    /// The number of the highest snapshot.
+    pub snapshot: u64,
     /// How many frames were handled again.
     pub frames: u64,
-    /// The size that the journal has now, in bytes.
+    /// The number of the last journal.
+    pub journal: u64,
+    /// The size that it has now, in bytes.
     pub at: u64,
     /// How many bytes were cut behind it.
     pub cut: u64,
 }
 
-/// The size of a journal's file, where it is too short for a head; where that can't be told, 0.
-fn size_of<D: Directory>(directory: &D) -> u64 {
-    match directory.open(JOURNAL) {
-        Ok(disk) => disk.len().unwrap_or(0),
-        Err(_) => 0,
+/// A broker that was started, and what was found.
+#[derive(Drop)]
+pub struct Started<S: BatchStore, D: Directory> {
+    /// The broker, which keeps its changes.
+    pub keeper: Keeper<S, S::Alloc, D::File>,
+    /// The snapshots that are taken of it.
+    pub rotation: Rotation<D, S::Alloc>,
+    /// What was found.
+    pub found: Found,
+}
+
+/// How a broker is to keep what it does.
+#[derive(Clone, Copy, Debug, PartialEq, Eq)]
+pub struct Keeping {
+    /// Whether a snapshot is taken at the start, whatever is there.
+    pub is_folded: bool,
+    /// A snapshot is taken once the journals have so many bytes, and more than the last one.
+    pub most_journal: u64,
+}
+
+/// What it means that no snapshot was taken.
+fn not_folded<A: Allocator>(why: FoldFault) -> StartFault<A> {
+    match why {
+        FoldFault::Missed(Missed::OutOfMemory) => StartFault::OutOfMemory,
+        FoldFault::Missed(Missed::Failed(name, why)) => failed(Some(name), why),
+        FoldFault::Missed(Missed::Unlike) => {
+            failed(Some(Name::Making), Error::from(ErrorKind::Other))
+        }
+        FoldFault::Rotation(RotationFault::Directory(name, why)) => failed(name, why),
+        FoldFault::Rotation(RotationFault::Journal(_)) => {
+            failed(None, Error::from(ErrorKind::Other))
+        }
     }
 }
 
-/// What it means that a journal has no head.
-fn head_fault<D: Directory, A: Allocator>(directory: &D, why: OpenError) -> StartFault<A> {
-    let at = match why {
-        OpenError::OnDisk(why) => return failed(Some(JOURNAL), why),
-        OpenError::BadVersion => return StartFault::Later(JOURNAL, LaterWhy::BadVersion),
-        OpenError::Short => size_of(directory),
-        OpenError::BadCrc => 0,
-        OpenError::BadMark => CRC_SIZE as u64,
-        OpenError::BadNumber => NUMBER_AT as u64,
-    };
-    StartFault::Damaged {
-        name: JOURNAL,
-        at,
-        why: Damage::Journal(why),
-    }
-}
-
-/// Refuses a journal of another number, or whose frames mean something else.
-fn check_head<A: Allocator>(head: Head) -> Result<(), StartFault<A>> {
-    if head.number != FIRST as i64 {
-        return Err(StartFault::Damaged {
-            name: JOURNAL,
-            at: NUMBER_AT as u64,
-            why: Damage::BadNumber,
-        });
-    }
-    if head.meaning != MEANING {
-        return Err(StartFault::Later(JOURNAL, LaterWhy::BadMeaning));
+/// Removes files with a number below that of the snapshot.
+fn remove_lower<D: Directory, A: Allocator>(
+    directory: &mut D,
+    names: &[Name],
+    snapshot: u64,
+) -> Result<(), StartFault<A>> {
+    for name in names {
+        match name {
+            Name::Snapshot(number) | Name::Journal(number) if *number < snapshot => {
+                if let Err(why) = directory.remove(*name) {
+                    return Err(failed(Some(*name), why));
+                }
+            }
+            _ => {}
+        }
     }
     Ok(())
 }
 
-/// What it means that a journal's frames aren't handled again, of which the groups up to an offset were read.
-fn recover_fault<A: Allocator>(reached: u64, why: RecoverError) -> StartFault<A> {
-    let (at, why) = match why {
-        RecoverError::Read(why) => return unread(JOURNAL, why),
-        RecoverError::Frame {
-            at: _,
-            why: ReplayError::OutOfMemory,
-        } => return StartFault::OutOfMemory,
-        RecoverError::Frame { at, why } => (at, Damage::Frame(why)),
-        RecoverError::LaterSync => (reached, Damage::LaterSync),
-    };
-    StartFault::Damaged {
-        name: JOURNAL,
-        at,
-        why,
-    }
-}
-
-/// What it means that there is no broker of a configuration.
-fn config_fault<A: Allocator>(why: ConfigError) -> StartFault<A> {
-    match why {
-        ConfigError::OutOfMemory => StartFault::OutOfMemory,
-        why => StartFault::Configuration(why),
-    }
-}
-
-/// Refuses a snapshot that isn't of an empty broker of this configuration.
-fn judge_snapshot<D: Directory, A: Allocator + Copy>(
+/// Removes what was being made, and has the names on the disk for certain, as a start that was ended may have left them
+/// unsynced; then what the snapshot has taken the place of.
+fn settle_names<D: Directory, A: Allocator + Copy>(
     alloc: A,
-    directory: &D,
-    config: &Config<A>,
-    image: &[u8],
+    directory: &mut D,
+    snapshot: u64,
+    unfinished: Option<u64>,
 ) -> Result<(), StartFault<A>> {
-    let disk = match directory.open(SNAPSHOT) {
-        Ok(disk) => disk,
-        Err(why) => return Err(failed(Some(SNAPSHOT), why)),
-    };
-    match read_front(alloc, &disk) {
-        Ok(bytes) => check_snapshot(alloc, &bytes, config, image),
-        Err(why) => Err(unread(SNAPSHOT, why)),
+    remove_unfinished(directory, Name::Making)?;
+    if let Some(number) = unfinished {
+        remove_unfinished(directory, Name::Journal(number))?;
     }
+    match directory.sync() {
+        Ok(()) => {}
+        Err(why) => return Err(failed(None, why)),
+    }
+    let names = names_of(alloc, directory)?;
+    remove_lower(directory, &names, snapshot)
 }
 
-/// Opens the journal.
-fn open_journal<D: Directory, A: Allocator + Copy>(
-    alloc: A,
-    directory: &D,
-) -> Result<Reader<D::File, A>, StartFault<A>>
-    ensures { IfOk result (λ reader. reader.at ≡ HEAD_SIZE) }
-{
-    let disk = match directory.open(JOURNAL) {
-        Ok(disk) => disk,
-        Err(why) => return Err(failed(Some(JOURNAL), why)),
-    };
-    let reader = match Reader::open(disk, alloc) {
-        Ok(reader) => reader,
-        Err(why) => return Err(head_fault(directory, why)),
-    };
-    check_head(reader.head())?;
-    Ok(reader)
-}
-
-/// A broker of this configuration goes on with a journal, once its frames were handled again.
-fn go_on<S: BatchStore + Drop, D: Disk + Drop>(
+/// A broker goes on with the last of its journals. Then what is of no use in the directory is removed.
+#[tactic(auto, using(crate::proofs::GoingOn::started))]
+fn go_on<S: BatchStore + Drop, D: Directory>(
     alloc: S::Alloc,
-    mut reader: Reader<D, S::Alloc>,
-    config: Config<S::Alloc>,
-    is_new: bool,
+    directory: &mut D,
+    former: Former<S, D>,
+    keeping: Keeping,
 ) -> Result<Started<S, D>, StartFault<S::Alloc>>
-    requires { reader.at ≡ HEAD_SIZE }
-    ensures { IfOk result (λ s. IsStarted D.seen (config_value config) s.keeper) }
+    requires opened { former.reader.at ≡ HEAD_SIZE }
+    requires recovered { IsRecovered D.File.seen former.node }
+    ensures { IfOk result (λ s. IsStarted D.File.seen s.keeper) }
 {
-    let mut node = match Node::new(alloc, config) {
-        Ok(node) => node,
-        Err(why) => return Err(config_fault(why)),
+    let row = former.row;
+    let resumed = resume_last(alloc, Name::Journal(row.last), former.node, former.reader)?;
+    settle_names(alloc, directory, row.snapshot, former.unfinished)?;
+    let files = KeptFiles {
+        snapshot: row.snapshot,
+        last: row.last,
+        lowest: row.snapshot,
+        snapshot_size: former.snapshot_size,
+        journals_size: former.journals_size,
     };
-    let mut out = Vec::new(alloc);
-    let frames = match recover(&mut reader, &mut node, &mut out) {
-        Ok(frames) => frames,
-        Err(why) => return Err(recover_fault(reader.at(), why)),
-    };
-    let (at, size) = (reader.at(), reader.size());
-    match resume(alloc, node, reader) {
-        Ok(keeper) => Ok(Started {
-            keeper,
-            is_new,
-            frames,
-            at,
-            cut: size.saturating_sub(at),
-        }),
-        Err(ResumeError::OutOfMemory) => Err(StartFault::OutOfMemory),
-        Err(ResumeError::OnDisk(unsettled)) => Err(failed(Some(JOURNAL), unsettled.error)),
+    Ok(Started {
+        keeper: resumed.keeper,
+        rotation: Rotation::new(alloc, files, keeping.most_journal),
+        found: Found {
+            is_new: false,
+            snapshot: row.snapshot,
+            frames: former.frames.saturating_add(resumed.frames),
+            journal: row.last,
+            at: resumed.at,
+            cut: resumed.cut,
+        },
+    })
+}
+
+/// Takes a snapshot at once, before any client comes.
+fn fold<S: BatchStore + Drop, D: Directory>(
+    directory: &mut D,
+    started: &mut Started<S, D>,
+) -> Result<(), StartFault<S::Alloc>>
+    ensures { OnOk result (IsStarted D.File.seen started.old.keeper
+        → IsStarted D.File.seen started.new.keeper) }
+{
+    match started.rotation.fold(&mut started.keeper, directory) {
+        Ok(()) => Ok(()),
+        Err(why) => Err(not_folded(why)),
     }
 }
 
-/// Judges the snapshot of a directory, or makes the files of one that has none; tells whether it did.
-fn judge_or_make<S: BatchStore, D: Directory>(
+/// Takes a snapshot at once if one is due.
+fn fold_if_due<S: BatchStore + Drop, D: Directory>(
+    is_due: bool,
+    directory: &mut D,
+    started: &mut Started<S, D>,
+) -> Result<(), StartFault<S::Alloc>>
+    ensures { OnOk result (IsStarted D.File.seen started.old.keeper
+        → IsStarted D.File.seen started.new.keeper) }
+{
+    if is_due {
+        return fold(directory, started);
+    }
+    Ok(())
+}
+
+/// Starts the broker of files that stand in a directory, and takes a snapshot where that is due. Tells how what is asked
+/// for differs from what the broker has, whose configuration is that of its snapshot where more is asked for.
+fn start_standing<S: BatchStore + Drop, D: Directory>(
     alloc: S::Alloc,
     directory: &mut D,
     config: &Config<S::Alloc>,
-    key: [u8; KEY_SIZE],
-) -> Result<bool, StartFault<S::Alloc>> {
-    let standing = standing_of(alloc, directory)?;
-    let image = empty_image::<S>(alloc)?;
-    match standing {
-        Standing::Kept => {
-            judge_snapshot(alloc, directory, config, &image)?;
-            Ok(false)
-        }
-        Standing::New => {
-            let snapshot = empty_snapshot(alloc, config, &image)?;
-            let head = Head {
-                meaning: MEANING,
-                number: FIRST as i64,
-                key,
-            };
-            make_files(directory, &head, &snapshot)?;
-            Ok(true)
-        }
-    }
+    row: Row,
+    keeping: Keeping,
+    shape: Shape,
+) -> Result<(Started<S, D>, Change), StartFault<S::Alloc>>
+    ensures { IfOk result (λ s. IsStarted D.File.seen s.0.keeper) }
+{
+    let former: Former<S, D> = former_of(alloc, directory, config, row, shape)?;
+    let change = former.change;
+    let is_due = keeping.is_folded || former.is_of_other_meaning || change == Change::Grown;
+    let mut started = go_on(alloc, directory, former, keeping)?;
+    fold_if_due(is_due, directory, &mut started)?;
+    Ok((started, change))
 }
 
-/// Removes what was being made, and has the names on the disk for certain: a start that was ended may have left them
-/// unsynced.
-fn settle_names<D: Directory, A: Allocator>(directory: &mut D) -> Result<(), StartFault<A>> {
-    remove_unfinished(directory, Name::Making)?;
-    match directory.sync() {
-        Ok(()) => Ok(()),
-        Err(why) => Err(failed(None, why)),
-    }
+/// Adds the topics and partitions that are asked for to a broker of which a snapshot was just taken: it is read again with
+/// them, and another one is taken.
+fn grow<S: BatchStore + Drop, D: Directory>(
+    alloc: S::Alloc,
+    directory: &mut D,
+    config: &Config<S::Alloc>,
+    former: Started<S, D>,
+    keeping: Keeping,
+) -> Result<Started<S, D>, StartFault<S::Alloc>>
+    ensures { IfOk result (λ s. IsStarted D.File.seen s.keeper) }
+{
+    let found = former.found;
+    let files = former.rotation.files();
+    drop(former);
+    let row = Row {
+        snapshot: files.snapshot,
+        last: files.last,
+    };
+    let (mut started, _) = start_standing(alloc, directory, config, row, keeping, Shape::Asked)?;
+    started.found = found;
+    Ok(started)
 }
 
-/// Starts a broker of this configuration with a directory: judges its files and handles the journal's frames again, and
-/// only then cuts what is behind the last sound group; or makes its files, if it has none. `key` are 8 bytes that were
-/// drawn at random, which a new journal gets.
+/// Starts a broker of this configuration with a directory: judges its files and handles the journals' frames again, and
+/// only then cuts what is behind the last sound group, and removes files that are of no use; or makes its files, if it has
+/// none. Where topics or partitions are asked for that it doesn't have, they are added, by a snapshot. The first producer id
+/// that is asked for counts for a new directory alone.
 ///
 /// # Errors
 ///
-/// The first [`StartFault`] that is found: of the names, of the snapshot, of the journal's head, of its groups; then the
-/// directory is as it was. `Failed` and `OutOfMemory` may come later.
+/// The first [`StartFault`] that is found: of the names, of the snapshot, of the configuration, of each journal's head and
+/// its groups, from the snapshot's number on; then the directory is as it was. `Failed` and `OutOfMemory` may come later.
 pub fn start<S: BatchStore + Drop, D: Directory>(
     alloc: S::Alloc,
     directory: &mut D,
-    config: Config<S::Alloc>,
-    key: [u8; KEY_SIZE],
-) -> Result<Started<S, D::File>, StartFault<S::Alloc>>
-    ensures is_started { IfOk result (λ s.
-        IsStarted D.File.seen (config_value config) s.keeper) }
+    config: &Config<S::Alloc>,
+    keeping: Keeping,
+) -> Result<Started<S, D>, StartFault<S::Alloc>>
+    ensures is_started { IfOk result (λ s. IsStarted D.File.seen s.keeper) }
 {
-    let is_new = judge_or_make::<S, D>(alloc, directory, &config, key)?;
-    let reader = open_journal(alloc, directory)?;
-    let started = go_on(alloc, reader, config, is_new)?;
-    if !is_new {
-        settle_names(directory)?;
+    let standing = standing_of(alloc, directory)?;
+    if standing.is_none() {
+        make_files::<S, D>(alloc, directory, config)?;
+    }
+    let row = standing.unwrap_or(FIRST_ROW);
+    let (mut started, change) = start_standing(
+        alloc,
+        directory,
+        config,
+        row,
+        keeping,
+        Shape::Former,
+    )?;
+    started.found.is_new = standing.is_none();
+    if change == Change::Grown {
+        return grow(alloc, directory, config, started, keeping);
     }
     Ok(started)
 }

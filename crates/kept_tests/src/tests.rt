@@ -1,8 +1,10 @@
 //! The tests, and what they share, a file for each.
 
+mod barred;
 mod crashes;
 mod damages;
 mod disk_files;
+mod drafts;
 mod exchanges;
 mod journal_bytes;
 mod journal_memory;

@@ -4,6 +4,7 @@ use crate::ending::{Ended, Ending, ending_of};
 use crate::incoming::Incoming;
 use crate::serving_sessions::{ServedSessions, Unkept};
 use indexmap::IndexMap;
+use kept_starts::Missed;
 use kept_starts::sessions::{MOST_OWED, Seat, Session, Then, Visit, Why};
 use mio::event::Event;
 use mio::net::TcpStream;
@@ -122,6 +123,20 @@ impl<B: ServedSessions> Connections<B> {
     /// When there is something to settle, if nothing is done until then.
     pub(crate) fn settle_at(&self) -> Option<Instant> {
         self.sessions.settle_at()
+    }
+
+    /// Makes the next step of what is to be done beside, and gives what wasn't done of it.
+    ///
+    /// # Errors
+    ///
+    /// What was done can no longer be kept: nothing more may leave.
+    pub(crate) fn tend(&mut self, clock: u64) -> std::result::Result<Option<Missed>, Unkept> {
+        self.sessions.tend(clock)
+    }
+
+    /// Whether another step is to follow at once.
+    pub(crate) fn is_tending(&self) -> bool {
+        self.sessions.is_tending()
     }
 
     /// How many are open.

@@ -2,31 +2,23 @@
 
 ghost use Rattle.std.specs.Prelude.{◌≤◌, IfErr, IfOk};
 
+use crate::options::KeptOptions;
 use crate::reports::{Reason, say};
 use crate::serving_sessions::Unkept;
 use kept_starts::{
-    Config, FileDisk, Folder, FolderError, JournalError, Keeper, LaterWhy, Name, Role, StartFault,
+    Config, Directory, Folder, FolderError, Found, JournalError, Keeping, Name, Role, StartFault,
     Started, start,
 };
-use segment::ProgramStore;
+use segment::{BatchStore, ProgramStore};
 use std::alloc::{Alloc, AllocError, Global};
 use std::fs::{File, Files};
 use std::io::{Error, ErrorKind, Write};
 use std::random::RandomSource;
 use std::string::String;
-use subcommands::{FAILED, FAULTY, NO_MEMORY, REFUSED, refuse_configuration};
+use subcommands::{DONE, FAILED, FAULTY, NO_MEMORY, REFUSED, refuse_configuration};
 
 /// The store of the program's brokers.
 type Store = ProgramStore<Global>;
-
-/// A broker that keeps its changes in a file.
-type FileKeeper = Keeper<Store, Global, FileDisk>;
-
-/// The name of the snapshot.
-const SNAPSHOT: Name = Name::Snapshot(1);
-
-/// The name of the journal.
-const JOURNAL: Name = Name::Journal(1);
 
 /// Says that there is no memory, and answers the status.
 fn say_no_memory<E: Write>(alloc: Global, err: &mut E) -> u8
@@ -71,16 +63,17 @@ pub(crate) fn fail_keeping<E: Write>(
 {
     match why {
         Unkept::OutOfMemory => say_no_memory(alloc, err),
-        Unkept::Journal(JournalError::OnDisk(why)) => {
-            say_failed(alloc, directory, Some(JOURNAL), why, err)
+        Unkept::Journal(name, JournalError::OnDisk(why)) => {
+            say_failed(alloc, directory, Some(*name), why, err)
         }
-        Unkept::Journal(why) => {
+        Unkept::Journal(name, why) => {
             say(
-                format!(in alloc; "kbroker: {directory}/{JOURNAL}: {why}\n"),
+                format!(in alloc; "kbroker: {directory}/{name}: {why}\n"),
                 err,
             );
             FAILED
         }
+        Unkept::Directory(name, why) => say_failed(alloc, directory, *name, why, err),
     }
 }
 
@@ -90,7 +83,6 @@ fn words_of(alloc: Global, why: &StartFault<Global>) -> Result<Option<String>, A
         StartFault::Damaged { name, at, why } => {
             format!(in alloc; "{name}: damaged at byte {at}: {why}")?
         }
-        StartFault::Later(name, LaterWhy::Name) => format!(in alloc; "{name}: of a later version")?,
         StartFault::Later(name, why) => format!(in alloc; "{name}: of a later version: {why}")?,
         StartFault::Missing(name) => format!(in alloc; "{name}: missing")?,
         StartFault::NotRegular(name) => format!(in alloc; "{name}: not a regular file")?,
@@ -103,27 +95,23 @@ fn words_of(alloc: Global, why: &StartFault<Global>) -> Result<Option<String>, A
 fn topic_words(alloc: Global, name: &[u8], partitions: usize) -> Result<String, AllocError> {
     let topic = std::str::from_utf8(name).unwrap_or("?");
     match partitions {
-        0 => format!(in alloc; "{SNAPSHOT}: topic {topic}: none"),
-        1 => format!(in alloc; "{SNAPSHOT}: topic {topic}: 1 partition"),
-        _ => format!(in alloc; "{SNAPSHOT}: topic {topic}: {partitions} partitions"),
+        1 => format!(in alloc; "topic {topic}: 1 partition"),
+        _ => format!(in alloc; "topic {topic}: {partitions} partitions"),
     }
 }
 
 /// How a directory's configuration differs from the one that is asked for, in words; none where it doesn't.
 fn other_of(alloc: Global, why: &StartFault<Global>) -> Result<Option<String>, AllocError> {
     let words = match why {
-        StartFault::OtherRole(Role::Leader) => format!(in alloc; "{SNAPSHOT}: role: leader")?,
-        StartFault::OtherRole(Role::Follower) => format!(in alloc; "{SNAPSHOT}: role: follower")?,
-        StartFault::OtherFirstProducer(id) => {
-            format!(in alloc; "{SNAPSHOT}: first producer: {id}")?
-        }
+        StartFault::OtherRole(Role::Leader) => String::from_str(alloc, "role: leader")?,
+        StartFault::OtherRole(Role::Follower) => String::from_str(alloc, "role: follower")?,
         StartFault::OtherTopic { name, partitions } => topic_words(alloc, name, *partitions)?,
         _ => return Ok(None),
     };
     Ok(Some(words))
 }
 
-/// Says a line of a directory.
+/// Says a line of a file of a directory.
 fn say_of<E: Write>(alloc: Global, directory: &str, words: &str, err: &mut E) {
     say(format!(in alloc; "kbroker: {directory}/{words}\n"), err);
 }
@@ -142,7 +130,7 @@ fn refuse<E: Write>(
         return Ok(REFUSED);
     }
     if let Some(words) = other_of(alloc, &why)? {
-        say_of(alloc, directory, &words, err);
+        say(format!(in alloc; "kbroker: {directory}: {words}\n"), err);
         return Ok(FAULTY);
     }
     match why {
@@ -152,63 +140,104 @@ fn refuse<E: Write>(
     }
 }
 
-/// Says what was found in a directory.
-fn report<E: Write>(
+/// What was found in a directory, in words.
+fn found_words(alloc: Global, directory: &str, found: &Found) -> Result<String, AllocError> {
+    let Found {
+        is_new,
+        snapshot,
+        frames,
+        journal,
+        at,
+        cut,
+    } = *found;
+    if is_new {
+        return format!(in alloc; "recovered 0 frames; {directory} is new\n");
+    }
+    let journal = Name::Journal(journal);
+    if cut > 0 {
+        return format!(in alloc;
+            "recovered snapshot {snapshot}, {frames} frames; cut {cut} bytes of {journal} at {at}\n"
+        );
+    }
+    format!(in alloc; "recovered snapshot {snapshot}, {frames} frames\n")
+}
+
+/// Opens a directory and locks it, or says why it can't, and gives the status.
+fn opened<'a, R: Files<File = File> + RandomSource + Alloc + Clone + Drop, E: Write>(
+    rt: &'a R,
     alloc: Global,
-    directory: &str,
-    started: &Started<Store, FileDisk>,
+    directory: &'a str,
     err: &mut E,
-) {
-    let frames = started.frames;
-    let (cut, at) = (started.cut, started.at);
-    if started.is_new {
-        say(
-            format!(in alloc; "recovered {frames} frames; {directory} is new\n"),
-            err,
-        );
-    } else if cut > 0 {
-        say(
-            format!(in alloc; "recovered {frames} frames; cut {cut} bytes of {JOURNAL} at {at}\n"),
-            err,
-        );
-    } else {
-        say(format!(in alloc; "recovered {frames} frames\n"), err);
+) -> Result<Folder<'a, R>, u8>
+    ensures { IfErr result (λ status. status ≤ 4) }
+{
+    match Folder::open(rt, alloc, directory) {
+        Ok(folder) => Ok(folder),
+        Err(FolderError::InUse) => {
+            say(format!(in alloc; "kbroker: {directory}: in use\n"), err);
+            Err(FAILED)
+        }
+        Err(FolderError::Failed(why)) => Err(say_failed(alloc, directory, None, &why, err)),
     }
 }
 
+/// A directory, and the broker that was started with it. The directory stays locked as long as the folder is there.
+type InFolder<'a, R> = (Folder<'a, R>, Started<Store, Folder<'a, R>>);
+
 /// Starts a broker with a directory, and says what was found there; or says why there is none, and gives the status.
-/// The directory stays locked as long as the folder is there.
-pub(crate) fn kept_node<'a, R: Files<File = File> + RandomSource + Alloc + Clone + Drop, E: Write>(
+pub(crate) fn started_in<'a, R: Files<File = File> + RandomSource + Alloc + Clone + Drop, E: Write>(
     rt: &'a R,
     alloc: Global,
-    config: Config<Global>,
+    config: &Config<Global>,
     directory: &'a str,
+    keeping: Keeping,
     err: &mut E,
-) -> Result<(Folder<'a, R>, FileKeeper), u8>
+) -> Result<InFolder<'a, R>, u8>
     ensures is_status { IfErr result (λ status. status ≤ 4) }
 {
-    let mut folder = match Folder::open(rt, alloc, directory) {
-        Ok(folder) => folder,
-        Err(FolderError::InUse) => {
-            say(format!(in alloc; "kbroker: {directory}: in use\n"), err);
-            return Err(FAILED);
-        }
-        Err(FolderError::Failed(why)) => {
-            return Err(say_failed(alloc, directory, None, &why, err));
-        }
-    };
-    let mut key = [0; 8];
-    if let Err(why) = rt.fill_bytes(&mut key) {
-        return Err(say_failed(alloc, directory, None, &why, err));
-    }
-    match start(alloc, &mut folder, config, key) {
+    let mut folder = opened(rt, alloc, directory, err)?;
+    match start(alloc, &mut folder, config, keeping) {
         Ok(started) => {
-            report(alloc, directory, &started, err);
-            Ok((folder, started.keeper))
+            say(found_words(alloc, directory, &started.found), err);
+            Ok((folder, started))
         }
         Err(why) => match refuse(alloc, directory, why, err) {
             Ok(status) => Err(status),
             Err(_) => Err(say_no_memory(alloc, err)),
         },
     }
+}
+
+/// How a broker is to keep what it does.
+pub(crate) fn keeping_of(kept: &KeptOptions, snapshot_after: u64) -> Keeping {
+    Keeping {
+        is_folded: kept.is_folded,
+        most_journal: snapshot_after,
+    }
+}
+
+/// The number of the last snapshot of a broker that is over.
+fn last_snapshot<S: BatchStore + Drop, D: Directory>(started: Started<S, D>) -> u64 {
+    started.rotation.files().snapshot
+}
+
+/// Starts a broker with a directory, takes a snapshot, and says which; answers the status.
+pub(crate) fn fold<'a, R: Files<File = File> + RandomSource + Alloc + Clone + Drop, E: Write>(
+    rt: &'a R,
+    alloc: Global,
+    config: &'a Config<Global>,
+    kept: &'a KeptOptions,
+    snapshot_after: u64,
+    err: &mut E,
+) -> u8
+    ensures is_status { result ≤ 4 }
+{
+    let keeping = keeping_of(kept, snapshot_after);
+    let (_folder, started) = match started_in(rt, alloc, config, &kept.directory, keeping, err) {
+        Ok(started) => started,
+        Err(status) => return status,
+    };
+    let number = last_snapshot(started);
+    say(format!(in alloc; "folded into snapshot {number}\n"), err);
+    DONE
 }

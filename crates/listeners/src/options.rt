@@ -31,6 +31,8 @@ pub struct KeptOptions {
     pub directory: String,
     /// When its journal is synced.
     pub sync: SyncWay,
+    /// Whether a snapshot is taken, and nothing else done.
+    pub is_folded: bool,
 }
 
 /// A broker that listens for many connections at once.
@@ -46,6 +48,8 @@ pub struct StartOptions {
     pub most_held: u64,
     /// After how many seconds a connection ends on which nothing moved, from 1.
     pub idle: u64,
+    /// A snapshot is taken once the journals have so many bytes, and more than the last one; from 1.
+    pub snapshot_after: u64,
     /// Where what it acknowledged is kept; it is kept in memory alone where this is `None`.
     pub kept: Option<KeptOptions>,
 }

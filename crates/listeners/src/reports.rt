@@ -1,11 +1,13 @@
 //! Lines on standard error about connections: never many in a second, and never waited for.
 
 use crate::ending::Ended;
+use kept_starts::Missed;
 use std::alloc::{AllocError, Global};
 use std::fmt;
 use std::fmt::Display;
 use std::io::{Error, ErrorKind, Write};
 use std::net::SocketAddr;
+use std::string::String;
 use std::time::{Duration, Instant};
 
 /// The most lines about ended connections in a second.
@@ -130,5 +132,18 @@ impl Reports {
             format!(in self.alloc; "accept {address}: {why}\n").ok(),
             err,
         );
+    }
+
+    /// Says why no snapshot was taken, or a file of no use not removed.
+    pub(crate) fn snapshot_missed<E: Write>(&mut self, missed: &Missed, err: &mut E) {
+        let line = match missed {
+            Missed::OutOfMemory => String::from_str(self.alloc, "snapshot: out of memory\n"),
+            Missed::Failed(name, why) => {
+                let why = Reason(why);
+                format!(in self.alloc; "snapshot: {name}: {why}\n")
+            }
+            Missed::Unlike => String::from_str(self.alloc, "snapshot: given up\n"),
+        };
+        is_unsaid(line.ok(), err);
     }
 }

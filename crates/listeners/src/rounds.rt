@@ -5,6 +5,7 @@ use crate::connections::{Connections, sooner};
 use crate::ending::Ended;
 use crate::reports::{Reports, is_over};
 use crate::serving_sessions::{ServedSessions, Unkept};
+use kept_starts::Missed;
 use mio::net::TcpStream;
 use mio::{Events, Poll};
 use std::io::{Error, Result, Write};
@@ -106,6 +107,7 @@ impl<B: ServedSessions> Rounds<B> {
             self.wake();
             self.visit_ready(err);
             self.release(err)?;
+            self.tend(err)?;
             self.wake();
             self.look_for_idle(err);
             self.reports.catch_up(self.now, err);
@@ -115,7 +117,7 @@ impl<B: ServedSessions> Rounds<B> {
 
     /// How long the next wait may take; without an end where nothing is to be done before an event.
     fn patience(&self) -> Option<Duration> {
-        if self.connections.ready_count() > 0 {
+        if self.connections.ready_count() > 0 || self.connections.is_tending() {
             return Some(Duration::ZERO);
         }
         let accept_at = self.acceptor.due(self.connections.count(), self.now);
@@ -225,6 +227,28 @@ impl<B: ServedSessions> Rounds<B> {
             self.note_end(ended, err);
         }
         Ok(())
+    }
+
+    /// Makes the next step of a snapshot, and says if none was taken.
+    ///
+    /// # Errors
+    ///
+    /// What was done can no longer be kept.
+    fn tend<E: Write>(&mut self, err: &mut E) -> std::result::Result<(), Stop> {
+        let clock = self.clock();
+        let missed = match self.connections.tend(clock) {
+            Ok(missed) => missed,
+            Err(why) => return Err(Stop::Keeping(why)),
+        };
+        self.note_missed(missed, err);
+        Ok(())
+    }
+
+    /// Says why no snapshot was taken, if none was.
+    fn note_missed<E: Write>(&mut self, missed: Option<Missed>, err: &mut E) {
+        if let Some(missed) = missed {
+            self.reports.snapshot_missed(&missed, err);
+        }
     }
 
     /// Ends connections, the largest first, while all together hold too much.

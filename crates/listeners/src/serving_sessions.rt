@@ -3,11 +3,15 @@
 
 use crate::options::SyncWay;
 use crate::reports::is_over;
-use kept_starts::sessions::{Plainly, Seat, Session, Sessions, Visit, Why};
-use kept_starts::{CommitError, Disk, JournalError, Keeper, Sent};
+use kept_starts::sessions::{Plainly, Seat, Session, Sessions, Then, Visit, Why};
+use kept_starts::{
+    CommitError, Directory, JournalError, Keeper, Missed, Name, Place, Rotation, RotationFault,
+    Sent, Started,
+};
 use segment::BatchStore;
 use std::alloc::{AllocError, Global};
-use std::io::{Read, Write};
+use std::collections::VecDeque;
+use std::io::{Error, Read, Write};
 use std::time::{Duration, Instant};
 
 /// A round notes no more once it has so many bytes of frames.
@@ -22,7 +26,9 @@ pub(crate) enum Unkept {
     /// An entry that may have changed something lacked memory.
     OutOfMemory,
     /// The journal took no more.
-    Journal(JournalError),
+    Journal(Name, JournalError),
+    /// It isn't certain which files the directory has.
+    Directory(Option<Name>, Error),
 }
 
 /// The sessions of a broker. What the calls do that `Sessions` has too is said there.
@@ -66,6 +72,12 @@ pub(crate) trait ServedSessions {
 
     /// When it is to be settled, though nothing is done.
     fn settle_at(&self) -> Option<Instant>;
+
+    /// Makes the next step of what is to be done beside, if there is one, and gives what wasn't done of it.
+    fn tend(&mut self, clock: u64) -> Result<Option<Missed>, Unkept>;
+
+    /// Whether another step is to follow at once.
+    fn is_tending(&self) -> bool;
 }
 
 impl<S: BatchStore> ServedSessions for Sessions<S, Global> {
@@ -126,32 +138,78 @@ impl<S: BatchStore> ServedSessions for Sessions<S, Global> {
     fn settle_at(&self) -> Option<Instant> {
         None
     }
+
+    fn tend(&mut self, _clock: u64) -> Result<Option<Missed>, Unkept> {
+        Ok(None)
+    }
+
+    fn is_tending(&self) -> bool {
+        false
+    }
 }
 
-/// The sessions of a broker that keeps its changes in a journal.
+/// The sessions of a broker that keeps its changes in the journals of a directory, and takes snapshots.
 #[derive(Drop)]
-pub(crate) struct Kept<S: BatchStore, D: Disk> {
-    keeper: Keeper<S, Global, D>,
+pub(crate) struct Kept<S: BatchStore + Drop, D: Directory + Drop> {
+    directory: D,
+    keeper: Keeper<S, Global, D::File>,
+    rotation: Rotation<D, Global>,
     sync: SyncWay,
     /// When the journal is to be synced, if something in it isn't.
     sync_at: Option<Instant>,
+    /// A partition for which a frame was put off, until its image is in the snapshot.
+    wanted: Option<Place>,
+    /// The sessions whose first frame was put off.
+    put_off: VecDeque<u64>,
+    /// How many of these are to be visited again, from the first on.
+    woken: usize,
 }
 
-impl<S: BatchStore, D: Disk> Kept<S, D> {
-    /// A broker whose journal is synced in this way.
-    pub(crate) fn new(keeper: Keeper<S, Global, D>, sync: SyncWay) -> Kept<S, D> {
+impl<S: BatchStore + Drop, D: Directory + Drop> Kept<S, D> {
+    /// A broker that was started with a directory, and whose journal is synced in this way.
+    pub(crate) fn new(
+        alloc: Global,
+        directory: D,
+        started: Started<S, D>,
+        sync: SyncWay,
+    ) -> Kept<S, D>
+    where
+        S: BatchStore<Alloc = Global>,
+    {
         Kept {
-            keeper,
+            directory,
+            keeper: started.keeper,
+            rotation: started.rotation,
             sync,
             sync_at: None,
+            wanted: None,
+            put_off: VecDeque::new(alloc),
+            woken: 0,
+        }
+    }
+
+    /// The name of the journal to which groups go.
+    fn journal(&self) -> Name {
+        Name::Journal(self.rotation.files().last)
+    }
+
+    /// What is to be done with a session whose first frame was put off: it is visited again behind the next image. Without
+    /// memory to note that it is over.
+    fn after_put_off(&mut self, number: u64, place: Place) -> Then {
+        self.wanted = Some(place);
+        match self.put_off.push_back(number) {
+            Ok(_) => Then::Idle,
+            Err(_) => Then::Over(Why::OutOfMemory),
         }
     }
 
     /// Appends what was noted, and syncs where it is time to, or much isn't synced.
     fn append_and_sync(&mut self, now: Instant, patience: u32) -> Result<(), Unkept> {
-        why_unkept(self.keeper.append())?;
+        why_unkept(self.journal(), self.keeper.append())?;
         let unsynced = self.keeper.unsynced();
         if unsynced == 0 {
+            // A snapshot that began behind the last group has synced it.
+            self.sync_at = None;
             return Ok(());
         }
         if self.sync_at.is_none() {
@@ -163,21 +221,21 @@ impl<S: BatchStore, D: Disk> Kept<S, D> {
         self.sync_at = None;
         match self.keeper.sync() {
             Ok(()) => Ok(()),
-            Err(why) => Err(Unkept::Journal(why)),
+            Err(why) => Err(Unkept::Journal(self.journal(), why)),
         }
     }
 }
 
-/// Why frames aren't kept that were to be committed.
-fn why_unkept(committed: Result<(), CommitError>) -> Result<(), Unkept> {
+/// Why frames aren't kept that were to be committed to a journal.
+fn why_unkept(journal: Name, committed: Result<(), CommitError>) -> Result<(), Unkept> {
     match committed {
         Ok(()) => Ok(()),
         Err(CommitError::OutOfMemory) => Err(Unkept::OutOfMemory),
-        Err(CommitError::Journal(why)) => Err(Unkept::Journal(why)),
+        Err(CommitError::Journal(why)) => Err(Unkept::Journal(journal, why)),
     }
 }
 
-impl<S: BatchStore, D: Disk> ServedSessions for Kept<S, D> {
+impl<S: BatchStore + Drop, D: Directory + Drop> ServedSessions for Kept<S, D> {
     const SENDS_AT_ONCE: bool = false;
 
     fn open(&mut self) -> Result<u64, AllocError> {
@@ -192,7 +250,14 @@ impl<S: BatchStore, D: Disk> ServedSessions for Kept<S, D> {
         from: &mut R,
         _to: &mut W,
     ) -> Option<Visit> {
-        self.keeper.answer(number, clock, seat, from)
+        let visit = self.keeper.answer(number, clock, seat, from)?;
+        match self.keeper.take_put_off() {
+            Some(place) => Some(Visit {
+                then: self.after_put_off(number, place),
+                ..visit
+            }),
+            None => Some(visit),
+        }
     }
 
     fn send<W: Write>(
@@ -217,6 +282,10 @@ impl<S: BatchStore, D: Disk> ServedSessions for Kept<S, D> {
     }
 
     fn next_woken(&mut self, clock: u64) -> Option<u64> {
+        if self.woken > 0 {
+            self.woken -= 1;
+            return self.put_off.pop_front();
+        }
         self.keeper.next_woken(clock)
     }
 
@@ -234,13 +303,31 @@ impl<S: BatchStore, D: Disk> ServedSessions for Kept<S, D> {
 
     fn settle(&mut self, now: Instant) -> Result<(), Unkept> {
         match self.sync {
-            SyncWay::Always => why_unkept(self.keeper.commit()),
+            SyncWay::Always => why_unkept(self.journal(), self.keeper.commit()),
             SyncWay::Every(patience) => self.append_and_sync(now, patience),
-            SyncWay::Never => why_unkept(self.keeper.append()),
+            SyncWay::Never => why_unkept(self.journal(), self.keeper.append()),
         }
     }
 
     fn settle_at(&self) -> Option<Instant> {
         self.sync_at
+    }
+
+    fn tend(&mut self, clock: u64) -> Result<Option<Missed>, Unkept> {
+        let journal = self.journal();
+        let wanted = self.wanted.take();
+        let step = self
+            .rotation
+            .step(&mut self.keeper, &mut self.directory, wanted, clock);
+        self.woken = self.put_off.len();
+        match step {
+            Ok(missed) => Ok(missed),
+            Err(RotationFault::Journal(why)) => Err(Unkept::Journal(journal, why)),
+            Err(RotationFault::Directory(name, why)) => Err(Unkept::Directory(name, why)),
+        }
+    }
+
+    fn is_tending(&self) -> bool {
+        self.rotation.is_going()
     }
 }

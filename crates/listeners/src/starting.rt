@@ -4,7 +4,7 @@ ghost use Rattle.std.specs.Prelude.{◌+◌, ◌<◌, ◌≤◌};
 
 use crate::accepting::Acceptor;
 use crate::connections::Connections;
-use crate::keeping::{fail_keeping, kept_node};
+use crate::keeping::{fail_keeping, fold, keeping_of, started_in};
 use crate::options::{KeptOptions, StartOptions};
 use crate::reports::{Reason, Reports, say};
 use crate::rounds::{Bounds, Rounds, Stop};
@@ -188,14 +188,16 @@ fn start_unkept<R: Net + Clock, W: Write, E: Write>(
 
 /// Serves as a broker that keeps its changes in a directory, and answers the status.
 fn start_kept<
+    'a,
     R: Net + Clock + Files<File = File> + RandomSource + Alloc + Clone + Drop,
     W: Write,
     E: Write,
 >(
-    rt: &R,
+    rt: &'a R,
     alloc: Global,
     config: Config<Global>,
-    kept: &KeptOptions,
+    kept: &'a KeptOptions,
+    snapshot_after: u64,
     acceptor: Acceptor,
     bounds: Bounds,
     out: &mut W,
@@ -204,11 +206,12 @@ fn start_kept<
     ensures is_status { result ≤ 4 }
 {
     let address = acceptor.address();
-    let (_folder, keeper) = match kept_node(rt, alloc, config, &kept.directory, err) {
-        Ok(kept) => kept,
+    let keeping = keeping_of(kept, snapshot_after);
+    let (folder, started) = match started_in(rt, alloc, &config, &kept.directory, keeping, err) {
+        Ok(started) => started,
         Err(status) => return status,
     };
-    let sessions = Kept::new(keeper, kept.sync);
+    let sessions = Kept::new(alloc, folder, started, kept.sync);
     match listen(rt, alloc, sessions, acceptor, bounds, out, err) {
         Ok(()) => FAILED,
         Err(Stop::Listening(why)) => fail_at(alloc, address, &why, err),
@@ -221,7 +224,8 @@ fn start_kept<
 /// can't: 2 the configuration is refused, and nothing listened; 3 out of memory; 4 it can't listen, or
 /// can no longer. Each comes with one line on `err`. Where it is to keep what it acknowledges in a directory, it
 /// answers 1 too, where that is damaged or of a later program; 2, where it is of another configuration; and 4, where a
-/// call on its files fails, also later. Then what wasn't kept hasn't left.
+/// call on its files fails, also later. Then what wasn't kept hasn't left. Where it is to take a snapshot alone, it does, listens
+/// nowhere, and answers 0.
 ///
 /// On `out` comes the line `listening ADDRESS:PORT` as soon as it listens. On `err` come lines on
 /// connections that ended, at most 100 in a second, and on others that can't be accepted. Neither ends
@@ -236,6 +240,18 @@ pub fn start<
     if let Some(why) = fault_of(alloc, &options.config) {
         return refuse_configuration(why, err);
     }
+    if let Some(kept) = &options.kept
+        && kept.is_folded
+    {
+        return fold(
+            rt,
+            alloc,
+            &options.config,
+            kept,
+            options.snapshot_after,
+            err,
+        );
+    }
     let bounds = Bounds {
         most_held: options.most_held,
         idle: options.idle,
@@ -249,8 +265,9 @@ pub fn start<
     };
     say_most(alloc, files, most, asked, err);
     let config = config_at(options.config, acceptor.address().port());
+    let after = options.snapshot_after;
     match options.kept {
-        Some(kept) => start_kept(rt, alloc, config, &kept, acceptor, bounds, out, err),
+        Some(kept) => start_kept(rt, alloc, config, &kept, after, acceptor, bounds, out, err),
         None => start_unkept(rt, alloc, config, acceptor, bounds, out, err),
     }
 }

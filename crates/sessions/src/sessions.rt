@@ -190,6 +190,13 @@ impl<S: BatchStore, A: Allocator + Copy> Sessions<S, A> {
         self.waiting.next_due()
     }
 
+    /// The broker.
+    pub fn node(&self) -> &Node<S>
+        ensures { result.now ≡ self.now.state }
+    {
+        &self.node
+    }
+
     /// A law: whatever calls were made since the broker had no client, all frames that were answered are one
     /// list, as [`many_clients_are_one_list`](crate::many_clients_are_one_list) says.
     pub fn are_one_list(&self)

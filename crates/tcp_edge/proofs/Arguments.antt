@@ -18,7 +18,7 @@ use Rattle.tcp_edge.specs.declared.asked.Asked.TheVariants.{Table, Session, Serv
 use Rattle.tcp_edge.specs.declared.addresses.AddressFault.{AddressFault}
 use Rattle.tcp_edge.specs.declared.addresses.AddressFault.TheVariants.{Listen, Advertise, Unspecified}
 use Rattle.tcp_edge.specs.declared.keeping.KeptFault.{KeptFault}
-use Rattle.tcp_edge.specs.declared.keeping.KeptFault.TheVariants.{Alone, Sync}
+use Rattle.tcp_edge.specs.declared.keeping.KeptFault.TheVariants.{Alone, Fold, Sync}
 use Rattle.tcp_edge.specs.Addresses.{IsAddressOf, IsUnfit}
 use Rattle.tcp_edge.specs.Asked.{IsAsked, IsAddressFault, IsConfigFault, IsFaulty, IsKeptFault, IsHelp, IsMistake, IsOutOfMemory, IsParsed, IsListener, IsServeOptionsOf, IsServePortOf, IsStarter, IsStartFault, IsStartOptionsOf, IsStartSaid, IsStop, IfListens, IfMerge, IfNamed, IfReplay, IfSession, IfTable, IsBadValue, AsksForOther, AsksForOtherThan}
 use Rattle.listeners.specs.declared.options.ServeOptions.{ServeOptions}
@@ -390,14 +390,15 @@ unfit_address rows Unspecified is = inr (inl is)
 
 unfit_kept : (rows : List Row) (why : KeptFault) → IsKeptFault rows why → IsUnfit rows
 unfit_kept rows Alone is = inr (inr (inl is))
-unfit_kept rows Sync is = inr (inr (inr (inl is)))
+unfit_kept rows Fold is = inr (inr (inr (inl is)))
+unfit_kept rows Sync is = inr (inr (inr (inr (inl is))))
 
 pub unfit_or_memory : (name : Text) (rows : List Row) (fault : ArgumentsFault) → IsFaulty name rows fault
     → IsOutOfMemory fault ⊎ (IsBadValue fault × IsUnfit rows)
 unfit_or_memory name rows (Clap error) is = inl is
 unfit_or_memory name rows (Address why) is = inr (tt, unfit_address rows why is.1)
 unfit_or_memory name rows (Kept why) is = inr (tt, unfit_kept rows why is.1)
-unfit_or_memory name rows (Topic why) is = inr (tt, inr (inr (inr (inr is.3))))
+unfit_or_memory name rows (Topic why) is = inr (tt, inr (inr (inr (inr (inr is.3)))))
 
 -- so the status is 3, or it says that a word is none
 pub refused_left : (fault : ArgumentsFault) (status : ℕ) (P H : Type 0) → IsOutOfMemory fault ⊎ (IsBadValue fault × H)

@@ -12,12 +12,12 @@ use Rattle.listeners.specs.declared.options.KeptOptions.{KeptOptions}
 use Rattle.tcp_edge.specs.declared.addresses.AddressFault.{AddressFault}
 use Rattle.tcp_edge.specs.declared.addresses.AddressFault.TheVariants.{Listen, Advertise, Unspecified}
 use Rattle.tcp_edge.specs.declared.keeping.KeptFault.{KeptFault}
-use Rattle.tcp_edge.specs.declared.keeping.KeptFault.TheVariants.{Alone, Sync}
+use Rattle.tcp_edge.specs.declared.keeping.KeptFault.TheVariants.{Alone, Fold, Sync}
 use Rattle.tcp_edge.specs.declared.asked.ArgumentsFault.{ArgumentsFault}
 use Rattle.std.specs.declared.net.socket_addr.SocketAddr.{SocketAddr}
 use Rattle.tcp_edge.specs.declared.asked.ArgumentsFault.TheVariants.{Clap, Address, Kept, Topic}
 use Rattle.tcp_edge.specs.Addresses.{Advertises, HasNoAdvertised, HasNoListen, IsListen}
-use Rattle.tcp_edge.specs.Keeping.{HasNoSyncWay, HasSyncAlone, IsKept}
+use Rattle.tcp_edge.specs.Keeping.{HasFoldAlone, HasNoSyncWay, HasSyncAlone, IsKept}
 use Rattle.tcp_edge.specs.CommandLine.{HasTopics, IsConfigAt, IsConfigOf, IsNumberOf, IsPort, IsConnections, Finds, Names, Stops, topic_words}
 
 -- a broker that listens: at first its configuration has the port that was asked for
@@ -37,6 +37,7 @@ pub record IsStarter (rows : List Row) (options : StartOptions) : Type 0 where
   pub most_connections : IsNumberOf 32 (one_of (codes "most-connections") rows) options.most_connections
   pub most_held : IsNumberOf 64 (one_of (codes "most-held") rows) options.most_held
   pub idle : IsNumberOf 64 (one_of (codes "idle") rows) options.idle
+  pub snapshot_after : IsNumberOf 64 (one_of (codes "snapshot-after") rows) options.snapshot_after
   pub kept : IsKept rows options.kept
 
 abbrev pub IsAsked : Text → List Row → Asked → Type 0
@@ -147,6 +148,7 @@ HasAddresses rows = (listen : SocketAddr) × (host : Text) × (port : ℕ) × Is
 -- what is wrong with `--sync`
 abbrev pub IsKeptFault : List Row → KeptFault → Type 0
 IsKeptFault rows Alone = HasSyncAlone rows
+IsKeptFault rows Fold = HasFoldAlone rows
 IsKeptFault rows Sync = HasNoSyncWay rows
 
 -- memory ran out, or this is wrong with `--sync`

@@ -1,5 +1,5 @@
 -- What the program can be asked for on its command line, in the words of clap.
-use Rattle.std.specs.Prelude.{◌≡◌, ◌≢◌, ◌⊎◌, ℕ, ℤ, ◌<◌, ◌^◌, pos, FitsSigned, true, false, if◌then◌else◌, List, [], ◌∷◌, ◌++◌, Option, Some, None, codes, map, bytes_eq, unwrap_or, ⊤}
+use Rattle.std.specs.Prelude.{◌≡◌, ◌≢◌, ◌⊎◌, ℕ, ℤ, ◌<◌, ◌^◌, pos, FitsSigned, Bool, true, false, if◌then◌else◌, List, [], ◌∷◌, ◌++◌, Option, Some, None, codes, map, bytes_eq, unwrap_or, ⊤}
 use Rattle.std.specs.Borrow.{Bor}
 use Rattle.std.specs.Option.{option_map_or}
 use Rattle.std.specs.Int.{w64}
@@ -9,6 +9,7 @@ use Rattle.broker_state.specs.declared.config.Role.{Role}
 use Rattle.broker_state.specs.declared.config.Role.TheVariants.{Leader, Follower}
 use Rattle.clap.specs.Lexer.{usize_max}
 use Rattle.clap.specs.Words.{App, IsAmong, Kinds, Row, Rule, Shape, Text, AddsSubcommand, app_of, new_app, new_rule, with_rule, with_subcommand, first_of, one_of, all_of, fault_of, subcommand_of}
+use Rattle.clap.specs.declared.builder.action.ArgAction.TheVariants.{SetTrue}
 use Rattle.clap.specs.declared.builder.command.Command.{Command}
 use Rattle.clap.specs.declared.builder.value_parser.ValueParser.{ValueParser}
 use Rattle.clap.specs.declared.builder.value_parser.ValueParser.TheVariants as parsers
@@ -76,6 +77,16 @@ data_rule = option_rule (codes "data") parsers.NonEmptyString
 abbrev pub sync_rule : Rule
 sync_rule = text_rule (codes "sync")
 
+-- `--snapshot-after BYTES`, from 1 to the greatest number of `i64`; 64 MiB where it isn't given
+abbrev pub snapshot_after_rule : Rule
+snapshot_after_rule = record (option_rule (codes "snapshot-after") (parsers.Signed (pos 1) (pos 9223372036854775807))) {
+  defaults = codes "67108864" ∷ [];
+}
+
+-- `--fold`
+abbrev pub fold_rule : Rule
+fold_rule = record (new_rule (codes "fold")) { long = Some (codes "fold"); action = Some SetTrue }
+
 -- the topics, at least one
 abbrev pub topics_rule : Rule
 topics_rule = record (new_rule (codes "topics")) {
@@ -95,9 +106,9 @@ serve_app roles = with_rule (with_rule (with_rule (with_rule (with_rule (new_app
     port_rule) (role_rule roles)) first_producer_rule) connections_rule) topics_rule
 
 abbrev pub start_app : Roles → App
-start_app roles = with_rule (with_rule (with_rule (with_rule (with_rule (with_rule (with_rule (with_rule (with_rule (with_rule
+start_app roles = with_rule (with_rule (with_rule (with_rule (with_rule (with_rule (with_rule (with_rule (with_rule (with_rule (with_rule (with_rule
     (new_app (codes "start")) listen_rule) advertise_rule) (role_rule roles)) first_producer_rule) most_connections_rule) most_held_rule)
-    idle_rule) data_rule) sync_rule) topics_rule
+    idle_rule) data_rule) sync_rule) snapshot_after_rule) fold_rule) topics_rule
 
 -- added to a command, it is a subcommand with these rules
 abbrev pub IsSubcommand : App → Command → Type 0
@@ -153,6 +164,10 @@ AsksForMerge arguments = (name : Text) × (arguments ≡ name ∷ codes "merge" 
 -- a follower where it is asked for, and else a leader
 abbrev pub role_of : List Row → Role
 role_of rows = if option_map_or (λ word. bytes_eq word (codes "follower")) (first_of (codes "role") rows) false then Follower else Leader
+
+-- `--fold` is given
+abbrev pub folds : List Row → Bool
+folds rows = option_map_or (λ word. bytes_eq word (codes "true")) (first_of (codes "fold") rows) false
 
 -- the arguments in the place of topics
 abbrev pub topic_words : List Row → List Text

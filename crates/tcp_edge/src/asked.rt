@@ -213,6 +213,7 @@ fn start_options_of(alloc: Global, matches: &ArgMatches<'_>) -> Result<StartOpti
     let most_connections = count_of(matches, "most-connections");
     let most_held = amount_of(matches, "most-held");
     let idle = amount_of(matches, "idle");
+    let snapshot_after = amount_of(matches, "snapshot-after");
     let listen = listen_of(matches)?;
     let advertised = advertised_of(alloc, matches, listen)?;
     let kept = kept_of(alloc, matches)?;
@@ -223,6 +224,7 @@ fn start_options_of(alloc: Global, matches: &ArgMatches<'_>) -> Result<StartOpti
         most_connections,
         most_held,
         idle,
+        snapshot_after,
         kept,
     })
 }

@@ -2,10 +2,10 @@
 
 ghost use Rattle.std.specs.Prelude.{◌≡◌, [], IfOk, codes, false};
 ghost use Rattle.clap.specs.Words.{App, app_of, new_app, rule_of, with_subcommand};
-ghost use Rattle.tcp_edge.specs.CommandLine.{IsRoles, IsSubcommand, Roles, kbroker, session_app, serve_app, role_rule, first_producer_rule, top, topics_rule, port_rule, connections_rule, start_app, listen_rule, advertise_rule, most_connections_rule, most_held_rule, idle_rule, data_rule, sync_rule};
+ghost use Rattle.tcp_edge.specs.CommandLine.{IsRoles, IsSubcommand, Roles, kbroker, session_app, serve_app, role_rule, first_producer_rule, top, topics_rule, port_rule, connections_rule, start_app, listen_rule, advertise_rule, most_connections_rule, most_held_rule, idle_rule, data_rule, sync_rule, snapshot_after_rule, fold_rule};
 
 use clap::builder::ValueParser;
-use clap::{Arg, Command, value_parser};
+use clap::{Arg, ArgAction, Command, value_parser};
 use std::alloc::{AllocError, Global};
 
 const ABOUT: &str = "A message broker with compacted topics";
@@ -88,6 +88,12 @@ again; without one that is kept in memory alone";
 const HELP_SYNC: &str =
     "When what it keeps is synced to the disk: always (before a reply tells of it, the default), \
 never (when the system does), or within so many milliseconds, 1 to 60000";
+
+const HELP_SNAPSHOT_AFTER: &str =
+    "A snapshot of what it keeps is taken once the journals since the last one have so many bytes, and more \
+than that has";
+
+const HELP_FOLD: &str = "Takes a snapshot of what is kept, and ends";
 
 static ROLES: [&str; 2] = ["leader", "follower"];
 
@@ -247,6 +253,30 @@ fn sync_arg<'a>(alloc: Global) -> Arg<'a>
         .help(HELP_SYNC)
 }
 
+/// The bytes of the journals after which a snapshot is taken.
+fn snapshot_after_arg<'a>(alloc: Global) -> Arg<'a>
+    ensures rule { rule_of result ≡ snapshot_after_rule }
+    ensures local { result.global ≡ false }
+{
+    Arg::new(alloc, "snapshot-after")
+        .long("snapshot-after")
+        .value_name("BYTES")
+        .help(HELP_SNAPSHOT_AFTER)
+        .value_parser(value_parser!(i64).range(1..))
+        .default_value("67108864")
+}
+
+/// Whether a snapshot is all that is wanted.
+fn fold_arg<'a>(alloc: Global) -> Arg<'a>
+    ensures rule { rule_of result ≡ fold_rule }
+    ensures local { result.global ≡ false }
+{
+    Arg::new(alloc, "fold")
+        .long("fold")
+        .help(HELP_FOLD)
+        .action(ArgAction::SetTrue)
+}
+
 /// The subcommand `session`.
 fn session<'a>(alloc: Global, roles: &'a [&'a str]) -> Result<Command<'a>, AllocError>
     ensures { IfOk result (IsSubcommand (session_app roles.entry)) }
@@ -289,6 +319,8 @@ fn start<'a>(alloc: Global, roles: &'a [&'a str]) -> Result<Command<'a>, AllocEr
         .arg(idle_arg(alloc))?
         .arg(data_arg(alloc))?
         .arg(sync_arg(alloc))?
+        .arg(snapshot_after_arg(alloc))?
+        .arg(fold_arg(alloc))?
         .arg(topics_arg(alloc))
 }
 

@@ -1,9 +1,10 @@
-//! What `kbroker start` keeps on disk: in which directory, and when it is synced.
+//! What `kbroker start` keeps on disk: in which directory, when it is synced, and whether a snapshot is all that is wanted.
 
 ghost use Rattle.std.specs.Prelude.{◌≡◌, ℕ, IfOk, IfErr, MatchOption, option_map};
 ghost use Rattle.listeners.specs.declared.options.SyncWay.{SyncWay};
 ghost use Rattle.clap.specs.Words.{first_of, found_of, rows_of};
 ghost use Rattle.tcp_edge.specs.Asked.{IsMemoryOrKept};
+ghost use Rattle.tcp_edge.specs.CommandLine.{folds};
 ghost use Rattle.tcp_edge.specs.Keeping.{IsKept, IsMilliseconds, IsSyncWay, SyncsBy};
 
 use crate::asked::ArgumentsFault;
@@ -21,6 +22,8 @@ const MOST_MILLISECONDS: u32 = 60_000;
 pub(crate) enum KeptFault {
     /// It says when to sync, and no directory.
     Alone,
+    /// It asks for a snapshot, and says no directory.
+    Fold,
     /// What it says of when to sync is none of what may stand there.
     Sync,
 }
@@ -29,6 +32,7 @@ impl fmt::Display for KeptFault {
     fn fmt<W: fmt::Write>(&self, f: &mut fmt::Formatter<W>) -> fmt::Result {
         f.write_str(match self {
             KeptFault::Alone => "'--sync <WHEN>' needs '--data <DIR>'",
+            KeptFault::Fold => "'--fold' needs '--data <DIR>'",
             KeptFault::Sync => {
                 "invalid value for '--sync <WHEN>': \
                 not always, never or a number of milliseconds from 1 to 60000"
@@ -87,12 +91,22 @@ fn given<'a>(matches: &ArgMatches<'a>, name: &str) -> Option<&'a str>
     matches.get_str(name)
 }
 
+/// Whether a snapshot is all that is wanted.
+fn is_folded(matches: &ArgMatches<'_>) -> bool
+    ensures { result ≡ folds (rows_of (found_of matches.now)) }
+{
+    match given(matches, "fold") {
+        Some(word) => word == "true",
+        None => false,
+    }
+}
+
 /// What is kept, and when it is synced; nothing where no directory is given.
 ///
 /// # Errors
 ///
-/// `Alone` where the matches say when to sync, and give no directory; `Sync` where what they say of it
-/// is none of what may stand there; out of memory.
+/// `Alone` where the matches say when to sync, and give no directory; `Fold` where they ask for a snapshot, and give none;
+/// `Sync` where what they say of when to sync is none of what may stand there; out of memory.
 pub(crate) fn kept_of(
     alloc: Global,
     matches: &ArgMatches<'_>,
@@ -101,9 +115,11 @@ pub(crate) fn kept_of(
     ensures fault { IfErr result (IsMemoryOrKept (rows_of (found_of matches.now))) }
 {
     let said = given(matches, "sync");
+    let is_folded = is_folded(matches);
     let Some(directory) = given(matches, "data") else {
         return match said {
             Some(_) => Err(ArgumentsFault::Kept(KeptFault::Alone)),
+            None if is_folded => Err(ArgumentsFault::Kept(KeptFault::Fold)),
             None => Ok(None),
         };
     };
@@ -111,5 +127,9 @@ pub(crate) fn kept_of(
         return Err(ArgumentsFault::Kept(KeptFault::Sync));
     };
     let directory = String::from_str(alloc, directory)?;
-    Ok(Some(KeptOptions { directory, sync }))
+    Ok(Some(KeptOptions {
+        directory,
+        sync,
+        is_folded,
+    }))
 }

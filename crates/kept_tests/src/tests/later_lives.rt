@@ -1,16 +1,13 @@
 //! A later life over a directory: a start that finds frames of a life before it, in the state behind them, and a round.
 
 use crate::tests::known_replies::{ASKED_CHANGES, Known};
-use crate::tests::lives::{End, Keeping, Life, end_of_start, play};
+use crate::tests::lives::{End, Keeping, Life, UNTURNED, end_of_start, found_in_all, play};
 use crate::tests::memory_directory::{MemoryDirectory, Store};
 use crate::tests::requests::configured;
-use kept_starts::{Directory, Disk, Keeper, Role, start};
+use kept_starts::{Disk, Keeper, Role, start};
 use segment::BatchStore;
 use std::alloc::Allocator;
 use std::cell::RefCell;
-
-/// The bytes that are drawn for a journal, if a start makes one.
-const DRAWN: [u8; 8] = *b"89abcdef";
 
 /// What may be found in a directory: first frames of a table, and what was asked behind them.
 #[derive(Clone, Copy)]
@@ -94,9 +91,9 @@ fn ask_once<S: BatchStore, A: Allocator + Copy, D: Disk, B: Allocator + Copy>(
 }
 
 /// A later life over a directory: a start that finds what is within bounds, and asks once.
-pub(crate) fn later_life<S: BatchStore + Drop, D: Directory, B: Allocator + Copy>(
+fn later_life<S: BatchStore + Drop, B: Allocator + Copy>(
     heap: S::Alloc,
-    directory: &mut D,
+    directory: &mut MemoryDirectory<'_, B>,
     (alloc, known): (B, &Known<B>),
     bounds: &Bounds,
 ) -> Life {
@@ -105,10 +102,11 @@ pub(crate) fn later_life<S: BatchStore + Drop, D: Directory, B: Allocator + Copy
         life.end = End::NoMemory;
         return life;
     };
-    match start::<S, D>(heap, directory, config, DRAWN) {
+    match start::<S, _>(heap, directory, &config, UNTURNED) {
         Ok(mut started) => {
-            life.starts(started.frames);
-            let place = bounds.place(started.frames);
+            let found = found_in_all(&started, directory);
+            life.starts(found);
+            let place = bounds.place(found);
             life.end = ask_once(&mut started.keeper, alloc, known, place, &mut life);
         }
         Err(why) => life.end = end_of_start(&why),
@@ -124,5 +122,5 @@ pub(crate) fn life_of<S: BatchStore + Drop, B: Allocator + Copy>(
     bounds: &Bounds,
 ) -> Life {
     let mut directory = MemoryDirectory::new(store);
-    later_life::<S, _, B>(heap, &mut directory, known, bounds)
+    later_life::<S, B>(heap, &mut directory, known, bounds)
 }

@@ -16,6 +16,8 @@ pub(crate) struct Story<'a, A: Allocator + Copy> {
     pub(crate) alloc: A,
     /// The rounds of the first life.
     pub(crate) rounds: &'static [Round],
+    /// How many steps of snapshots are made behind each.
+    pub(crate) steps: u32,
     /// The replies of later lives.
     pub(crate) known: &'a Known<A>,
     /// How many kills and crashes were tried.

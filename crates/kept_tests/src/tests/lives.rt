@@ -3,10 +3,12 @@
 //! in the journal's file, and how many are on the disk for certain.
 
 use crate::tests::exchanges::Exchange;
+use crate::tests::memory_directory::MemoryDirectory;
 use crate::tests::requests::configured;
 use kept_starts::sessions::Seat;
 use kept_starts::{
-    CommitError, Directory, Disk, JournalError, Keeper, Role, Sent, StartFault, start,
+    CommitError, Disk, JournalError, Keeper, Keeping as Kept, Role, RotationFault, Sent,
+    StartFault, Started, start,
 };
 use segment::BatchStore;
 use std::alloc::{AllocError, Allocator};
@@ -78,9 +80,6 @@ impl Life {
         self.synced = found;
     }
 }
-
-/// The bytes that are drawn for a journal.
-const DRAWN: [u8; 8] = *b"01234567";
 
 /// How a start ended that gave no broker.
 pub(crate) fn end_of_start<A: Allocator>(why: &StartFault<A>) -> End {
@@ -287,19 +286,53 @@ fn table_round<S: BatchStore, A: Allocator + Copy, D: Disk, B: Allocator + Copy>
     play(keeper, (number, row.keeping), frames, out, life)
 }
 
-/// The rounds of a table, up to one that ends the life.
-fn table_rounds<S: BatchStore, A: Allocator + Copy, D: Disk, B: Allocator + Copy>(
-    keeper: &mut Keeper<S, A, D>,
-    alloc: B,
-    rounds: &[Round],
+// ---- snapshots
+
+/// How a broker is kept that takes no snapshot.
+pub(crate) const UNTURNED: Kept = Kept {
+    is_folded: false,
+    most_journal: u64::MAX,
+};
+
+/// How a broker is kept that takes a snapshot whenever its journals have more bytes than the last one.
+const TURNED: Kept = Kept {
+    is_folded: false,
+    most_journal: 1,
+};
+
+/// One step of a snapshot: what ends the life with it, if it isn't clean. Where none is taken, the life goes on.
+fn turn<'a, S: BatchStore + Drop, B: Allocator + Copy>(
+    started: &mut Started<S, MemoryDirectory<'a, B>>,
+    directory: &mut MemoryDirectory<'a, B>,
     life: &mut Life,
 ) -> End {
-    let Ok(number) = keeper.open() else {
-        return End::NoMemory;
-    };
-    let mut out = Vec::new(alloc);
-    for row in rounds {
-        let end = table_round(keeper, (alloc, number), row, &mut out, life);
+    let before = started.rotation.files().last;
+    let step = started
+        .rotation
+        .step(&mut started.keeper, directory, None, 0);
+    let last = started.rotation.files().last;
+    if last != before {
+        directory.note_base(last, life.handled);
+        life.synced = life.handled;
+    }
+    match step {
+        Ok(_) => End::Clean,
+        Err(RotationFault::Journal(JournalError::OnDisk(_)) | RotationFault::Directory(..)) => {
+            End::Failed
+        }
+        Err(RotationFault::Journal(_)) => End::Wrong("not synced"),
+    }
+}
+
+/// So many steps of snapshots, up to one that ends the life.
+fn turns<'a, S: BatchStore + Drop, B: Allocator + Copy>(
+    started: &mut Started<S, MemoryDirectory<'a, B>>,
+    directory: &mut MemoryDirectory<'a, B>,
+    steps: u32,
+    life: &mut Life,
+) -> End {
+    for _ in 0..steps {
+        let end = turn(started, directory, life);
         if end != End::Clean {
             return end;
         }
@@ -307,22 +340,57 @@ fn table_rounds<S: BatchStore, A: Allocator + Copy, D: Disk, B: Allocator + Copy
     End::Clean
 }
 
-/// The first life over a directory: a start, and the rounds of a table.
-pub(crate) fn first_life<S: BatchStore + Drop, D: Directory, B: Allocator + Copy>(
+/// The rounds of a table, each with so many steps of snapshots behind it, up to one that ends the life.
+fn table_rounds<'a, S: BatchStore + Drop, B: Allocator + Copy>(
+    started: &mut Started<S, MemoryDirectory<'a, B>>,
+    directory: &mut MemoryDirectory<'a, B>,
+    alloc: B,
+    (rounds, steps): (&[Round], u32),
+    life: &mut Life,
+) -> End {
+    let Ok(number) = started.keeper.open() else {
+        return End::NoMemory;
+    };
+    let mut out = Vec::new(alloc);
+    for row in rounds {
+        let end = table_round(&mut started.keeper, (alloc, number), row, &mut out, life);
+        let end = match end {
+            End::Clean => turns(started, directory, steps, life),
+            other => other,
+        };
+        if end != End::Clean {
+            return end;
+        }
+    }
+    End::Clean
+}
+
+/// How many frames a start found in all, with those before its snapshot.
+pub(crate) fn found_in_all<S: BatchStore, B: Allocator + Copy>(
+    started: &Started<S, MemoryDirectory<'_, B>>,
+    directory: &MemoryDirectory<'_, B>,
+) -> u64 {
+    let base = directory.base(started.found.snapshot);
+    started.found.frames.saturating_add(base)
+}
+
+/// The first life over a directory: a start, and the rounds of a table, each with so many steps of snapshots behind it.
+pub(crate) fn first_life<S: BatchStore + Drop, B: Allocator + Copy>(
     heap: S::Alloc,
     alloc: B,
-    directory: &mut D,
-    rounds: &[Round],
+    directory: &mut MemoryDirectory<'_, B>,
+    table: (&[Round], u32),
 ) -> Life {
     let mut life = Life::new();
     let Ok(config) = configured(heap, Role::Leader) else {
         life.end = End::NoMemory;
         return life;
     };
-    match start::<S, D>(heap, directory, config, DRAWN) {
+    let kept = if table.1 > 0 { TURNED } else { UNTURNED };
+    match start::<S, _>(heap, directory, &config, kept) {
         Ok(mut started) => {
-            life.starts(started.frames);
-            life.end = table_rounds(&mut started.keeper, alloc, rounds, &mut life);
+            life.starts(found_in_all(&started, directory));
+            life.end = table_rounds(&mut started, directory, alloc, table, &mut life);
         }
         Err(why) => life.end = end_of_start(&why),
     }

@@ -4,10 +4,13 @@ ghost use Rattle.std.specs.Prelude.{◌≡◌, ◌≤◌, IfOk, None, length, tr
 
 use crate::tests::stored_files::{Left, StoredFile};
 use crate::tests::stored_names::{Change, Names, StoredNames};
-use kept_starts::{Directory, Disk, Kind, Name};
+use kept_starts::{Directory, Disk, DraftFile, KEY_SIZE, Kind, Name};
 use std::alloc::{AllocError, Allocator};
 use std::cell::{RefCell, RefMut};
 use std::io::{self, Error, ErrorKind};
+
+/// The bytes that are drawn for a journal.
+const DRAWN: [u8; KEY_SIZE] = *b"01234567";
 
 /// How a call fails.
 #[derive(Clone, Copy, Debug, PartialEq, Eq)]
@@ -67,7 +70,12 @@ pub(crate) struct Store<A: Allocator + Copy> {
     /// The number of that call, counted from 1; none fails where it is 0.
     failing: u64,
     way: Way,
+    /// By the numbers of snapshots, how many frames had been handled before the journal of that number.
+    bases: [u64; BASES],
 }
+
+/// One more than the highest number of a snapshot.
+const BASES: usize = 12;
 
 impl<A: Allocator + Copy> Store<A> {
     /// An empty directory.
@@ -79,6 +87,7 @@ impl<A: Allocator + Copy> Store<A> {
             calls: 0,
             failing: 0,
             way: Way::Alone,
+            bases: [0; BASES],
         }
     }
 
@@ -101,6 +110,7 @@ impl<A: Allocator + Copy> Store<A> {
             copy.files.push(file.copy()?)?;
         }
         copy.names = self.names.copy()?;
+        copy.bases = self.bases;
         Ok(copy)
     }
 
@@ -151,6 +161,7 @@ impl<A: Allocator + Copy> Store<A> {
             after.files.push(StoredFile::new(self.alloc, &bytes)?)?;
         }
         after.names = StoredNames::new(self.alloc, self.names.left(set));
+        after.bases = self.bases;
         Ok(after)
     }
 
@@ -256,6 +267,17 @@ impl<A: Allocator + Copy> Store<A> {
         fate.told()
     }
 
+    fn write_at(&mut self, file: usize, at: u64, bytes: &[u8]) -> io::Result<()> {
+        let fate = self.fate();
+        let written = match fate {
+            Fate::Works | Fate::Untold => bytes,
+            Fate::Half => bytes.get(..bytes.len() / 2).unwrap_or(b""),
+            Fate::Fails => b"",
+        };
+        self.file(file)?.write_at(at, written)?;
+        fate.told()
+    }
+
     fn sync_file(&mut self, file: usize) -> io::Result<()> {
         let fate = self.fate().begin()?;
         self.file(file)?.sync()?;
@@ -314,26 +336,35 @@ impl<'a, A: Allocator + Copy> MemoryDirectory<'a, A> {
     pub(crate) fn new(store: &'a RefCell<Store<A>>) -> MemoryDirectory<'a, A> {
         MemoryDirectory { store }
     }
-}
 
-/// Appends the names that are there.
-fn put_names<A: Allocator + Copy>(names: Names, list: &mut Vec<Name, A>) -> Result<(), AllocError> {
-    for name in [Name::Snapshot(1), Name::Journal(1), Name::Making] {
-        if names.file(name).is_some() {
-            list.push(name)?;
+    /// Notes how many frames were handled before the journal of this number.
+    pub(crate) fn note_base(&self, number: u64, frames: u64) {
+        if let Ok(mut store) = self.store.try_borrow_mut()
+            && let Some(base) = store.bases.get_mut(number as usize)
+        {
+            *base = frames;
         }
     }
-    Ok(())
+
+    /// How many frames were handled before the journal of this number.
+    pub(crate) fn base(&self, number: u64) -> u64 {
+        match self.store.try_borrow_mut() {
+            Ok(store) => store.bases.get(number as usize).copied().unwrap_or(0),
+            Err(_) => 0,
+        }
+    }
 }
 
 impl<'a, A: Allocator + Copy> Directory for MemoryDirectory<'a, A> {
     type File = MemoryFile<'a, A>;
 
+    type Draft = MemoryFile<'a, A>;
+
     fn names<B: Allocator + Copy>(&self, alloc: B) -> io::Result<Vec<Name, B>> {
         let mut list = Vec::new(alloc);
         let mut store = borrowed(self.store)?;
         store.ask()?;
-        put_names(store.names.names(), &mut list)?;
+        store.names.names().put(&mut list)?;
         Ok(list)
     }
 
@@ -355,6 +386,15 @@ impl<'a, A: Allocator + Copy> Directory for MemoryDirectory<'a, A> {
             store: self.store,
             file,
         })
+    }
+
+    fn draft(&mut self, name: Name) -> io::Result<MemoryFile<'a, A>> {
+        self.create(name)
+    }
+
+    fn draw_key(&mut self) -> io::Result<[u8; KEY_SIZE]> {
+        borrowed(self.store)?.ask()?;
+        Ok(DRAWN)
     }
 
     fn rename(&mut self, from: Name, to: Name) -> io::Result<()> {
@@ -405,6 +445,20 @@ impl<'a, A: Allocator + Copy> Disk for MemoryFile<'a, A> {
 
     fn read_at(&self, at: u64, room: &mut [u8]) -> io::Result<usize> {
         borrowed(self.store)?.read_at(self.file, at, room)
+    }
+}
+
+impl<'a, A: Allocator + Copy> DraftFile for MemoryFile<'a, A> {
+    ghost seen = { λ file. None };
+
+    ghost synced = { λ file. None };
+
+    fn write_at(&mut self, at: u64, bytes: &[u8]) -> io::Result<()> {
+        borrowed(self.store)?.write_at(self.file, at, bytes)
+    }
+
+    fn sync(&mut self) -> io::Result<()> {
+        borrowed(self.store)?.sync_file(self.file)
     }
 }
 

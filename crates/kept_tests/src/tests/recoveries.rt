@@ -72,7 +72,10 @@ pub(crate) static APPENDED: [Round; 6] = [
 ];
 
 /// More calls than a life makes.
-const MOST_CALLS: u64 = 120;
+const MOST_CALLS: u64 = 400;
+
+/// So many steps behind each round make a snapshot whole, and remove the files that it takes the place of.
+pub(crate) const STEPS: u32 = 16;
 
 /// What is wrong, and where: how a call failed, which one of the first life, and which one of the second.
 type Wrong = (Way, u64, u64, Fault);
@@ -112,10 +115,12 @@ impl<A: Allocator + Copy> Ended<A> {
         call <= self.store.calls()
     }
 
-    /// Whether it ended as it has to where the call of this number fails: that it failed, if it was made.
-    fn is_right(&self, failing: u64) -> bool {
+    /// Whether it ended as it has to where the call of this number fails: that it failed, if it was made. Where snapshots are
+    /// taken, it may go on without one.
+    fn is_right(&self, failing: u64, steps: u32) -> bool {
+        let may_go_on = steps > 0 && self.life.end == End::Clean;
         if self.has_made(failing) {
-            self.life.end == End::Failed
+            self.life.end == End::Failed || may_go_on
         } else {
             self.life.end == End::Clean
         }
@@ -126,12 +131,12 @@ impl<A: Allocator + Copy> Ended<A> {
 pub(crate) fn first_of<S: BatchStore + Drop, B: Allocator + Copy>(
     heap: S::Alloc,
     alloc: B,
-    rounds: &[Round],
+    table: (&[Round], u32),
     store: Store<B>,
 ) -> Ended<B> {
     let store = RefCell::new(store);
     let mut directory = MemoryDirectory::new(&store);
-    let life = first_life::<S, _, B>(heap, alloc, &mut directory, rounds);
+    let life = first_life::<S, B>(heap, alloc, &mut directory, table);
     Ended {
         life,
         store: store.into_inner(),
@@ -141,13 +146,13 @@ pub(crate) fn first_of<S: BatchStore + Drop, B: Allocator + Copy>(
 /// A first life of which this call fails.
 pub(crate) fn failing_first<A: Allocator + Copy>(
     alloc: A,
-    rounds: &[Round],
+    table: (&[Round], u32),
     failing: u64,
     way: Way,
 ) -> Ended<A> {
     let mut store = Store::new(alloc);
     store.fail_at(failing, way);
-    first_of::<VecStore<A>, A>(alloc, alloc, rounds, store)
+    first_of::<VecStore<A>, A>(alloc, alloc, table, store)
 }
 
 /// What is wrong where this call of a first life fails. Nothing is, where it leaves the same as the one before.
@@ -157,8 +162,8 @@ fn wrong_first<A: Allocator + Copy>(
     failing: u64,
     before: &mut Ended<A>,
 ) -> Option<Fault> {
-    let ended = failing_first(story.alloc, story.rounds, failing, way);
-    let fault = if !ended.is_right(failing) {
+    let ended = failing_first(story.alloc, (story.rounds, story.steps), failing, way);
+    let fault = if !ended.is_right(failing, story.steps) {
         Some((None, 0, ended.life.end))
     } else if ended.is_same(before) {
         None
@@ -229,7 +234,7 @@ fn wrong_second<A: Allocator + Copy>(
     let Ok(ended) = failing_second(story, first, failing) else {
         return Some((None, 0, End::NoMemory));
     };
-    let fault = if !ended.is_right(failing) {
+    let fault = if !ended.is_right(failing, 0) {
         Some((None, 0, ended.life.end))
     } else if ended.is_same(before) {
         None
@@ -262,7 +267,7 @@ fn second_calls<A: Allocator + Copy>(
 fn both_calls<A: Allocator + Copy>(story: &Story<'_, A>) -> Result<u64, Wrong> {
     let mut before = Ended::none(story.alloc);
     for failing in 1..MOST_CALLS {
-        let first = failing_first(story.alloc, story.rounds, failing, Way::Last);
+        let first = failing_first(story.alloc, (story.rounds, story.steps), failing, Way::Last);
         if !first.is_same(&before) {
             if let Some((call, fault)) = second_calls(story, &first) {
                 return Err((Way::Last, failing, call, fault));
@@ -299,7 +304,7 @@ fn first_calls_in_all<A: Allocator + Copy>(story: &Story<'_, A>) -> Result<u64, 
 /// lives are told of, behind calls of a second life.
 fn told<A: Allocator + Copy>(
     alloc: A,
-    rounds: &'static [Round],
+    (rounds, steps): (&'static [Round], u32),
     of_two: bool,
 ) -> Result<(u64, u64), Wrong> {
     let Ok(known) = known_of::<VecStore<A>>(alloc, rounds, changes_in(rounds)) else {
@@ -309,6 +314,7 @@ fn told<A: Allocator + Copy>(
     let story = Story {
         alloc,
         rounds,
+        steps,
         known: &known,
         tried: &tried,
     };
@@ -324,7 +330,7 @@ fn told<A: Allocator + Copy>(
 fn each_call_fails(rt: HostRuntime) {
     // a start makes some twenty calls, and each of five groups an append and a sync
     for rounds in [&COMMITTED, &APPENDED] {
-        let told = told(rt.alloc(), rounds, false);
+        let told = told(rt.alloc(), (rounds, 0), false);
         let is_right = matches!(told, Ok((calls, tried)) if 80 < calls && 300 < tried);
         assert!(rt; is_right, "{told:?}");
     }
@@ -332,7 +338,23 @@ fn each_call_fails(rt: HostRuntime) {
 
 #[test]
 fn each_call_of_two_lives_fails(rt: HostRuntime) {
-    let told = told(rt.alloc(), &APPENDED, true);
+    let told = told(rt.alloc(), (&APPENDED, 0), true);
     let is_right = matches!(told, Ok((calls, tried)) if 25 < calls && 100 < tried);
+    assert!(rt; is_right, "{told:?}");
+}
+
+#[test]
+fn each_call_fails_beside_snapshots(rt: HostRuntime) {
+    for rounds in [&COMMITTED, &APPENDED] {
+        let told = told(rt.alloc(), (rounds, STEPS), false);
+        let is_right = matches!(told, Ok((calls, tried)) if 300 < calls && 900 < tried);
+        assert!(rt; is_right, "{told:?}");
+    }
+}
+
+#[test]
+fn each_call_of_two_lives_fails_beside_snapshots(rt: HostRuntime) {
+    let told = told(rt.alloc(), (&APPENDED, STEPS), true);
+    let is_right = matches!(told, Ok((calls, tried)) if 100 < calls && 400 < tried);
     assert!(rt; is_right, "{told:?}");
 }

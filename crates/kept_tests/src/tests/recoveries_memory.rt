@@ -10,7 +10,7 @@ use crate::tests::later_lives::{Bounds, life_of};
 use crate::tests::left_behind::{Fault, Story, wrong_kill};
 use crate::tests::lives::{End, Keeping, Life, Round};
 use crate::tests::memory_directory::{Store, Way};
-use crate::tests::recoveries::{APPENDED, Ended, changes_in, failing_first, first_of};
+use crate::tests::recoveries::{APPENDED, Ended, STEPS, changes_in, failing_first, first_of};
 use refusing_alloc::Refusing;
 use segment::VecStore;
 use std::alloc::{AllocError, Allocator};
@@ -33,7 +33,7 @@ static CHANGING: [Round; 3] = [
 ];
 
 /// More allocations than a life asks for.
-const MOST: u64 = 600;
+const MOST: u64 = 3_000;
 
 /// The call of a first life that appends the group before the last: those behind the third aren't synced.
 const LATE: u64 = 31;
@@ -93,7 +93,7 @@ fn first_without<A: Allocator + Copy>(
 ) -> (Option<Fault>, bool) {
     let heap = Refusing::new(story.alloc, refused);
     let store = Store::new(story.alloc);
-    let ended = first_of::<VecStore<_>, A>(&heap, story.alloc, story.rounds, store);
+    let ended = first_of::<VecStore<_>, A>(&heap, story.alloc, (story.rounds, story.steps), store);
     came.count(&ended.life);
     let fault = wrong_life(&ended.life, &[End::Clean, End::NoMemory]);
     let bounds = Bounds::killed(&ended.life);
@@ -176,11 +176,11 @@ fn all_later<A: Allocator + Copy>(story: &Story<'_, A>, first: &Ended<A>) -> Res
     Err((MOST, (None, 0, End::Clean)))
 }
 
-/// What comes of first lives over a table, or of lives over what a first one left: groups that aren't synced and, behind
+/// What comes of first lives over a table, each round with so many steps of snapshots behind it, or of lives over what a first one left: groups that aren't synced and, behind
 /// them, a half one.
 fn told<A: Allocator + Copy>(
     alloc: A,
-    rounds: &'static [Round],
+    (rounds, steps): (&'static [Round], u32),
     of_later: bool,
 ) -> Result<Came, Wrong> {
     let Ok(known) = known_of::<VecStore<A>>(alloc, rounds, changes_in(rounds)) else {
@@ -190,11 +190,15 @@ fn told<A: Allocator + Copy>(
     let story = Story {
         alloc,
         rounds,
+        steps,
         known: &known,
         tried: &tried,
     };
     if of_later {
-        all_later(&story, &failing_first(alloc, rounds, LATE, Way::Alone))
+        all_later(
+            &story,
+            &failing_first(alloc, (rounds, steps), LATE, Way::Alone),
+        )
     } else {
         all_first(&story)
     }
@@ -202,9 +206,10 @@ fn told<A: Allocator + Copy>(
 
 #[test]
 fn each_allocation_fails(rt: HostRuntime) {
-    let first = told(rt.alloc(), &CHANGING, false);
-    let later = told(rt.alloc(), &APPENDED, true);
-    for told in [first, later] {
+    let first = told(rt.alloc(), (&CHANGING, 0), false);
+    let beside = told(rt.alloc(), (&CHANGING, STEPS), false);
+    let later = told(rt.alloc(), (&APPENDED, 0), true);
+    for told in [first, beside, later] {
         let is_right = matches!(told, Ok(came) if came.is_each());
         assert!(rt; is_right, "{told:?}");
     }

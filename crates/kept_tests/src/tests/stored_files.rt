@@ -72,6 +72,20 @@ impl<A: Allocator + Copy> StoredFile<A> {
         self.bytes == other.bytes && self.synced == other.synced && self.certain == other.certain
     }
 
+    /// Writes bytes at an offset, in the place of those that stand there; zeros stand before them where nothing did.
+    pub(crate) fn write_at(&mut self, at: u64, bytes: &[u8]) -> Result<(), AllocError> {
+        let at = at as usize;
+        let Some(end) = at.checked_add(bytes.len()) else {
+            return Err(AllocError);
+        };
+        if self.bytes.len() < end {
+            self.bytes.resize(end, 0)?;
+        }
+        self.bytes[at..end].copy_from_slice(bytes);
+        self.certain = self.certain.min(at);
+        Ok(())
+    }
+
     /// Writes bytes behind the others.
     pub(crate) fn append(&mut self, bytes: &[u8]) -> Result<(), AllocError> {
         self.bytes.extend_from_slice(bytes)

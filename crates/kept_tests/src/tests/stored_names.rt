@@ -3,20 +3,35 @@
 use kept_starts::Name;
 use std::alloc::{AllocError, Allocator};
 
+/// One more than the highest number that a name may have.
+const NUMBERS: usize = 12;
+
 /// The files that a broker's names have, by their numbers. No other name is had.
 #[derive(Clone, Copy, PartialEq, Eq)]
 pub(crate) struct Names {
-    snapshot: Option<usize>,
-    journal: Option<usize>,
+    snapshots: [Option<usize>; NUMBERS],
+    journals: [Option<usize>; NUMBERS],
     making: Option<usize>,
+}
+
+/// The file at a number.
+fn file_at(files: &[Option<usize>], number: u64) -> Option<usize> {
+    *files.get(number as usize)?
+}
+
+/// Puts a file, or none, at a number.
+fn set_at(files: &mut [Option<usize>], number: u64, file: Option<usize>) {
+    if let Some(there) = files.get_mut(number as usize) {
+        *there = file;
+    }
 }
 
 impl Names {
     /// No name.
     pub(crate) fn new() -> Names {
         Names {
-            snapshot: None,
-            journal: None,
+            snapshots: [None; NUMBERS],
+            journals: [None; NUMBERS],
             making: None,
         }
     }
@@ -24,21 +39,37 @@ impl Names {
     /// The file that has a name.
     pub(crate) fn file(&self, name: Name) -> Option<usize> {
         match name {
-            Name::Snapshot(1) => self.snapshot,
-            Name::Journal(1) => self.journal,
+            Name::Snapshot(number) => file_at(&self.snapshots, number),
+            Name::Journal(number) => file_at(&self.journals, number),
             Name::Making => self.making,
-            _ => None,
         }
     }
 
     /// Gives a name to a file, or to none.
     fn set(&mut self, name: Name, file: Option<usize>) {
         match name {
-            Name::Snapshot(1) => self.snapshot = file,
-            Name::Journal(1) => self.journal = file,
+            Name::Snapshot(number) => set_at(&mut self.snapshots, number, file),
+            Name::Journal(number) => set_at(&mut self.journals, number, file),
             Name::Making => self.making = file,
-            _ => {}
         }
+    }
+
+    /// Appends the names that are had.
+    pub(crate) fn put<A: Allocator + Copy>(
+        &self,
+        list: &mut Vec<Name, A>,
+    ) -> Result<(), AllocError> {
+        for number in 1..NUMBERS as u64 {
+            for name in [Name::Snapshot(number), Name::Journal(number)] {
+                if self.file(name).is_some() {
+                    list.push(name)?;
+                }
+            }
+        }
+        if self.making.is_some() {
+            list.push(Name::Making)?;
+        }
+        Ok(())
     }
 
     /// Makes a change.

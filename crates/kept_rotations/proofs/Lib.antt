@@ -1,0 +1,3 @@
+pub mod NewJournals
+pub mod GoneOn
+pub mod CopiesThere

@@ -1,0 +1,31 @@
+-- A journal without a group.
+use Rattle.std.proofs.Common.{◌≡◌, ℕ, false, List, [], ◌++◌, length, Option, Some, None, refl, sym, ap, subst, ◌∙◌, append-nil}
+use Rattle.std.specs.Prelude.{IfSome}
+use Rattle.std.specs.Io.KnownBytes.{append_known}
+use Rattle.journal.specs.declared.head.Head.{Head}
+use Rattle.journal.specs.declared.layout.TheConstants.{HEAD_SIZE}
+use Rattle.journal.specs.Files.{head_bytes}
+use Rattle.journal.specs.Journals.{JournalState, IsHeld, IsJournal}
+use Rattle.kept_sessions.specs.Keeping.{HoldsFrames}
+
+-- a file without bytes, and then a head, holds no frames
+pub head_alone : (key : List ℕ) (h : Head) (o o' : Option (List ℕ)) → IfSome o (λ file. file ≡ []) → o' ≡ append_known o (head_bytes h) → IfSome o' (λ file. length file ≡ HEAD_SIZE) → IfSome o' (λ file. HoldsFrames key file [])
+head_alone key h None o' none is size = subst (λ (x : Option (List ℕ)). IfSome x (λ file. HoldsFrames key file [])) (sym is) tt
+head_alone key h (Some file) o' none is size =
+    let whole : length (file ++ head_bytes h) ≡ HEAD_SIZE = subst (λ (x : Option (List ℕ)). IfSome x (λ file. length file ≡ HEAD_SIZE)) is size in
+    subst (λ (x : Option (List ℕ)). IfSome x (λ file. HoldsFrames key file [])) (sym is) (record {
+      head = head_bytes h;
+      groups = [];
+      size = ap (λ (l : List ℕ). length (l ++ head_bytes h)) (sym none) ∙ whole;
+      parts = ap (λ (l : List ℕ). l ++ head_bytes h) none ∙ sym (append-nil (head_bytes h));
+      valid = tt;
+      frames_are = refl;
+    })
+
+-- the size that a journal's file has, as long as no call has failed
+pub file_size : {D : Type 0} (seen : D → Option (List ℕ)) (may_leave : D → List ℕ → Type 0) (j : JournalState D) → IsJournal seen may_leave j → (j.end ≡ HEAD_SIZE) → j.has_failed ≡ false → IfSome (seen j.disk) (λ file. length file ≡ HEAD_SIZE)
+file_size seen may_leave j sound end works = by (seen j.disk) (sound.file works)
+  where
+    by : (o : Option (List ℕ)) → IfSome o (λ file. IsHeld file j.end j.synced (may_leave j.disk)) → IfSome o (λ file. length file ≡ HEAD_SIZE)
+    by None held = tt
+    by (Some file) held = held.size ∙ end

@@ -1,0 +1,22 @@
+-- A broker whose frames go on in another journal. This project's own; Kafka's documentation has its like in "Operations", section
+-- "Snapshots" of KRaft.
+use Rattle.std.specs.Prelude.{◌≡◌, ◌⊎◌, ℕ, List, [], Option, IfSome}
+use Rattle.broker_state.specs.State.{State}
+use Rattle.journal.specs.Journals.{JournalState}
+use Rattle.kept_sessions.specs.Replaying.{Replays}
+use Rattle.kept_sessions.specs.Keeping.{HoldsFrames, IsKept, KeptState}
+
+-- The frames of journals before led from a first state to the one from which those of the last journal lead on.
+pub record IsKeptOn {D : Type 0} (seen : D → Option (List ℕ)) (first start : State) (k : KeptState D) : Type 0 where
+  pub former : List (List ℕ)
+  pub between : State
+  pub led : Replays first former between
+  pub kept : IsKept seen between start k
+
+-- no frame is in the journal's file
+abbrev pub IsFresh : {D : Type 0} → (D → Option (List ℕ)) → JournalState D → Type 0
+IsFresh seen journal = IfSome (seen journal.disk) (λ file. HoldsFrames journal.key file [])
+
+-- The journal is the one before, of which no byte has changed, or another one without frames.
+abbrev pub GoesOn : {D : Type 0} → (D → Option (List ℕ)) → (old new : JournalState D) → Type 0
+GoesOn seen old new = ((seen new.disk ≡ seen old.disk) × (new.key ≡ old.key)) ⊎ IsFresh seen new

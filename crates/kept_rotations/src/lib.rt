@@ -1,0 +1,26 @@
+//! Rotations: the journal of a broker goes on in a new file, a snapshot of what the broker held then is written while
+//! clients go on, and once it has its name, the files that it takes the place of are removed.
+//!
+//! A [`Rotation`] makes one step at a time, each behind a round of the broker: at most one image is written, or one piece of
+//! an old file removed. In between, a frame that may change a partition whose image isn't written yet is put off by the
+//! [`Keeper`](kept_sessions::Keeper), and that partition's image is written next.
+//!
+//! What a start needs of the crates below is handed on.
+#![tactic(auto)]
+
+mod dropping;
+mod faults;
+mod files;
+mod opening;
+mod rotation;
+mod whole;
+
+pub use faults::{FoldFault, Missed, RotationFault};
+pub use files::KeptFiles;
+pub use kept_sessions::{
+    Answer, CommitError, GROUP_TOPIC, Keeper, Node, RecoverError, ReplayError, ResumeError, Sent,
+    recover, resume, sessions,
+};
+pub use opening::{MEANING, make_journal, remove_if_there};
+pub use rotation::Rotation;
+pub use whole::write_whole;

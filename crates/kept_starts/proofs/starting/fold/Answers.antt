@@ -1,0 +1,6 @@
+use Rattle.kept_starts.proofs.GoingOn.{folded}
+use Rattle.kept_starts.proofs.starting.fold.Goals as goal
+
+pub returns-in-Ok : goal.returns-in-Ok
+returns-in-Ok g c =
+    folded g.D.File.Disk.seen c.args.started.now.keeper c.fold.new.keeper c.in-Ok.ensures.keeps_the_world c.in-Ok.ensures.keeps

@@ -1,0 +1,9 @@
+pub mod Slices
+pub mod Kept
+pub mod Finished
+pub mod Begun
+pub mod Put
+pub mod Whole
+pub mod There
+pub mod Placed
+pub mod Opened

@@ -1,0 +1,30 @@
+//! A file as a draft sees it.
+
+ghost use Rattle.std.specs.Prelude.{◌≡◌, List, Option, ℕ, OnOk};
+ghost use Rattle.std.specs.Option.{option_map};
+ghost use Rattle.snapshot_drafts.specs.Files.{with_bytes};
+
+use std::io;
+
+/// A file that is written at byte offsets. All that is said of its bytes is said where they are known (`seen`): a
+/// file in memory knows them, of a file of the operating system nothing can be proved.
+///
+/// After a call that failed nothing is known of the file.
+pub trait DraftFile {
+    /// The bytes that a read gives, where they are known.
+    ghost seen: { Self → Option (List ℕ) };
+
+    /// The bytes that are on the disk for certain, where that is known.
+    ghost synced: { Self → Option (List ℕ) };
+
+    /// Writes all of the bytes at a byte offset. They replace what stands there; what is missing before them
+    /// is zeros.
+    fn write_at(&mut self, at: u64, bytes: &[u8]) -> io::Result<()>
+        ensures { OnOk result
+            (seen self.new ≡ option_map (with_bytes at bytes.now) (seen self.old)) };
+
+    /// After it, what a read gives is on the disk.
+    fn sync(&mut self) -> io::Result<()>
+        ensures keeps { OnOk result (seen self.new ≡ seen self.old) }
+        ensures durable { OnOk result (synced self.new ≡ seen self.new) };
+}
