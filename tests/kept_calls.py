@@ -23,6 +23,7 @@ from kept_runs import (
     TOPICS,
     Ended,
     Kept,
+    Story,
     acknowledged_of,
     content,
     has_state,
@@ -56,8 +57,8 @@ def can_trace():
 class Traced(Kept):
     """A program whose calls are told."""
 
-    def __init__(self, program, folder, **ways):
-        super().__init__(shutil.which("strace"), folder, **ways)
+    def __init__(self, program, folder, *arguments, **ways):
+        super().__init__(shutil.which("strace"), folder, *arguments, **ways)
         self.trace = f"{os.path.dirname(folder)}/calls"
         told = ["-D", "-f", "-y", "-s", "32", "-o", self.trace, "-e", "trace=" + ",".join(KINDS)]
         self.command = ["strace", *told, program, *self.command[1:]]
@@ -160,6 +161,31 @@ def cut_in_order(program):
             same(f"what isn't synced when it listens, in {calls}", unsynced(calls), set())
 
 
+def rotated_in_order(program):
+    """A snapshot that is taken while it runs: the last journal is synced before the next one is made, that and its name are before a
+    group goes there and before the snapshot is begun; the snapshot is synced before it gets its name, and the name before a lower file
+    is cut or removed."""
+    for sync in ("always", "60000", "never"):
+        with new_folder() as folder:
+            with Traced(program, folder, "--snapshot-after", "5000000", sync=sync) as broker:
+                with broker.client() as client:
+                    for number in range(6):
+                        client.ask("produce t:0 batch a={b*900000}", f"produced t:0 0 {number}")
+                    client.ask("produce t:1 batch a=1", "produced t:1 0 0")
+                is_soon(lambda: sorted(os.listdir(folder)) == ["journal.2", "snapshot.2"])
+                calls = plain(since(broker.calls()))
+        made, named = calls.index(("write", "journal.2")), calls.index(("rename", f"{IN_THE_MAKING} snapshot.2"))
+        begun = calls.index(("write", IN_THE_MAKING))
+        same(f"with {sync} what isn't synced when the next journal is made, in {calls}", unsynced(calls[:made]) - {"socket"}, set())
+        holds(f"with {sync} the next journal isn't synced before the snapshot is begun", ("sync", "journal.2") in calls[made:begun])
+        synced = made + calls[made:].index(("sync", "journal.2"))
+        holds(f"with {sync} its name isn't, in {calls}", ("sync", ".") in calls[synced:begun])
+        holds(f"with {sync} the snapshot isn't synced when it gets its name", IN_THE_MAKING not in unsynced(calls[:named]))
+        lower = [index for index, it in enumerate(calls) if it[0] in ("cut", "remove") and it[1] in (JOURNAL, SNAPSHOT)]
+        holds(f"with {sync} the name isn't synced before a file goes, in {calls}", ("sync", ".") in calls[named : lower[0]])
+        same(f"with {sync} the files that go", {calls[it] for it in lower}, {("cut", JOURNAL), ("remove", JOURNAL), ("remove", SNAPSHOT)})
+
+
 PRODUCED = reply("produced t:0 0 0")
 
 
@@ -228,14 +254,14 @@ def written_before_it_leaves(program):
 
 # calls on the directory's files that a start makes, and an error of each
 ERRORS = [("openat", "EMFILE"), ("flock", "ENOLCK"), ("getdents64", "EIO"), ("statx", "EIO"), ("pread64", "EIO")]
-ERRORS += [("write", "ENOSPC"), ("fsync", "EIO"), ("fdatasync", "EIO"), ("rename", "EIO"), ("ftruncate", "EIO"), ("unlink", "EIO")]
+ERRORS += [("write", "ENOSPC"), ("pwrite64", "ENOSPC"), ("fsync", "EIO"), ("fdatasync", "EIO"), ("rename", "EIO"), ("ftruncate", "EIO"), ("unlink", "EIO")]
 
 
 class Failing(Kept):
     """A program of whose calls of a kind, on the directory and its files, one fails: the one of this number, from 1."""
 
-    def __init__(self, program, folder, call, error, number, names=("", JOURNAL, SNAPSHOT, IN_THE_MAKING, ".."), **ways):
-        super().__init__(shutil.which("strace"), folder, **ways)
+    def __init__(self, program, folder, call, error, number, names=("", JOURNAL, SNAPSHOT, IN_THE_MAKING, ".."), arguments=(), **ways):
+        super().__init__(shutil.which("strace"), folder, *arguments, **ways)
         self.trace = f"{os.path.dirname(folder)}/calls"
         paths = [it for name in names for it in ("-P", os.path.normpath(f"{folder}/{name}"))]
         told = ["-D", "-f", "-o", self.trace, *paths, "-e", f"trace={call}", "-e", f"inject={call}:error={error}:when={number}"]
@@ -306,6 +332,140 @@ def each_write_fails(program):
                 has_what_was_acknowledged(program, folder, acknowledged)
 
 
+ROTATED = ["", JOURNAL, SNAPSHOT, "journal.2", "snapshot.2", "journal.3", "snapshot.3", IN_THE_MAKING]
+
+
+def snapshot_fails_at(program, call, error, number):
+    """A call fails while snapshots are taken: the broker goes on, or ends with status 4; the next start has what was acknowledged.
+    Whether there is such a call, and whether it went on."""
+    with new_folder() as folder:
+        with Kept(program, folder):
+            pass
+        starting, is_over = Failing(program, folder, call, error, number, ROTATED, ("--snapshot-after", "2500")), False
+        acknowledged = 0
+        try:
+            with starting as broker:
+                acknowledged = acknowledged_of(broker, FILLING)
+                is_over = acknowledged < len(FILLING)
+                if is_over:
+                    same(f"{call} {number}: the status", broker.ends_by_itself()[0], FAILED)
+        except Ended as ended:
+            same(f"{call} {number}: the status of the start", ended.status, FAILED)
+        with Kept(program, folder) as broker:
+            found_ = [kept_files.node_after(FILLING[:it], kept_files.topics_of(TOPICS)) for it in (acknowledged, acknowledged + 1)]
+            try:
+                has_state(broker, found_[0], f"{call} {number}")
+            except Fault:
+                has_state(broker, found_[1], f"{call} {number}, with one more")
+        return starting.has_failed(), not is_over and acknowledged > 0
+
+
+def each_call_of_snapshots_fails(program):
+    """Each call on files fails in turn, from the start on and while snapshots are taken."""
+    for call, error in ERRORS:
+        if call in ("flock", "ftruncate"):
+            continue
+        number, went_on = 1, 0
+        while True:
+            failed, on = snapshot_fails_at(program, call, error, number)
+            if not failed or number > 60:
+                break
+            number, went_on = number + (1 if number < 12 else 5), went_on + on
+        holds(f"no {call} is called", number > 1)
+        holds(f"the broker never went on behind a {call} that failed", went_on > 0 or call not in ("pwrite64", "rename"))
+
+
+# calls of a snapshot that fail, by their number or from a number on, on some names; the line that is said, and the names that are there
+# then where the broker goes on. Of `fsync` on the directory the first is the start's, the second for the next journal's name, and then
+# for that it is gone, or for the snapshot's name.
+OF_A_SNAPSHOT = [
+    ("fdatasync", 1, ["journal.2"], "snapshot: journal.2: ", [JOURNAL, SNAPSHOT]),
+    ("fsync", 2, [""], "snapshot: journal.2: ", [JOURNAL, SNAPSHOT]),
+    ("fsync", "2+", [""], "kbroker: {}: ", None),
+    ("fdatasync,unlink", "1+", ["journal.2"], "kbroker: {}/journal.2: ", None),
+    ("pwrite64", 1, [IN_THE_MAKING], "snapshot: snapshot.tmp: ", [JOURNAL, "journal.2", SNAPSHOT]),
+    ("fsync", 3, [""], "kbroker: {}: ", None),
+    ("unlink", "1+", [JOURNAL], "snapshot: journal.1: ", [JOURNAL, "journal.2", SNAPSHOT, "snapshot.2"]),
+]
+
+
+def snapshot_left_at(program, call, number, names, line, there):
+    """A call of a snapshot fails: it is said, once; where the broker can't go on it ends, and else it rests, and leaves no file that it
+    was making."""
+    what, small = f"{call} {number} on {names}", ["produce t:1 batch b=1", "commit t:1 1"]
+    with new_folder() as folder:
+        with Kept(program, folder):
+            pass
+        story = Story()
+        with Failing(program, folder, call, "EIO", number, names, ("--snapshot-after", "1500")) as broker:
+            story.tell(broker, ["produce t:0 batch k={a*1600}"])
+            if there is None:
+                holds(f"{what}: it goes on, and says {broker.lines}", is_soon(lambda: broker.process.poll() is not None, 10))
+                status, lines = broker.ends_by_itself()
+                same(f"{what}: the status", status, FAILED)
+                holds(f"{what}: {lines}", lines[-1].startswith(line.format(folder)))
+            else:
+                holds(f"{what}: nothing is said", is_soon(lambda: len(broker.lines) > 1))
+                story.tell(broker, small)
+                broker.rests(what)
+                said = [it for it in broker.lines if it.startswith("snapshot: ")]
+                holds(f"{what}: {said}", len(said) == 1 and said[0].startswith(line))
+                same(f"{what}: the names", sorted(os.listdir(folder)), sorted(there))
+        with Kept(program, folder) as broker:
+            story.stands(broker, what)
+
+
+def snapshots_left(program):
+    """What is there behind each call of a snapshot that fails."""
+    for row in OF_A_SNAPSHOT:
+        snapshot_left_at(program, *row)
+
+
+# calls of a start with --fold, or with a partition more, that fail behind what it recovered, and the line
+OF_A_FOLD = [
+    ("fdatasync", 1, ["journal.2"], "kbroker: {}/journal.2: "),
+    ("fsync", 2, [""], "kbroker: {}/journal.2: "),
+    ("pwrite64", 1, [IN_THE_MAKING], "kbroker: {}/snapshot.tmp: "),
+    ("pwrite64", 3, [IN_THE_MAKING], "kbroker: {}/snapshot.tmp: "),
+    ("fdatasync", 2, [IN_THE_MAKING], "kbroker: {}/snapshot.tmp: "),
+    ("rename", 1, [IN_THE_MAKING], "kbroker: {}/snapshot.2: "),
+    ("fsync", 3, [""], "kbroker: {}: "),
+    ("unlink", 1, [JOURNAL], "kbroker: {}/journal.1: "),
+]
+
+
+def folds_that_fail(program):
+    """A start that is to take a snapshot, and of which a call fails then, ends with status 4 and the file's line, and doesn't say that
+    there is one; the next start has all."""
+    for call, number, names, line in OF_A_FOLD:
+        for more, topics in ((["--fold"], TOPICS), ([], ("t:3",))):
+            what = f"{call} {number} on {names}, {more}"
+            with new_folder() as folder:
+                lay(folder, kept_files.journal([[it] for it in TORN]))
+                try:
+                    with Failing(program, folder, call, "EIO", number, names, more, topics=topics) as broker:
+                        raise Fault(f"{what}: it listens, and says {broker.lines}")
+                except Ended as ended:
+                    same(f"{what}: the status", ended.status, FAILED)
+                    holds(f"{what}: {ended.lines}", len(ended.lines) == 1 and ended.lines[0].startswith(line.format(folder)))
+                with Kept(program, folder) as broker:
+                    has_state(broker, kept_files.node_after(TORN, kept_files.topics_of(TOPICS)), what)
+
+
+def answered_behind_a_snapshot(program):
+    """One client that sends again at once, whose frame is put off for an image: where that can't be written the frame is handled all the
+    same, though nobody else sends. Each first image of a snapshot fails."""
+    with new_folder() as folder:
+        with Kept(program, folder):
+            pass
+        with Failing(program, folder, "pwrite64", "EIO", "2+2", [IN_THE_MAKING], ("--snapshot-after", "1500")) as broker:
+            story = Story()
+            for turn in range(8):  # (what is refused stands in the journal, and not in the snapshot)
+                story.tell(broker, ["produce t:5 batch k={a*1600}", f"produce t:{turn % 2} batch b=1"])
+            said = [it for it in broker.lines if it.startswith("snapshot: ")]
+        holds(f"{len(said)} snapshots weren't taken, of 8", len(said) > 3)
+
+
 # ---- names that a start left unsynced
 
 
@@ -347,9 +507,14 @@ def where_it_can_be_seen(case):
 CASES = [
     ("the order in which a directory is made", where_it_can_be_seen(made_in_order)),
     ("the order in which a journal is cut", where_it_can_be_seen(cut_in_order)),
+    ("the order in which a snapshot is taken", where_it_can_be_seen(rotated_in_order)),
     ("names that a killed start left", where_it_can_be_seen(names_synced_in_the_end)),
     ("what is synced before a reply leaves", where_it_can_be_seen(synced_before_it_leaves)),
     ("what is written before a reply leaves", where_it_can_be_seen(written_before_it_leaves)),
     ("each call of a start that fails", where_it_can_be_seen(each_call_fails)),
     ("each write and sync of a journal that fails", where_it_can_be_seen(each_write_fails)),
+    ("a call that fails of a snapshot at the start", where_it_can_be_seen(folds_that_fail)),
+    ("a frame that was put off, and a snapshot that fails", where_it_can_be_seen(answered_behind_a_snapshot)),
+    ("what a snapshot leaves where a call fails", where_it_can_be_seen(snapshots_left)),
+    ("each call of snapshots that fails", where_it_can_be_seen(each_call_of_snapshots_fails)),
 ]

@@ -1,7 +1,7 @@
 #!/usr/bin/env python3
 """What `kbroker start --data` keeps: over restarts, on a disk that is full, in directories that it can't have, and over kills.
 
-    tests/kept_cases.py PROGRAM [--kills N] [--seed N] [--seconds N]
+    tests/kept_cases.py PROGRAM [--kills N] [--seed N] [--seconds N] [--snapshot-after BYTES]
 
 kills the program at random moments so often, or for so many seconds, and says what came of it (tests/kept_kills.py); the cases are
 run by tests/start_cases.py. What must come is worked by hand, or by the plain models of tests/broker.py and tests/kept_files.py.
@@ -28,6 +28,7 @@ import kept_calls
 import kept_damage
 import kept_files
 import kept_kills
+import kept_rotations
 import kept_rounds
 import kept_stored
 import limits
@@ -323,7 +324,7 @@ def faulty_arguments(program):
             status, out, err = ends_by_itself(program, "--data", folder, "t:1", *words)
             same(f"the status of {words}", (status, out), (ANOTHER, ""))
             holds(f"standard error of {words}: {err!r}", err.startswith("error: "))
-        for words in (["--sync", "always"], ["--data", ""]):
+        for words in (["--sync", "always"], ["--data", ""], ["--fold"], ["--snapshot-after", "0"], ["--snapshot-after", "x"]):
             status, out, err = ends_by_itself(program, *words, "t:1")
             same(f"what comes of {words} alone", (status, out, err[:7]), (ANOTHER, "", "error: "))
         same("the directory", os.path.exists(folder), False)
@@ -600,22 +601,19 @@ def old_and_killed(program):
 STANDS = ("t:2", "u:3")
 CONFIGURATIONS = [
     # what stands there, the arguments, and what differs
-    ({}, [], ("t:3", "u:3"), "topic t: 2 partitions"),
     ({}, [], ("t:1", "u:3"), "topic t: 2 partitions"),
-    ({}, [], ("t:2", "u:4"), "topic u: 3 partitions"),
+    ({}, [], ("u:4", "t:1"), "topic t: 2 partitions"),
     ({}, [], ("t:2",), "topic u: 3 partitions"),
-    ({}, [], ("t:2", "u:3", "v:1"), "topic v: none"),
-    ({}, [], ("t:2", "U:3", "u:3"), "topic U: none"),
+    ({}, [], ("t:2", "v:9"), "topic u: 3 partitions"),
     ({}, ["--role", "follower"], STANDS, "role: leader"),
     ({"role": 1}, [], STANDS, "role: follower"),
-    ({}, ["--first-producer", "5"], STANDS, "first producer: 0"),
-    ({"first": 9223372036854775807}, ["--first-producer", "9"], STANDS, "first producer: 9223372036854775807"),
+    ({"role": 1}, [], ("t:2",), "role: follower"),
 ]
 
 
 def other_configurations(program):
-    """Other topics, another role and another first producer id than those of the directory; the torn end of the journal stays. The
-    order of the topics may be another."""
+    """Fewer topics or partitions than those of the directory, or another role; the torn end of the journal stays. The order of the
+    topics may be another, and so may the first producer id."""
     with new_folder() as folder:
         for stands, arguments, topics, what in CONFIGURATIONS:
             lay(folder, kept_files.journal([[request("produce t:0 batch a=1")]]) + bytes(9), STANDS, **stands)
@@ -623,6 +621,9 @@ def other_configurations(program):
         lay(folder, kept_files.journal([[request("produce t:0 batch a=1")]]), STANDS)
         with Kept(program, folder, topics=STANDS[::-1]) as broker:
             same("the line of topics in another order", broker.said(), recovered(1))
+        with Kept(program, folder, "--first-producer", "5", topics=STANDS) as broker, broker.client() as client:
+            same("the line of another first producer", broker.said(), recovered(1))
+            client.ask("producer-id", "producer 0 0 0")
 
 
 def without_memory(program):
@@ -725,6 +726,7 @@ CASES = [
     *kept_calls.CASES,
     *kept_rounds.CASES,
     *kept_stored.CASES,
+    *kept_rotations.CASES,
     *kept_kills.CASES,
 ]
 
@@ -735,9 +737,10 @@ def main(arguments):
     reader.add_argument("--kills", type=int, default=kept_kills.KILLS)
     reader.add_argument("--seed", type=int, default=kept_kills.SEED)
     reader.add_argument("--seconds", type=float, default=float("inf"))
+    reader.add_argument("--snapshot-after", type=int, help="take a snapshot behind so many bytes of journals")
     given = reader.parse_args(arguments)
     try:
-        print(kept_kills.run(os.path.realpath(given.program), given.kills, given.seed, given.seconds))
+        print(kept_kills.run(os.path.realpath(given.program), given.kills, given.seed, given.seconds, given.snapshot_after))
     except Fault as why:
         print(f"FAILED with seed {given.seed}: {why}")
         return 1

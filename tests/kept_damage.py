@@ -8,11 +8,14 @@ import random
 import socket
 import struct
 
+import batches
+import copies
 import frames
 import kept
 import kept_files
 from kept_files import never
 from kept_runs import (
+    ANOTHER,
     IN_THE_MAKING,
     JOURNAL,
     REFUSED,
@@ -20,6 +23,7 @@ from kept_runs import (
     TOPICS,
     Kept,
     all_of,
+    another,
     content,
     damaged,
     has_state,
@@ -300,7 +304,7 @@ def snapshot_refused(program, folder, snapshot, at, why):
     """A start beside this snapshot must be refused for it; as of a later version where no byte is at fault."""
     lay(folder, SOUND)
     write(folder, SNAPSHOT, snapshot)
-    is_later = why in ("BadVersion", "NotEmpty")
+    is_later = why == "BadVersion"
     refused(program, folder, REFUSED, later(folder, SNAPSHOT, why) if is_later else damaged(folder, SNAPSHOT, at, why))
 
 
@@ -321,48 +325,59 @@ def heads_of_snapshots(program):
 
 
 def images_of_snapshots(program):
-    """Behind the head of a snapshot an image of an empty copy must stand for each partition, and nothing else. What doesn't is
-    damaged from the first such image on, or from what is too much."""
+    """Behind the head of a snapshot an image of the size that it says must stand for each partition, and nothing else. What doesn't
+    is damaged from the image's first byte on, at the file's end, or from what is too much."""
     at, size = BEHIND_HEAD, len(EMPTY)
     with new_folder() as folder:
         for index in range(3):
             for byte in (0, 5, 13, 17, 21, 25):
                 there = at + index * size
-                snapshot_refused(program, folder, flipped(IMAGES, there + byte, 1), there, "BadImage")
-        for images, fault in ((b"", 0), (EMPTY, 1), (EMPTY * 3 + b"\0", 3), (EMPTY * 4, 3), (EMPTY * 2 + EMPTY[:-1], 2)):
-            snapshot_refused(program, folder, IMAGES[:at] + images, at + fault * size, "BadImage")
+                why = "BadCrc" if byte else "BadMark"
+                snapshot_refused(program, folder, flipped(IMAGES, there + byte, 1), there, why)
+        for images in (b"", EMPTY, EMPTY * 2 + EMPTY[:-1]):
+            snapshot_refused(program, folder, IMAGES[:at] + images, at + len(images), "Short")
+        for images in (EMPTY * 3 + b"\0", EMPTY * 4):
+            snapshot_refused(program, folder, IMAGES[:at] + images, at + size * 3, "Behind")
 
 
-def snapshot_of(sizes, images, following=0):
-    """A snapshot with images of these sizes for t:0 and t:1."""
-    topics = [(b"t", sizes), (b"__consumer_offsets", [len(EMPTY)])]
-    return kept.snapshot(kept.fields(1, 0, 0, following, topics)) + images
+def snapshot_of(sizes, images, following=0, group=(len(EMPTY),), **said):
+    """A snapshot with images of these sizes for t:0 and t:1, and for the groups' topic."""
+    topics = [(b"t", sizes), (b"__consumer_offsets", group)]
+    role, first = said.get("role", 0), said.get("first", 0)
+    return kept.snapshot(kept.fields(1, role, first, following, topics)) + images
 
 
-def snapshots_of_more(program):
-    """Sound snapshots of a broker in which something has happened, which a later program writes."""
-    full = kept_files.node_after(ROUNDS[0], NAMES_OF_TOPICS).copy(b"t", 0).image()
+def snapshots_of_none(program):
+    """Sound heads of what no broker holds: a role that is none, a size below 0, a producer id below the first one, groups' offsets in
+    no partition or in two, a topic without partitions or of no name; and an image that a leader can't have, whose offsets have a
+    gap."""
     size = len(EMPTY)
+    gapped = copies.image([(2, 4)], [batches.batch([batches.record(0, b"a", b"1", [], {})], {"base": 2})], {})
+    topics_at = FIELDS_AT + 26
     with new_folder() as folder:
-        for more in (
-            snapshot_of([len(full), size], full + EMPTY * 2),
-            snapshot_of([size, len(full)], EMPTY + full + EMPTY),
-            snapshot_of([size, size], EMPTY * 3, following=1),
+        for snapshot, at, why in (
+            (snapshot_of([size, size], EMPTY * 3, role=2), FIELDS_AT + 8, "BadRole"),
+            (snapshot_of([-1, size], EMPTY * 3), BEHIND_HEAD, "BadSize"),
+            (snapshot_of([size, size], EMPTY * 3, first=5, following=4), FIELDS_AT + 18, "EarlyProducer"),
+            (snapshot_of([size, size], EMPTY * 2, group=()), topics_at, "BadTopics"),
+            (snapshot_of([size, size], EMPTY * 4, group=(size, size)), topics_at, "BadTopics"),
+            (snapshot_of([len(gapped), size], gapped + EMPTY * 2), BEHIND_HEAD, "Gapped"),
         ):
-            snapshot_refused(program, folder, more, 0, "NotEmpty")
+            snapshot_refused(program, folder, snapshot, at, why)
 
 
 def first_fault(program):
-    """Of many faults the first is named: of the names, of the snapshot, of the journal's head, of its groups."""
+    """Of many faults the first is named: of the names, of the snapshot, of the configuration, of the journal's head, of its groups."""
     bad = flipped(SOUND, SECOND, 1)
     with new_folder() as folder:
         lay(folder, flipped(bad, 0, 1))
         write(folder, SNAPSHOT, flipped(IMAGES, MARK_AT, 1))
         write(folder, "snapshot.2", b"")
-        refused(program, folder, REFUSED, later(folder, "snapshot.2"))
+        refused(program, folder, REFUSED, missing(folder, "journal.2"))
         os.remove(f"{folder}/snapshot.2")
         refused(program, folder, REFUSED, damaged(folder, SNAPSHOT, MARK_AT, "BadMark"))
         write(folder, SNAPSHOT, IMAGES)
+        refused(program, folder, ANOTHER, another(folder, "topic t: 2 partitions"), topics=("t:1",))
         refused(program, folder, REFUSED, damaged(folder, JOURNAL, 0, "BadCrc"))
         write(folder, JOURNAL, bad)
         refused(program, folder, REFUSED, damaged(folder, JOURNAL, SECOND, "LaterSync"))
@@ -430,21 +445,6 @@ def files_of_another_kind(program):
                 refused(program, folder, REFUSED, irregular(folder, name))
 
 
-LATER_NAMES = ["snapshot.2", "journal.2", "snapshot.10", "journal.1000000", "snapshot.9223372036854775807"]
-
-
-def files_of_later_versions(program):
-    """A file with a number above 1, which this program doesn't write, whatever it holds; also where the others aren't there."""
-    with new_folder() as folder:
-        for name in LATER_NAMES:
-            lay(folder, SOUND)
-            write(folder, name, b"")
-            refused(program, folder, REFUSED, later(folder, name))
-            os.remove(f"{folder}/{JOURNAL}")
-            os.remove(f"{folder}/{SNAPSHOT}")
-            refused(program, folder, REFUSED, later(folder, name))
-
-
 OTHER_NAMES = [b"notes.txt", b".hidden", b"snapshot", b"journal", b"snapshot.", b"journal.", b"snapshot.1.old", b"journal.0"]
 OTHER_NAMES += [b"journal.02", b"snapshot.01"]
 OTHER_NAMES += [b"journal.-2", b"snapshot.+2", b"journal.2x", b"xjournal.2", b"Journal.2", b"journal.tmp", b"snapshot.tmp2"]
@@ -496,11 +496,10 @@ CASES = [
     ("heads of journals that are none", heads_of_journals),
     ("heads of snapshots that are none", heads_of_snapshots),
     ("images of snapshots that are none", images_of_snapshots),
-    ("snapshots of brokers in which something has happened", snapshots_of_more),
+    ("snapshots of what no broker holds", snapshots_of_none),
     ("which of many faults is named", first_fault),
     ("files that are missing", files_that_are_missing),
     ("files that are none", files_of_another_kind),
-    ("files of later versions", files_of_later_versions),
     ("names that aren't its own", other_names),
     ("a file in the making, and a refusal", making_stays_on_refusal),
 ]

@@ -18,12 +18,14 @@ import time
 import batches
 import broker
 import copies
-from kept_runs import JOURNAL, WAYS, Kept, new, new_folder
+import kept_files
+from kept_runs import WAYS, Kept, found, new, new_folder
 from random_clients import CLEAN, COMMIT, EXPORT, FETCH, FORGET, OFFSETS, PRODUCE, PRODUCER_ID, TRIM, framed
 from started import SECONDS, Fault, holds, same
 
 KILLS, SEED = 210, 1
 KILLS_OF_ONE = 14  # how often the broker of one directory is killed
+AFTER = 200_000  # bytes of journals, behind which a snapshot is taken
 IN_THE_GATE = 60  # seconds, for each of two programs
 LONGEST_LIFE = 0.2  # seconds from the line `listening` on, of one that is killed by the clock
 LONGEST_WAIT = 0.5  # seconds, of one that is killed behind a number of responses
@@ -435,8 +437,9 @@ class Reader:
 class World:
     """What is known of one directory's broker, over all of its lives."""
 
-    def __init__(self, program, folder, sync, seed, directory):
+    def __init__(self, program, folder, sync, seed, directory, after=None):
         self.program, self.folder, self.sync, self.seed, self.directory = program, folder, sync, f"{seed} {directory}", directory
+        self.after, self.snapshot = after, 1
         self.drawn, self.logs, self.ids = random.Random(self.seed), [Log(index) for index in range(PARTITIONS)], set()
         self.least = self.most = self.answered = 0  # frames in the journal; responses
         self.is_new, self.began, self.kills, self.behind = True, None, 0, 0
@@ -464,12 +467,15 @@ class World:
             holds("a directory with acknowledged requests is new", self.is_new)
             self.most = 0
             return
+        snapshot, count = found(line)
+        if snapshot == 1:
+            holds(f"{count} frames, and not {self.least} to {self.most}", self.least <= count <= self.most)
+            self.least = self.most = count
+        holds(f"snapshot {snapshot} behind {self.snapshot}", self.snapshot <= snapshot <= (snapshot if self.after else 1))
+        self.snapshot = snapshot
         words = line.split()
-        count = int(words[1])
-        holds(f"{count} frames, and not {self.least} to {self.most}", self.least <= count <= self.most)
         cut = int(words[words.index("cut") + 1]) if "cut" in words else 0
         holds(f"{cut} bytes cut, of {self.behind} that were written behind", cut >= self.behind)
-        self.least = self.most = count
 
     def check(self, started):
         self.check_line(started.said())
@@ -481,9 +487,14 @@ class World:
             it.check(reader)
         reader.client.close()
 
+    def kept(self, *arguments):
+        """Its broker, which may take snapshots while it runs."""
+        after = ["--snapshot-after", str(self.after)] if self.after else []
+        return Kept(self.program, self.folder, *after, *arguments, sync=self.sync, topics=TOPICS)
+
     def live(self):
         """Starts it, looks at what there is, lets all ask, and kills it."""
-        with Kept(self.program, self.folder, sync=self.sync, topics=TOPICS) as started:
+        with self.kept() as started:
             self.check(started)
             self.is_new = False
             for it in self.askers:
@@ -514,9 +525,10 @@ class World:
                 started.process.kill()
 
     def end_early(self):
-        """Starts it, and kills it before it listens, or about then."""
-        started = Kept(self.program, self.folder, sync=self.sync, topics=TOPICS)
-        killer = threading.Timer(self.drawn.random() * 0.02, lambda: started.process.kill())
+        """Starts it, and kills it before it listens, or about then; or while it takes a snapshot and no more."""
+        is_folded = bool(self.after) and not self.is_new and self.drawn.random() < 0.5
+        started = self.kept(*(["--fold"] if is_folded else []))
+        killer = threading.Timer(self.drawn.random() * (0.1 if is_folded else 0.02), lambda: started.process.kill())
         with contextlib.suppress(Fault), started:
             started.is_over = True
             killer.start()
@@ -525,9 +537,11 @@ class World:
         self.behind = 0  # (it may have cut what stood there)
 
     def spoil(self):
-        """Now and then other bytes come to stand behind the journal, as a write leaves them that was torn."""
-        path = f"{self.folder}/{JOURNAL}"
-        if self.is_new or self.drawn.random() < 0.6:
+        """Now and then other bytes come to stand behind the journal, as a write leaves them that was torn; not behind one without
+        a head, which a kill left as it was being made: nothing is written there."""
+        numbers = [int(it[8:]) for it in os.listdir(self.folder) if it.startswith("journal.")]
+        path = f"{self.folder}/journal.{max(numbers, default=1)}"
+        if self.is_new or self.drawn.random() < 0.6 or os.path.getsize(path) < kept_files.HEAD_SIZE:
             return
         with open(path, "r+b") as file:
             old = file.read(300)
@@ -540,26 +554,26 @@ class World:
                 self.end_early()
             self.live()
             self.spoil()
-        with Kept(self.program, self.folder, sync=self.sync, topics=TOPICS) as started:
+        with self.kept() as started:
             self.check(started)
 
 
-def run(program, kills, seed, seconds):
+def run(program, kills, seed, seconds, after=None):
     """Kills it so often, or for so long, in directories with the ways of syncing by turns, and says what came of it."""
-    late, done, answered, ids = time.monotonic() + seconds, 0, collections.Counter(), 0
+    late, done, answered, ids, rotations = time.monotonic() + seconds, 0, collections.Counter(), 0, 0
     for directory in itertools.count():
         if done >= kills or time.monotonic() > late:
             break
         with new_folder() as folder:
-            world = World(program, folder, WAYS[directory % len(WAYS)], seed, directory)
+            world = World(program, folder, WAYS[directory % len(WAYS)], seed, directory, after)
             try:
                 world.run(min(KILLS_OF_ONE, kills - done))
             except Fault as why:
                 raise Fault(f"directory {directory}, --sync {world.sync}, kill {world.kills}, seed {seed}: {why}") from None
-            done, ids = done + world.kills, ids + len(world.ids)
+            done, ids, rotations = done + world.kills, ids + len(world.ids), rotations + world.snapshot - 1
             answered[world.sync] += world.answered
     of_each = ", ".join(f"{count} with {sync}" for sync, count in answered.items())
-    return f"{done} kills of {directory} directories; answered: {of_each}; {ids} producer ids"
+    return f"{done} kills of {directory} directories; answered: {of_each}; {ids} producer ids; {rotations} snapshots"
 
 
 def random_kills(program):
@@ -567,4 +581,10 @@ def random_kills(program):
     run(program, KILLS, SEED, IN_THE_GATE)
 
 
-CASES = [("kills at random moments", random_kills)]
+def rotating_kills(program):
+    """The same while snapshots are taken often, and with kills of starts that take one and end."""
+    said = run(program, KILLS // 2, SEED + 1, IN_THE_GATE, AFTER)
+    holds(f"no snapshot was taken: {said}", not said.endswith("; 0 snapshots"))
+
+
+CASES = [("kills at random moments", random_kills), ("kills at random moments, with snapshots", rotating_kills)]

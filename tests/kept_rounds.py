@@ -280,7 +280,7 @@ def largest_configuration(program):
                 client.ask("producer-id", f"producer 0 {turn} 0")
         same("the snapshot", content(folder, SNAPSHOT), kept_files.snapshot(kept_files.topics_of(LARGEST)))
         status, line = refusal(program, folder, topics=LARGEST[:-1])
-        same("one topic less", (status, line), (ANOTHER, f"kbroker: {folder}/{SNAPSHOT}: topic {LARGEST[-1][:-3]}: 64 partitions"))
+        same("one topic less", (status, line), (ANOTHER, f"kbroker: {folder}: topic {LARGEST[-1][:-3]}: 64 partitions"))
 
 
 def keys_differ(program):

@@ -4,6 +4,7 @@ All texts that it says stand here, once.
 """
 import contextlib
 import os
+import re
 import resource
 import signal
 import stat
@@ -24,9 +25,21 @@ REFUSED, ANOTHER, NO_MEMORY, FAILED = 1, 2, 3, 4  # statuses
 # ---- what it says
 
 
-def recovered(count, cut=0, at=0):
+def recovered(count, cut=0, at=0, snapshot=1, journal=None):
     """The line of a start on files that are there."""
-    return f"recovered {count} frames" + (f"; cut {cut} bytes of {JOURNAL} at {at}" if cut else "")
+    behind = f"; cut {cut} bytes of journal.{journal or snapshot} at {at}" if cut else ""
+    return f"recovered snapshot {snapshot}, {count} frames{behind}"
+
+
+def found(line):
+    """The number of the snapshot, and of the frames behind it, in such a line."""
+    snapshot, frames = re.match(r"recovered snapshot (\d+), (\d+) frames", line).groups()
+    return int(snapshot), int(frames)
+
+
+def folded(snapshot):
+    """The last line of a start that only takes a snapshot."""
+    return f"folded into snapshot {snapshot}"
 
 
 def new(folder):
@@ -51,7 +64,7 @@ def irregular(folder, name):
 
 
 def another(folder, what):
-    return f"kbroker: {folder}/{SNAPSHOT}: {what}"
+    return f"kbroker: {folder}: {what}"
 
 
 def in_use(folder):
@@ -249,7 +262,7 @@ def has_what_was_acknowledged(program, folder, acknowledged, listened=True):
         said = broker.said()
         if not listened:
             same("the line behind a start that failed", said, new(folder))
-        count = 0 if said == new(folder) else int(said.split()[1])
+        count = 0 if said == new(folder) else found(said)[1]
         holds(f"{count} frames of {acknowledged} that were acknowledged", acknowledged <= count <= acknowledged + 1)
         node = kept_files.node_after(FILLING[:count], kept_files.topics_of(TOPICS))
         has_state(broker, node, "the state")
