@@ -1,4 +1,4 @@
-//! A directory as a broker's start sees it.
+//! A directory as a broker sees it.
 
 use crate::names::Name;
 use journal::Disk;
@@ -18,39 +18,80 @@ pub enum Kind {
     Other,
 }
 
-/// A directory whose files grow at their ends, but for one in the making, which is written at byte offsets. Each method is
-/// one call of the system, but for the list of names, so that each can fail by itself.
+/// A directory whose files grow at their ends, but for a snapshot in the making, which is written at byte offsets. Each method
+/// is one call of the system, but for the list of names, so that each can fail by itself.
+///
+/// All that is said of its names is said where they are known (`state`): of a directory of the operating system nothing can
+/// be proved. After a call that failed nothing is known of the names that it touches; but a snapshot gets its name as a whole
+/// or not at all.
 pub trait Directory {
+    ghost use Rattle.std.specs.Prelude.{◌≡◌, ◌⊎◌, Some, true, false, [], IfOk, IfSome, OnErr, OnOk};
+    ghost use Rattle.std.specs.List.{Contains};
+    ghost use Rattle.data_directory.specs.declared.names.Name.{Name};
+    ghost use Rattle.data_directory.specs.declared.names.Name.TheVariants.{Making};
+    ghost use Rattle.data_directory.specs.Directories.{AreCertain, Becomes, DirectoryState, IsName, IsNone, IsPublished, IsThere, KeepsCertain, KeepsOthers, Publishes, is_file};
+
     /// A file that is open for reading and appending.
     type File: Disk + Drop;
 
     /// A file that is open for writing at byte offsets.
     type Draft: DraftFile + Drop;
 
+    /// What is known of it.
+    ghost state: { Self → DirectoryState };
+
+    /// A file is the one that was opened by a name. Nothing but `open` says so.
+    ghost gives: { Self → Name → Self.File → Type 0 };
+
     /// The names of a broker's files that are there, in any order. Others are passed over.
-    fn names<A: Allocator + Copy>(&self, alloc: A) -> io::Result<Vec<Name, A>>;
+    fn names<A: Allocator + Copy>(&self, alloc: A) -> io::Result<Vec<Name, A>>
+        ensures { IfOk result (λ names. (name : Name) → (state self.now).there name ≡ Some true
+            → Contains names.items name) };
 
     /// What stands at a name. It is asked without opening it.
-    fn kind(&self, name: Name) -> io::Result<Kind>;
+    fn kind(&self, name: Name) -> io::Result<Kind>
+        ensures { IfOk result (λ kind. IsThere (state self.now) name (is_file kind)) };
 
     /// Opens a file that is there.
-    fn open(&self, name: Name) -> io::Result<Self::File>;
+    fn open(&self, name: Name) -> io::Result<Self::File>
+        ensures was_there { OnOk result (IsThere (state self.now) name true) }
+        ensures is_its_file { IfOk result (gives self.now name) };
 
     /// Makes a file that isn't there yet, and opens it.
-    fn create(&mut self, name: Name) -> io::Result<Self::File>;
+    fn create(&mut self, name: Name) -> io::Result<Self::File>
+        ensures was_absent { OnOk result (IsThere (state self.old) name false) }
+        ensures makes { OnOk result (Becomes name true (state self.old) (state self.new)) }
+        ensures keeps_others { KeepsOthers (IsName name) (state self.old) (state self.new) }
+        ensures keeps_certain { KeepsCertain (IsName name) (state self.old) (state self.new) };
 
-    /// Makes a file that isn't there yet, and opens it for writing at byte offsets.
-    fn draft(&mut self, name: Name) -> io::Result<Self::Draft>;
+    /// Makes the file of a snapshot in the making, which isn't there yet, and opens it. It has no byte.
+    fn draft(&mut self) -> io::Result<Self::Draft>
+        ensures is_empty { IfOk result (λ file. IfSome (Self.Draft.seen file) (λ bytes. bytes ≡ [])) }
+        ensures makes { OnOk result (Becomes Making true (state self.old) (state self.new)) }
+        ensures keeps_others { KeepsOthers (IsName Making) (state self.old) (state self.new) }
+        ensures keeps_certain { KeepsCertain (IsName Making) (state self.old) (state self.new) };
 
-    /// Bytes that are drawn at random, for the key of a new journal.
-    fn draw_key(&mut self) -> io::Result<[u8; KEY_SIZE]>;
-
-    /// Gives a file another name, which no file has.
-    fn rename(&mut self, from: Name, to: Name) -> io::Result<()>;
+    /// Gives a snapshot in the making, whose bytes are on the disk for certain, the name of its number, which no file has.
+    fn publish(&mut self, draft: Self::Draft, number: u64) -> io::Result<()>
+        requires is_synced { Self.Draft.synced draft ≡ Self.Draft.seen draft }
+        ensures publishes { OnOk result
+            (Publishes number (Self.Draft.seen draft) (state self.old) (state self.new)) }
+        ensures is_whole { OnErr result (KeepsOthers IsNone (state self.old) (state self.new)
+            ⊎ Publishes number (Self.Draft.seen draft) (state self.old) (state self.new)) }
+        ensures keeps_others { KeepsOthers (IsPublished number) (state self.old) (state self.new) };
 
     /// Removes a file.
-    fn remove(&mut self, name: Name) -> io::Result<()>;
+    fn remove(&mut self, name: Name) -> io::Result<()>
+        ensures removes { OnOk result (Becomes name false (state self.old) (state self.new)) }
+        ensures keeps_others { KeepsOthers (IsName name) (state self.old) (state self.new) }
+        ensures keeps_certain { KeepsCertain (IsName name) (state self.old) (state self.new) };
 
     /// After it, a crash leaves the names that are there.
-    fn sync(&mut self) -> io::Result<()>;
+    fn sync(&mut self) -> io::Result<()>
+        ensures certain { OnOk result (AreCertain (state self.new)) }
+        ensures keeps_names { KeepsOthers IsNone (state self.old) (state self.new) };
+
+    /// Bytes that are drawn at random, for the key of a new journal.
+    fn draw_key(&mut self) -> io::Result<[u8; KEY_SIZE]>
+        ensures { state self.new ≡ state self.old };
 }

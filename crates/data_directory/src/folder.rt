@@ -117,9 +117,16 @@ impl<'a, R: Files<File = File> + RandomSource + Alloc + Clone + Drop> Folder<'a,
 }
 
 impl<'a, R: Files<File = File> + RandomSource + Alloc + Clone + Drop> Directory for Folder<'a, R> {
+    ghost use Rattle.std.specs.Prelude.{⊤};
+    ghost use Rattle.data_directory.specs.Directories.{unknown};
+
     type File = FileDisk;
 
     type Draft = FileDraft;
+
+    ghost state = { λ folder. unknown };
+
+    ghost gives = { λ folder name file. ⊤ };
 
     fn names<A: Allocator + Copy>(&self, alloc: A) -> io::Result<Vec<Name, A>> {
         let mut names = Vec::new(alloc);
@@ -155,22 +162,18 @@ impl<'a, R: Files<File = File> + RandomSource + Alloc + Clone + Drop> Directory 
         self.opened(name, true)
     }
 
-    fn draft(&mut self, name: Name) -> io::Result<FileDraft> {
+    fn draft(&mut self) -> io::Result<FileDraft> {
         let file = OpenOptions::new()
             .write(true)
             .create_new(true)
-            .open(self.rt, self.path_of(name)?)?;
+            .open(self.rt, self.path_of(Name::Making)?)?;
         Ok(FileDraft::new(file))
     }
 
-    fn draw_key(&mut self) -> io::Result<[u8; KEY_SIZE]> {
-        let mut key = [0; KEY_SIZE];
-        self.rt.fill_bytes(&mut key)?;
-        Ok(key)
-    }
-
-    fn rename(&mut self, from: Name, to: Name) -> io::Result<()> {
-        fs::rename(self.rt, self.path_of(from)?, self.path_of(to)?)
+    fn publish(&mut self, draft: FileDraft, number: u64) -> io::Result<()> {
+        drop(draft);
+        let made = self.path_of(Name::Making)?;
+        fs::rename(self.rt, made, self.path_of(Name::Snapshot(number))?)
     }
 
     fn remove(&mut self, name: Name) -> io::Result<()> {
@@ -179,5 +182,11 @@ impl<'a, R: Files<File = File> + RandomSource + Alloc + Clone + Drop> Directory 
 
     fn sync(&mut self) -> io::Result<()> {
         self.handle.sync_all()
+    }
+
+    fn draw_key(&mut self) -> io::Result<[u8; KEY_SIZE]> {
+        let mut key = [0; KEY_SIZE];
+        self.rt.fill_bytes(&mut key)?;
+        Ok(key)
     }
 }
