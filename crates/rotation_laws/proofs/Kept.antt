@@ -1,12 +1,11 @@
 -- Each act leaves a directory that keeps all frames, and a start of such a one comes to what they lead to: the highest snapshot
 -- is one, as is the row of journals behind it, so the start finds those that the directory is kept by.
-use Rattle.std.proofs.Common.{◌≡◌, ℕ, zero, suc, ◌+◌, ◌<◌, ◌≤◌, List, [], ◌∷◌, ◌++◌, Option, Some, None, refl, sym, ap, subst, ◌∙◌, arith, inl, inr}
+use Rattle.std.proofs.Common.{◌≡◌, ℕ, zero, suc, ◌+◌, ◌<◌, ◌≤◌, List, [], ◌++◌, Option, Some, None, refl, sym, ap, subst, ◌∙◌, append_assoc, arith, inl, inr}
 use Rattle.std.specs.Prelude.{◌⊎◌}
 use Rattle.std.proofs.lemmas.Bool.{cases_lt}
-use Rattle.std.proofs.lemmas.List.Sums.{fold-append}
 use Rattle.std.proofs.lemmas.Option.{none-some, same_Some}
-use Rattle.rotation_laws.specs.Directories.{Files, InARow, after, IsHighest, IsRecovered, Keeps}
-use Rattle.rotation_laws.specs.Rotations.{IsLast, Appends, Opens, Publishes, Removes, Rotates, Acts, Runs, IsNew, MayLeave}
+use Rattle.rotation_laws.specs.Directories.{Files, InARow, IsHighest, IsLeading, IsRecovered, Keeps}
+use Rattle.rotation_laws.specs.Rotations.{IsLast, Appends, Opens, Publishes, ChangesBelow, Rotates, Acts, Runs, IsNew, MayLeave}
 use Rattle.rotation_laws.proofs.Rows.{row_same, row_one, row_last, row_appended, row_opened}
 
 both_ways : {V : Type 0} (o : Option V) (v : V) → o ≡ None → o ≡ Some v → ⊥
@@ -47,15 +46,11 @@ module _ {X F : Type 0} (d : Files X F) where
 
 -- ---- each act
 
-module _ {X F : Type 0} (step : X → F → X) (first : X) (frames : List F) (old new : Files X F) (kept : Keeps step first frames old) where
+module _ {X F : Type 0} (leads : X → List F → X → Type 0) (first : X) (frames : List F) (old new : Files X F) (kept : Keeps leads first frames old) where
   abbrev found : IsHighest old kept.number kept.base kept.count kept.behind
   found = kept.found
 
-  append_all : (xs ys zs : List F) → (xs ++ ys) ++ zs ≡ xs ++ (ys ++ zs)
-  append_all [] ys zs = refl
-  append_all (x ∷ xs) ys zs = ap (λ l. x ∷ l) (append_all xs ys zs)
-
-  appended : (more : List F) → Appends more old new → Keeps step first (frames ++ more) new
+  appended : (more : List F) → Appends more old new → Keeps leads first (frames ++ more) new
   appended more act =
       let at : act.last ≡ kept.number + kept.count = last_is old kept.number kept.base kept.count act.last kept.behind act.frames found act.is_last in
       record {
@@ -71,10 +66,10 @@ module _ {X F : Type 0} (step : X → F → X) (first : X) (frames : List F) (ol
           no_later = λ m lt. act.journals.others m (λ same. absurd (omega (arith, same, at, lt))) ∙ found.no_later m lt;
         };
         led = kept.led;
-        all = ap (λ l. l ++ more) kept.all ∙ append_all kept.before kept.behind more;
+        all = ap (λ l. l ++ more) kept.all ∙ append_assoc kept.before kept.behind more;
       }
 
-  opened : Opens old new → Keeps step first frames new
+  opened : Opens old new → Keeps leads first frames new
   opened act =
       let at : act.last ≡ kept.number + kept.count = last_is old kept.number kept.base kept.count act.last kept.behind act.frames found act.is_last in
       record {
@@ -93,7 +88,7 @@ module _ {X F : Type 0} (step : X → F → X) (first : X) (frames : List F) (ol
         all = kept.all;
       }
 
-  published : Publishes step first frames old new → Keeps step first frames new
+  published : Publishes leads first frames old new → Keeps leads first frames new
   published act = record {
     number = act.number;
     base = act.state;
@@ -110,8 +105,8 @@ module _ {X F : Type 0} (step : X → F → X) (first : X) (frames : List F) (ol
     all = act.all;
   }
 
-  removed : Removes old new → Keeps step first frames new
-  removed act =
+  changed : ChangesBelow old new → Keeps leads first frames new
+  changed act =
       let below : act.number ≤ kept.number = by (cases_lt kept.number act.number) in
       record {
         number = kept.number;
@@ -120,10 +115,10 @@ module _ {X F : Type 0} (step : X → F → X) (first : X) (frames : List F) (ol
         before = kept.before;
         behind = kept.behind;
         found = record {
-          snapshot = act.kept_snapshots kept.number below ∙ found.snapshot;
-          highest = λ m lt. act.kept_snapshots m (omega (arith, below, lt)) ∙ found.highest m lt;
-          row = row_same old new kept.number (suc kept.count) kept.behind (λ m le lt. act.kept_journals m (omega (arith, below, le))) found.row;
-          no_later = λ m lt. act.kept_journals m (omega (arith, below, lt)) ∙ found.no_later m lt;
+          snapshot = act.snapshots kept.number below ∙ found.snapshot;
+          highest = λ m lt. act.snapshots m (omega (arith, below, lt)) ∙ found.highest m lt;
+          row = row_same old new kept.number (suc kept.count) kept.behind (λ m le lt. act.journals m (omega (arith, below, le))) found.row;
+          no_later = λ m lt. act.journals m (omega (arith, below, lt)) ∙ found.no_later m lt;
         };
         led = kept.led;
         all = kept.all;
@@ -133,67 +128,54 @@ module _ {X F : Type 0} (step : X → F → X) (first : X) (frames : List F) (ol
       by (inl lt) = absurd (both_ways (old.snapshot act.number) act.state (found.highest act.number lt) act.named)
       by (inr le) = le
 
-  rotated : Rotates step first frames old new → Keeps step first frames new
+  rotated : Rotates leads first frames old new → Keeps leads first frames new
   rotated (inl act) = opened act
   rotated (inr (inl act)) = published act
-  rotated (inr (inr act)) = removed act
+  rotated (inr (inr act)) = changed act
 
-  -- nothing is done
-  idle : ((m : ℕ) → (new.snapshot m ≡ old.snapshot m) × (new.journal m ≡ old.journal m)) → Keeps step first frames new
-  idle same = record {
-    number = kept.number;
-    base = kept.base;
-    count = kept.count;
-    before = kept.before;
-    behind = kept.behind;
-    found = record {
-      snapshot = (same kept.number).0 ∙ found.snapshot;
-      highest = λ m lt. (same m).0 ∙ found.highest m lt;
-      row = row_same old new kept.number (suc kept.count) kept.behind (λ m le lt. (same m).1) found.row;
-      no_later = λ m lt. (same m).1 ∙ found.no_later m lt;
-    };
-    led = kept.led;
-    all = kept.all;
-  }
+pub act_keeps : {X F : Type 0} (leads : X → List F → X → Type 0) (first : X) (frames frames' : List F) (old new : Files X F) → Keeps leads first frames old → Acts leads first frames old frames' new → Keeps leads first frames' new
+act_keeps leads first frames frames' old new kept (inl act) =
+    subst (λ fs. Keeps leads first fs new) (sym act.2) (appended leads first frames old new kept act.0 act.1)
+act_keeps leads first frames frames' old new kept (inr act) =
+    subst (λ fs. Keeps leads first fs new) (sym act.1) (rotated leads first frames old new kept act.0)
 
-pub act_keeps : {X F : Type 0} (step : X → F → X) (first : X) (frames frames' : List F) (old new : Files X F) → Keeps step first frames old → Acts step first frames old frames' new → Keeps step first frames' new
-act_keeps step first frames frames' old new kept (inl act) =
-    subst (λ fs. Keeps step first fs new) (sym act.2) (appended step first frames old new kept act.0 act.1)
-act_keeps step first frames frames' old new kept (inr act) =
-    subst (λ fs. Keeps step first fs new) (sym act.1) (rotated step first frames old new kept act.0)
+runs_keep : {X F : Type 0} (leads : X → List F → X → Type 0) (first : X) (acts : ℕ) (frames frames' : List F) (old new : Files X F) → Keeps leads first frames old → Runs leads first acts frames old frames' new → Keeps leads first frames' new
+runs_keep leads first zero frames frames' old new kept run =
+    subst (λ d. Keeps leads first frames' d) (sym run.1) (subst (λ fs. Keeps leads first fs old) (sym run.0) kept)
+runs_keep leads first (suc n) frames frames' old new kept run =
+    runs_keep leads first n run.0 frames' run.1 new (act_keeps leads first frames run.0 old run.1 kept run.2) run.3
 
-runs_keep : {X F : Type 0} (step : X → F → X) (first : X) (acts : ℕ) (frames frames' : List F) (old new : Files X F) → Keeps step first frames old → Runs step first acts frames old frames' new → Keeps step first frames' new
-runs_keep step first zero frames frames' old new kept run =
-    subst (λ fs. Keeps step first fs new) (sym run.0) (idle step first frames old new kept run.1)
-runs_keep step first (suc n) frames frames' old new kept run =
-    runs_keep step first n run.0 frames' run.1 new (act_keeps step first frames run.0 old run.1 kept run.2) run.3
+pub crash_keeps : {X F : Type 0} (leads : X → List F → X → Type 0) (first : X) (frames frames' : List F) (now left : Files X F) → Keeps leads first frames now → MayLeave leads first frames now frames' left → Keeps leads first frames' left
+crash_keeps leads first frames frames' now left kept crash = changed leads first frames' crash.0 left (by crash.1) crash.2
+  where
+    by : Runs leads first 0 frames now frames' crash.0 ⊎ Acts leads first frames now frames' crash.0 → Keeps leads first frames' crash.0
+    by (inl none) = runs_keep leads first 0 frames frames' now crash.0 kept none
+    by (inr act) = act_keeps leads first frames frames' now crash.0 kept act
 
 -- ---- a start
 
-pub recovered_all : {X F : Type 0} (step : X → F → X) (first recovered : X) (frames : List F) (d : Files X F) → Keeps step first frames d → IsRecovered step d recovered → recovered ≡ after step first frames
-recovered_all step first recovered frames d kept start =
+pub recovered_all : {X F : Type 0} (leads : X → List F → X → Type 0) (first recovered : X) (frames : List F) (d : Files X F)
+    → IsLeading leads → Keeps leads first frames d → IsRecovered leads d recovered → leads first frames recovered
+recovered_all leads first recovered frames d laws kept start =
     let same = one_found d kept.number start.number kept.base start.base kept.count start.count kept.behind start.frames kept.found start.found in
-    start.led
-    ∙ (λ i. after step (sym same.1 i) (sym same.2 i))
-    ∙ ap (λ x. after step x kept.behind) kept.led
-    ∙ sym (fold-append step first kept.before kept.behind)
-    ∙ ap (after step first) (sym kept.all)
+    let led : leads kept.base kept.behind recovered = subst (λ b. leads b kept.behind recovered) (sym same.1) (subst (λ fs. leads start.base fs recovered) (sym same.2) start.led) in
+    subst (λ fs. leads first fs recovered) (sym kept.all) (laws.joins first kept.base recovered kept.before kept.behind kept.led led)
 
-pub found_again : {X F : Type 0} (step : X → F → X) (first : X) (frames : List F) (d : Files X F) → Keeps step first frames d → IsRecovered step d (after step first frames)
-found_again step first frames d kept = record {
-  number = kept.number;
-  base = kept.base;
-  count = kept.count;
-  frames = kept.behind;
-  found = kept.found;
-  led =
-      ap (after step first) kept.all
-      ∙ fold-append step first kept.before kept.behind
-      ∙ ap (λ x. after step x kept.behind) (sym kept.led);
-}
+pub found_again : {X F : Type 0} (leads : X → List F → X → Type 0) (first after : X) (frames : List F) (d : Files X F)
+    → IsLeading leads → Keeps leads first frames d → leads first frames after → IsRecovered leads d after
+found_again leads first after frames d laws kept led =
+    let by = laws.parts first after kept.before kept.behind (subst (λ fs. leads first fs after) kept.all led) in
+    record {
+      number = kept.number;
+      base = kept.base;
+      count = kept.count;
+      frames = kept.behind;
+      found = kept.found;
+      led = laws.joins kept.base by.0 after [] kept.behind (laws.one_state first kept.base by.0 kept.before kept.led by.1) by.2;
+    }
 
-new_keeps : {X F : Type 0} (step : X → F → X) (first : X) (d : Files X F) → IsNew first d → Keeps step first [] d
-new_keeps step first d made = record {
+new_keeps : {X F : Type 0} (leads : X → List F → X → Type 0) (first : X) (d : Files X F) → IsLeading leads → IsNew first d → Keeps leads first [] d
+new_keeps leads first d laws made = record {
   number = 1;
   base = first;
   count = 0;
@@ -205,18 +187,12 @@ new_keeps step first d made = record {
     row = ([], [], made.journal, refl, refl);
     no_later = λ m lt. made.no_journal m (omega (arith, lt));
   };
-  led = refl;
+  led = laws.empty first;
   all = refl;
 }
 
-pub nothing_lost : {X F : Type 0} (step : X → F → X) (first recovered : X) (acts : ℕ) (frames frames' : List F) (made now left : Files X F)
-    → IsNew first made → Runs step first acts [] made frames now → MayLeave step first frames now frames' left → IsRecovered step left recovered → recovered ≡ after step first frames'
-nothing_lost step first recovered acts frames frames' made now left is_new run crash start =
-    recovered_all step first recovered frames' left (by crash) start
-  where
-    kept : Keeps step first frames now
-    kept = runs_keep step first acts [] frames made now (new_keeps step first made is_new) run
-
-    by : MayLeave step first frames now frames' left → Keeps step first frames' left
-    by (inl idle) = runs_keep step first 0 frames frames' now left kept idle
-    by (inr act) = act_keeps step first frames frames' now left kept act
+-- what a crash leaves behind any acts keeps all frames
+pub left_keeps : {X F : Type 0} (leads : X → List F → X → Type 0) (first : X) (acts : ℕ) (frames frames' : List F) (made now left : Files X F)
+    → IsLeading leads → IsNew first made → Runs leads first acts [] made frames now → MayLeave leads first frames now frames' left → Keeps leads first frames' left
+left_keeps leads first acts frames frames' made now left laws is_new run crash =
+    crash_keeps leads first frames frames' now left (runs_keep leads first acts [] frames made now (new_keeps leads first made laws is_new) run) crash

@@ -1,14 +1,10 @@
 -- Journals in a row: what they hold is one list of frames; what happens at their end adds to it, and what happens elsewhere
 -- leaves it.
-use Rattle.std.proofs.Common.{◌≡◌, ℕ, zero, suc, ◌+◌, ◌<◌, ◌≤◌, List, [], ◌∷◌, ◌++◌, Some, refl, sym, ap, ◌∙◌, arith, append-nil}
+use Rattle.std.proofs.Common.{◌≡◌, ℕ, zero, suc, ◌+◌, ◌<◌, ◌≤◌, List, [], ◌++◌, Some, refl, sym, ap, ◌∙◌, arith, append_assoc, append-nil}
 use Rattle.std.specs.Prelude.{◌≢◌}
 use Rattle.std.proofs.lemmas.Option.{same_Some}
 use Rattle.rotation_laws.specs.Directories.{Files, InARow}
 use Rattle.rotation_laws.specs.Rotations.{Sets}
-
-append_all : {F : Type 0} (xs ys zs : List F) → (xs ++ ys) ++ zs ≡ xs ++ (ys ++ zs)
-append_all [] ys zs = refl
-append_all (x ∷ xs) ys zs = ap (λ l. x ∷ l) (append_all xs ys zs)
 
 -- the journals of a row stay, whatever is done to others
 pub row_same : {X F : Type 0} (d e : Files X F) (from count : ℕ) (frames : List F) → ((m : ℕ) → from ≤ m → m < from + count → e.journal m ≡ d.journal m)
@@ -57,7 +53,7 @@ row_appended d e from (suc n) last frames held more is there sets row =
       row.0,
       row.1 ++ more,
       sets.others from other ∙ row.2,
-      ap (λ l. l ++ more) row.3 ∙ append_all row.0 row.1 more,
+      ap (λ l. l ++ more) row.3 ∙ append_assoc row.0 row.1 more,
       row_appended d e (suc from) n last row.1 held more (omega (arith, is)) there sets row.4,
     )
 
