@@ -1,3 +1,6 @@
 pub mod NewJournals
 pub mod GoneOn
 pub mod CopiesThere
+pub mod Touched
+pub mod Images
+pub mod Stepping
