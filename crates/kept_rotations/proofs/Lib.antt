@@ -4,3 +4,4 @@ pub mod CopiesThere
 pub mod Touched
 pub mod Images
 pub mod Stepping
+pub mod Leading

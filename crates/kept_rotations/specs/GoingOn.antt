@@ -20,3 +20,10 @@ IsFresh seen journal = IfSome (seen journal.disk) (λ file. HoldsFrames journal.
 -- The journal is the one before, of which no byte has changed, or another one without frames.
 abbrev pub GoesOn : {D : Type 0} → (D → Option (List ℕ)) → (old new : JournalState D) → Type 0
 GoesOn seen old new = ((seen new.disk ≡ seen old.disk) × (new.key ≡ old.key)) ⊎ IsFresh seen new
+
+-- The broker, its sessions, what is noted and the journal are as before, and what is kept is kept; what is barred perhaps isn't.
+pub record IsSameButBarred {D : Type 0} (seen : D → Option (List ℕ)) (old new : KeptState D) : Type 0 where
+  pub world : new.world ≡ old.world
+  pub notes : new.notes ≡ old.notes
+  pub journal : new.journal ≡ old.journal
+  pub kept : (first start : State) → IsKept seen first start old → IsKept seen first start new

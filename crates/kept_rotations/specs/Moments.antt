@@ -1,12 +1,14 @@
 -- A snapshot of one moment, which is written while clients go on. This project's own; Kafka's documentation has its like in
 -- "Operations", section "Snapshots" of KRaft.
-use Rattle.std.specs.Prelude.{◌≡◌, ◌⊎◌, ℕ, true, List, Option, Some, None, IfSome}
+use Rattle.std.specs.Prelude.{◌≡◌, ℕ, true, List, Option, IfSome}
 use Rattle.std.specs.Int.{cast_signed, w64}
 use Rattle.broker_state.specs.declared.place.Place.{Place}
 use Rattle.broker_state.specs.State.{State}
 use Rattle.state_snapshots.specs.Snapshots.{snapshot_bytes}
 use Rattle.snapshot_drafts.specs.Parts.{DraftState, is_missing}
 use Rattle.snapshot_drafts.specs.Drafts.{IsDraftOf, content_in}
+use Rattle.kept_sessions.specs.Barring.{is_barred}
+use Rattle.kept_sessions.specs.Keeping.{KeptState}
 use Rattle.kept_rotations.specs.declared.files.KeptFiles.{KeptFiles}
 
 -- The numbers and sizes of a directory's files, and the snapshot that is being written, if one is.
@@ -16,13 +18,18 @@ pub record RotationState (F : Type 0) : Type 0 where
 
 -- The draft is of the snapshot of this number of what the broker held at a moment (`base`): each image that isn't missing is of that
 -- moment, and of what is missing the broker holds the same still.
-pub record IsOfMoment {F : Type 0} (seen : F → Option (List ℕ)) (number : ℕ) (base now : State) (d : DraftState F) : Type 0 where
+pub record HoldsMoment {F : Type 0} (seen : F → Option (List ℕ)) (number : ℕ) (base now : State) (d : DraftState F) : Type 0 where
   pub draft : IsDraftOf seen (cast_signed w64 number) base d
   pub unchanged : (place : Place) → is_missing d place ≡ true → content_in now place ≡ content_in base place
 
+-- That, and no partition whose image is missing may change.
+pub record IsOfMoment {D F : Type 0} (seen : F → Option (List ℕ)) (number : ℕ) (base : State) (k : KeptState D) (d : DraftState F) : Type 0 where
+  pub holds : HoldsMoment seen number base k.world.state d
+  pub guarded : (place : Place) → is_missing d place ≡ true → is_barred k.barred place ≡ true
+
 -- the snapshot that is being written, if one is, is of this moment, and has the last journal's number
-abbrev pub WritesMoment : {F : Type 0} (seen : F → Option (List ℕ)) (base now : State) → RotationState F → Type 0
-WritesMoment seen base now r = IfSome r.draft (IsOfMoment seen r.files.last base now)
+abbrev pub WritesMoment : {D F : Type 0} (seen : F → Option (List ℕ)) (base : State) (k : KeptState D) → RotationState F → Type 0
+WritesMoment seen base k r = IfSome r.draft (IsOfMoment seen r.files.last base k)
 
 -- known bytes are those of the snapshot of a moment
 abbrev pub AreOfMoment : (bytes : Option (List ℕ)) (number : ℕ) (base : State) → Type 0

@@ -6,6 +6,7 @@ use Rattle.data_directory.specs.declared.names.Name.{Name}
 use Rattle.data_directory.specs.declared.names.Name.TheVariants.{Snapshot, Journal, Making}
 use Rattle.data_directory.specs.Directories.{DirectoryState, IsThere, Becomes, KeepsOthers, AreCertain, IsPublished}
 use Rattle.journal.specs.Journals.{JournalState}
+use Rattle.kept_sessions.specs.Keeping.{KeptState}
 use Rattle.kept_rotations.specs.GoingOn.{IsFresh}
 use Rattle.kept_rotations.specs.Moments.{RotationState, WritesMoment, AreOfMoment}
 
@@ -39,36 +40,36 @@ pub record IsSame {D : Type 0} (seen : D → Option (List ℕ)) (old new : Journ
   pub key : new.key ≡ old.key
 
 -- The snapshot of the last number is there as before; or it got its name in a call that failed, and is whole.
-abbrev pub MayBeNamed : {F : Type 0} (seen : F → Option (List ℕ)) (now : State) (old : RotationState F) (d d' : DirectoryState) → Type 0
-MayBeNamed seen now old d d' =
+abbrev pub MayBeNamed : {D F : Type 0} (seen : F → Option (List ℕ)) (k : KeptState D) (old : RotationState F) (d d' : DirectoryState) → Type 0
+MayBeNamed seen k old d d' =
     (d'.there (Snapshot old.files.last) ≡ d.there (Snapshot old.files.last))
-    ⊎ ((base : State) → WritesMoment seen base now old → AreOfMoment (d'.bytes old.files.last) old.files.last base)
+    ⊎ ((base : State) → WritesMoment seen base k old → AreOfMoment (d'.bytes old.files.last) old.files.last base)
 
 -- The same files count as before, and the snapshot that is being written goes on, or is given up. If a journal was to be made, there
 -- is none behind the last one.
-pub record Stays {F : Type 0} (seen : F → Option (List ℕ)) (now : State) (old new : RotationState F) (d d' : DirectoryState) : Type 0 where
+pub record Stays {D F : Type 0} (seen : F → Option (List ℕ)) (k k' : KeptState D) (old new : RotationState F) (d d' : DirectoryState) : Type 0 where
   pub files : new.files ≡ old.files
-  pub moment : (base : State) → WritesMoment seen base now old → WritesMoment seen base now new
+  pub moment : (base : State) → WritesMoment seen base k old → WritesMoment seen base k' new
   pub names : KeepsOthers (IsTried old.files.last) d d'
   pub no_later : (d'.there (Journal (old.files.last + 1)) ≡ d.there (Journal (old.files.last + 1))) ⊎ IsThere d' (Journal (old.files.last + 1)) false
-  pub named : MayBeNamed seen now old d d'
+  pub named : MayBeNamed seen k old d d'
 
 -- A journal was made behind the last one, for certain, and a snapshot of what the broker holds now is begun, perhaps.
-pub record Opens {F : Type 0} (seen : F → Option (List ℕ)) (now : State) (old new : RotationState F) (d d' : DirectoryState) : Type 0 where
+pub record Opens {D F : Type 0} (seen : F → Option (List ℕ)) (k : KeptState D) (old new : RotationState F) (d d' : DirectoryState) : Type 0 where
   pub last : new.files.last ≡ old.files.last + 1
   pub snapshot : new.files.snapshot ≡ old.files.snapshot
-  pub moment : WritesMoment seen now now new
+  pub moment : WritesMoment seen k.world.state k new
   pub was_absent : IsThere d (Journal (old.files.last + 1)) false
   pub there : Becomes (Journal (old.files.last + 1)) true d d'
   pub names : KeepsOthers (IsNext old.files.last) d d'
   pub certain : AreKept d'
 
 -- The snapshot that was being written is whole, and has its name for certain.
-pub record Publishes {F : Type 0} (seen : F → Option (List ℕ)) (now : State) (old new : RotationState F) (d d' : DirectoryState) : Type 0 where
+pub record Publishes {D F : Type 0} (seen : F → Option (List ℕ)) (k : KeptState D) (old new : RotationState F) (d d' : DirectoryState) : Type 0 where
   pub last : new.files.last ≡ old.files.last
   pub snapshot : new.files.snapshot ≡ old.files.last
   pub draft : new.draft ≡ None
-  pub moment : (base : State) → WritesMoment seen base now old → AreOfMoment (d'.bytes old.files.last) old.files.last base
+  pub moment : (base : State) → WritesMoment seen base k old → AreOfMoment (d'.bytes old.files.last) old.files.last base
   pub there : Becomes (Snapshot old.files.last) true d d'
   pub names : KeepsOthers (IsPublished old.files.last) d d'
   pub certain : AreCertain d'
@@ -81,8 +82,8 @@ pub record Drops {F : Type 0} (old new : RotationState F) (d d' : DirectoryState
   pub names : KeepsOthers (IsBelow old.files.snapshot) d d'
 
 -- One step: one of these, and the last journal is a new one, without frames, just where one was made.
-abbrev pub Steps : {D F : Type 0} (seen : D → Option (List ℕ)) (drafted : F → Option (List ℕ)) (now : State) (old new : RotationState F)
-    (d d' : DirectoryState) (j j' : JournalState D) → Type 0
-Steps seen drafted now old new d d' j j' =
-    (Opens drafted now old new d d' × IsFresh seen j')
-    ⊎ (IsSame seen j j' × (Stays drafted now old new d d' ⊎ (Publishes drafted now old new d d' ⊎ Drops old new d d')))
+abbrev pub Steps : {D F : Type 0} (seen : D → Option (List ℕ)) (drafted : F → Option (List ℕ)) (k k' : KeptState D) (old new : RotationState F)
+    (d d' : DirectoryState) → Type 0
+Steps seen drafted k k' old new d d' =
+    (Opens drafted k' old new d d' × IsFresh seen k'.journal)
+    ⊎ (IsSame seen k.journal k'.journal × (Stays drafted k k' old new d d' ⊎ (Publishes drafted k old new d d' ⊎ Drops old new d d')))

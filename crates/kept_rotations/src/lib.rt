@@ -11,6 +11,7 @@
 mod dropping;
 mod faults;
 mod files;
+pub mod laws;
 mod opening;
 mod rotation;
 mod whole;
