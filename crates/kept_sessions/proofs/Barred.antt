@@ -1,27 +1,26 @@
 -- Partitions that are barred, and those that a request may change.
-use Rattle.std.proofs.Common.{◌≡◌, ◌⊎◌, inl, inr, ℕ, zero, suc, ◌+◌, ◌<◌, Bool, true, false, ℤ, pos, List, [], ◌∷◌, ◌++◌, length, Option, Some, None, Result, Ok, Err, refl, sym, ap, subst, ◌∙◌, append_assoc, drop, arith}
-use Rattle.std.specs.Prelude.{IfSome, OnOk, map, is_some, slice_get, get_or, bytes_eq, ◌||◌, nat_lt}
-use Rattle.std.specs.List.{find}
-use Rattle.std.specs.Option.{option_and_then}
+use Rattle.std.proofs.Common.{◌≡◌, ◌⊎◌, inl, inr, ℕ, zero, suc, ◌+◌, ◌<◌, Bool, true, false, List, [], ◌∷◌, ◌++◌, length, Option, Some, None, Result, Ok, Err, refl, sym, ap, subst, ◌∙◌, append_assoc, drop, arith}
+use Rattle.std.specs.Prelude.{IfSome, OnOk, map, is_some, slice_get, get_or, not, ◌&&◌, ◌||◌, nat_lt}
+use Rattle.std.specs.List.{filter}
+use Rattle.std.specs.Option.{option_and_then, option_map}
 use Rattle.std.proofs.Math.Numerals.{add-one}
 use Rattle.std.proofs.Math.Seq.{drop-cons}
 use Rattle.std.proofs.lemmas.Bool.{true≢false}
 use Rattle.std.proofs.lemmas.List.{length-map, get_or-map}
 use Rattle.std.proofs.lemmas.List.Concat.{flat_map-cons}
-use Rattle.std.proofs.lemmas.List.Folds.{find_at, list_any-append}
+use Rattle.std.proofs.lemmas.List.Folds.{list_any-append}
+use Rattle.std.proofs.lemmas.Option.{slice_get-map}
 use Rattle.frame_fields.specs.Fields.{Value}
 use Rattle.frame_fields.specs.Types.{TopicOf, topic, topic_request}
 use Rattle.request_frames.specs.Produce.{ProducePartitionValue, produce_partition, produce_partition_value}
 use Rattle.request_frames.specs.Requests.{BodyValue}
 use Rattle.broker_state.specs.declared.place.Place.{Place}
-use Rattle.broker_state.specs.State.{State, Topic, partition_of}
-use Rattle.broker_state.specs.Places.{IsPlace}
+use Rattle.broker_state.specs.State.{State, Topic}
 use Rattle.broker_state.specs.Parts.{TopicParts, topic_contents}
-use Rattle.broker_state.proofs.PlacedTopics.{first_at}
 use Rattle.broker_node.specs.Effects.Effect.{reads, gives_id, appends, takes, cleans, trims}
 use Rattle.broker_node.specs.Effects.{Effect, TopicPartition, effect, places, produced_to}
 use Rattle.exact_replies.specs.Exact.{is_change, may_change}
-use Rattle.kept_sessions.specs.Barring.{AreFree, AvoidsBarred, IsAmong, IsBarredAmong, MeetsBarred, all_places, entries_to, is_barred, is_same_place, places_from, topic_places}
+use Rattle.kept_sessions.specs.Barring.{AreFree, AvoidsBarred, IsAmong, IsBarredAmong, MeetsBarred, all_places, content_at_place, entries_to, is_barred, is_same_place, places_from, topic_places}
 
 -- ---- all places, one after the other
 
@@ -78,21 +77,25 @@ below (x ∷ xs) zero e = grind arith
 below (x ∷ xs) (suc n) e = grind (arith, below xs n e)
 
 -- what stands at a place
-there_is : (ts : List Topic) (place : Place) (o : Option Topic) → o ≡ slice_get ts place.topic → is_some (option_and_then (partition_of (pos place.partition)) o) ≡ true → is_barred (places_from 0 ts) place ≡ true
+there_is : (ts : List Topic) (place : Place) (o : Option Topic) → o ≡ slice_get ts place.topic → is_some (option_and_then (λ parts. slice_get parts place.partition) (option_map (λ (t : Topic). t.partitions) o)) ≡ true → is_barred (places_from 0 ts) place ≡ true
 there_is ts place None at known = absurd (true≢false (sym known))
 there_is ts place (Some t) at known = in_all ts 0 place.topic t place (sym at) (omega arith) (below t.partitions place.partition known)
 
-all_barred : (s : State) (barred : List Place) → barred ≡ all_places s → (place : Place) → IsPlace s place → is_barred barred place ≡ true
-all_barred s barred is place of =
-    let has : Topic → Bool = λ t. bytes_eq t.name of.0 in
-    let at = (first_at has s.topics place.topic of.2.topic).0 in
-    let found : find has s.topics ≡ slice_get s.topics place.topic = find_at has s.topics ∙ ap (λ (n : ℕ). slice_get s.topics n) (sym at) in
+all_barred : (s : State) (barred : List Place) → barred ≡ all_places s → (place : Place) → is_some (content_at_place s place) ≡ true → is_barred barred place ≡ true
+all_barred s barred is place known =
     ap (λ (b : List Place). is_barred b place) is
-    ∙ there_is s.topics place (find has s.topics) found (ap (λ (q : ℤ). is_some (option_and_then (partition_of q) (find has s.topics))) (sym of.2.partition) ∙ of.2.known)
+    ∙ there_is s.topics place (slice_get s.topics place.topic) refl
+    (ap (λ o. is_some (option_and_then (λ parts. slice_get parts place.partition) o)) (sym (slice_get-map (λ (t : Topic). t.partitions) s.topics place.topic)) ∙ known)
 
-pub raised : {T E : Type 0} (s : State) (r : Result T E) (old new : List Place) → old ≡ [] → OnOk r (new ≡ old ++ all_places s) → OnOk r ((place : Place) → IsPlace s place → is_barred new place ≡ true)
+pub raised : {T E : Type 0} (s : State) (r : Result T E) (old new : List Place) → old ≡ [] → OnOk r (new ≡ old ++ all_places s) → OnOk r ((place : Place) → is_some (content_at_place s place) ≡ true → is_barred new place ≡ true)
 raised s (Ok x) old new none is = all_barred s new (is ∙ ap (λ (b : List Place). b ++ all_places s) none)
 raised s (Err e) old new none is = tt
+
+-- ---- what is barred once a partition is lifted
+
+pub lifted : (lift : Place) (barred : List Place) (place : Place) → is_barred (filter (λ other. not (is_same_place other lift)) barred) place ≡ (is_barred barred place && not (is_same_place place lift))
+lifted lift [] place = refl
+lifted lift (b ∷ bs) place = grind (arith, lifted lift bs place)
 
 -- ---- a request that only reads
 

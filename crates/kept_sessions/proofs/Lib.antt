@@ -1,4 +1,6 @@
 pub mod Barred
+pub mod PlacesStay
+pub mod BarredStay
 pub mod Handling
 pub mod Replayed
 pub mod Kept

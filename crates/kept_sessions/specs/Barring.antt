@@ -1,6 +1,8 @@
 -- Partitions that are barred: none of them may change until it is lifted. Partitions are named by their places in the broker.
-use Rattle.std.specs.Prelude.{◌≡◌, ◌⊎◌, ℕ, zero, suc, ◌+◌, nat_eq, Bool, true, false, ◌&&◌, List, [], ◌∷◌, ◌++◌, length, map}
+use Rattle.std.specs.Prelude.{◌≡◌, ◌⊎◌, ℕ, zero, suc, ◌+◌, nat_eq, Bool, true, false, ◌&&◌, List, [], ◌∷◌, ◌++◌, length, map, slice_get, Option}
 use Rattle.std.specs.List.{AllByRecursion, list_any}
+use Rattle.std.specs.Option.{option_and_then}
+use Rattle.content.specs.Content.{Content}
 use Rattle.request_frames.specs.Produce.{ProducePartitionValue}
 use Rattle.request_frames.specs.Requests.{BodyValue}
 use Rattle.broker_state.specs.declared.place.Place.{Place}
@@ -13,6 +15,17 @@ is_same_place p q = nat_eq p.topic q.topic && nat_eq p.partition q.partition
 
 abbrev pub is_barred : List Place → Place → Bool
 is_barred barred place = list_any (is_same_place place) barred
+
+-- ---- what stands at a place
+
+-- the content of the partition at a place
+abbrev pub content_at_place : State → Place → Option Content
+content_at_place s place =
+    option_and_then (λ parts. slice_get parts place.partition) (slice_get (map (λ t. t.partitions) s.topics) place.topic)
+
+-- each partition that is barred is as it was
+abbrev pub KeepsBarred : List Place → (s after : State) → Type 0
+KeepsBarred barred s after = (place : Place) → is_barred barred place ≡ true → content_at_place after place ≡ content_at_place s place
 
 -- ---- all partitions
 

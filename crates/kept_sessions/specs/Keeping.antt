@@ -2,6 +2,7 @@
 use Rattle.std.specs.Prelude.{◌≡◌, ◌⊎◌, ℕ, ◌+◌, pos, drop, Bool, true, false, List, [], ◌∷◌, ◌++◌, length, map, Option, Some, None, Result, Ok, Err, IfSome}
 use Rattle.std.specs.List.{flat_map, AllByRecursion}
 use Rattle.frame_fields.specs.Frames.{IsWithinLimit, stream}
+use Rattle.broker_state.specs.declared.place.Place.{Place}
 use Rattle.broker_state.specs.State.{State}
 use Rattle.sessions.specs.Turns.{Exchange, InTurn, replied}
 use Rattle.sessions.specs.declared.visiting.Seat.{Seat}
@@ -21,11 +22,13 @@ use Rattle.journal.specs.Journals.{JournalState, StopsAppend, next_bytes, next_g
 use Rattle.kept_sessions.specs.Replaying.{Replays, ReplaysFrames}
 use Rattle.kept_sessions.specs.Noting.{NotesValue, HasNotes, Notes}
 
--- The broker and its sessions, the frames that are noted and not in the journal, and the journal.
+-- The broker and its sessions, the frames that are noted and not in the journal, the journal, and the places of the
+-- partitions that may not change yet.
 pub record KeptState (D : Type 0) : Type 0 where
   pub world : World
   pub notes : NotesValue
   pub journal : JournalState D
+  pub barred : List Place
 
 abbrev pub no_notes : NotesValue
 no_notes = record { frames = []; has_lacked = false }

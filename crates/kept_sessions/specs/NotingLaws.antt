@@ -1,12 +1,13 @@
--- By no frame nothing is noted; frames noted behind others are noted behind all.
-use Rattle.std.specs.Prelude.{ℕ, pos, List, [], ◌∷◌, ◌++◌, length}
+-- By no frame nothing is noted; frames noted behind others are noted behind all. So is what is barred kept.
+use Rattle.std.specs.Prelude.{◌≡◌, ℕ, true, pos, List, [], ◌∷◌, ◌++◌, length}
 use Rattle.std.specs.List.{AllByRecursion}
 use Rattle.std.proofs.Common.{refl, sym, ap, subst, ◌∙◌, append_assoc, append-nil}
 use Rattle.std.proofs.lemmas.Grind.{flat_map-append}
 use Rattle.frame_fields.specs.Frames.{IsWithinLimit, framed, stream}
 use Rattle.broker_state.specs.State.{State}
 use Rattle.kept_sessions.specs.Replaying.{Replays}
-use Rattle.kept_sessions.specs.Noting.{NotesValue, Notes}
+use Rattle.kept_sessions.specs.Barring.{is_barred}
+use Rattle.kept_sessions.specs.Noting.{NotesValue, NotesState, Notes, HandlesFrames}
 
 pub nothing_noted : (n : NotesValue) (s : State) → Notes n s n s
 nothing_noted n s = record { noted = []; frames = sym (append-nil n.frames); within = tt; exact = λ suffices. (suffices, refl) }
@@ -29,4 +30,16 @@ noted_then n m k s mid after first others = record {
   exact = λ suffices.
       let later = others.exact suffices in let before = first.exact later.0 in
       (before.0, replays_then s mid after first.noted others.noted before.1 later.1);
+}
+
+-- ---- what is barred
+
+pub nothing_handled : (n : NotesState) (s : State) → HandlesFrames n s n s
+nothing_handled n s = record { notes = nothing_noted n.notes s; barred = refl; keeps = λ place barred. refl }
+
+pub handled_then : (n m k : NotesState) (s mid after : State) → HandlesFrames n s m mid → HandlesFrames m mid k after → HandlesFrames n s k after
+handled_then n m k s mid after first others = record {
+  notes = noted_then n.notes m.notes k.notes s mid after first.notes others.notes;
+  barred = others.barred ∙ first.barred;
+  keeps = λ place barred. others.keeps place (subst (λ bs. is_barred bs place ≡ true) (sym first.barred) barred) ∙ first.keeps place barred;
 }

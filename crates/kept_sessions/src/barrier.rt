@@ -1,14 +1,14 @@
 //! Partitions that may not change yet.
 
-ghost use Rattle.std.specs.Prelude.{◌≡◌, ◌++◌, true, not, [], map, slice_get, IfNone, IfSome, OnErr, OnOk};
+ghost use Rattle.std.specs.Prelude.{◌≡◌, ◌++◌, true, not, [], is_some, map, slice_get, IfNone, IfSome, OnErr, OnOk};
 ghost use Rattle.std.specs.List.{filter};
 ghost use Rattle.frame_fields.specs.Arrays.{values};
 ghost use Rattle.frame_fields.specs.Types.{topic, topic_request};
 ghost use Rattle.request_frames.specs.Produce.{produce_partition, produce_partition_value};
 ghost use Rattle.request_frames.specs.Views.{request_body};
-ghost use Rattle.broker_state.specs.Places.{IsPlace, IsPlaceOf};
+ghost use Rattle.broker_state.specs.Places.{IsPlaceOf};
 ghost use Rattle.broker_node.specs.Effects.{produced_to};
-ghost use Rattle.kept_sessions.specs.Barring.{AreFree, AvoidsBarred, IsBarredAmong, IsFree, MeetsBarred, all_places, entries_to, is_barred, is_same_place, topic_places};
+ghost use Rattle.kept_sessions.specs.Barring.{AreFree, AvoidsBarred, IsBarredAmong, IsFree, MeetsBarred, all_places, content_at_place, entries_to, is_barred, is_same_place, topic_places};
 
 use broker_state::{BrokerState, GROUP_TOPIC, Place};
 use frame_fields::{Array, Topic, Topics};
@@ -84,8 +84,8 @@ impl<A: Allocator + Copy> Barrier<A> {
     /// Out of memory: nothing is barred.
     pub(crate) fn raise<S: BatchStore>(&mut self, state: &BrokerState<S>) -> Result<(), AllocError>
         ensures raises { OnOk result (self.new ≡ all_places state.now) }
-        ensures bars_all { OnOk result ((place : Place) → IsPlace state.now place
-            → is_barred self.new place ≡ true) }
+        ensures bars_all { OnOk result ((place : Place)
+            → is_some (content_at_place state.now place) ≡ true → is_barred self.new place ≡ true) }
         ensures none_on_error { OnErr result (self.new ≡ []) }
     {
         self.places.clear();
