@@ -5,7 +5,7 @@ use Rattle.std.proofs.lemmas.List.{length-take}
 use Rattle.broker_state.specs.State.{ConfigValue, State, new_state}
 use Rattle.snapshots.specs.Heads.{SnapshotValue, StartsWithHead}
 use Rattle.state_snapshots.specs.Restoring.{IsRestored}
-use Rattle.kept_starts.specs.Starts.{IsFrontOf, IsOfSnapshot}
+use Rattle.kept_starts.specs.Starts.{HoldsImages, IsFrontOf}
 
 -- ---- pieces
 
@@ -70,16 +70,15 @@ starts_in (Some file) s front rest is head = record {
   parts = begins _ front rest file head.parts is;
 }
 
-pub of_snapshot : {D : Type 0} (seen : D → Option (List ℕ)) (file : D) (config : ConfigValue) (head : SnapshotValue) (front rest : List ℕ) (at : ℕ) (before held after : State)
-    → IsFrontOf (seen file) front → StartsWithHead head front rest → at ≡ length front - length rest → before ≡ new_state config
-    → IsRestored head (seen file) at before held → after ≡ held → (x : ConfigValue) × IsOfSnapshot seen x after
-of_snapshot seen file config head front rest at before held after is stands behind new restored same = (
+pub of_snapshot : (seen : Option (List ℕ)) (config : ConfigValue) (head : SnapshotValue) (front rest : List ℕ) (at : ℕ) (before held after : State)
+    → IsFrontOf seen front → StartsWithHead head front rest → at ≡ length front - length rest → before ≡ new_state config
+    → IsRestored head seen at before held → after ≡ held → (x : ConfigValue) × HoldsImages seen x after
+of_snapshot seen config head front rest at before held after is stands behind new restored same = (
   config,
   record {
-    file = file;
     head = head;
     at = at;
-    stands = subst (λ (n : ℕ). IfSome (seen file) (λ bytes. StartsWithHead head bytes (drop n bytes))) (sym behind) (starts_in (seen file) head front rest is stands);
-    restored = subst (λ (s : State). IsRestored head (seen file) at (new_state config) s) (sym same) (subst (λ (s : State). IsRestored head (seen file) at s held) new restored);
+    stands = subst (λ (n : ℕ). IfSome seen (λ bytes. StartsWithHead head bytes (drop n bytes))) (sym behind) (starts_in seen head front rest is stands);
+    restored = subst (λ (s : State). IsRestored head seen at (new_state config) s) (sym same) (subst (λ (s : State). IsRestored head seen at s held) new restored);
   },
 )

@@ -1,27 +1,21 @@
 -- A broker that goes on behind what a snapshot and the frames of former journals led to is one that was started.
-use Rattle.std.proofs.Common.{◌≡◌, ℕ, List, [], ◌++◌, Option, subst, sym, ap, refl}
-use Rattle.broker_state.specs.State.{ConfigValue, State}
+use Rattle.std.proofs.Common.{◌≡◌, ℕ, List, [], ◌++◌, Option, subst, sym, ap}
+use Rattle.broker_state.specs.State.{State}
 use Rattle.journal.specs.declared.layout.TheConstants.{HEAD_SIZE}
 use Rattle.sessions.specs.Orders.{World, new_world}
 use Rattle.kept_rotations.specs.Below.{replays_then}
 use Rattle.kept_rotations.specs.Below.{IsKept, KeptState}
 use Rattle.kept_rotations.specs.Below.{HasRecovered}
 use Rattle.kept_rotations.specs.GoingOn.{IsKeptOn}
-use Rattle.kept_starts.specs.Starts.{IsOfSnapshot, LeadsTo, IsRecovered, GoesOn, IsStarted}
+use Rattle.kept_starts.specs.Starts.{LeadsTo, IsRecovered, GoesOn, IsStarted}
 
 -- ---- frames that lead on
-
-pub leads_nowhere : (s : State) → LeadsTo s s
-leads_nowhere s = record { frames = []; replays = refl }
 
 pub leads_on : (s mid after : State) → LeadsTo s mid → LeadsTo mid after → LeadsTo s after
 leads_on s mid after first others = record {
   frames = first.frames ++ others.frames;
   replays = replays_then s mid after first.frames others.frames first.replays others.replays;
 }
-
-pub recovered_on : {D : Type 0} (seen : D → Option (List ℕ)) (config : ConfigValue) (held s : State) → IsOfSnapshot seen config held → LeadsTo held s → IsRecovered seen s
-recovered_on seen config held s is led = record { config = config; held = held; of_snapshot = is; led = led }
 
 -- ---- the last journal
 

@@ -1,2 +1,4 @@
 pub mod Fronts
 pub mod GoingOn
+pub mod Numbered
+pub mod Taking

@@ -1,23 +1,37 @@
 -- A broker that was started with a directory.
-use Rattle.std.specs.Prelude.{◌≡◌, ℕ, List, [], length, take, drop, Option, IfSome}
+use Rattle.std.specs.Prelude.{◌≡◌, ℕ, zero, suc, ◌+◌, ◌-◌, false, List, [], length, take, drop, Option, IfSome, MatchBool}
+use Rattle.std.specs.Int.{cast_unsigned, w64}
 use Rattle.broker_state.specs.State.{ConfigValue, State, new_state}
 use Rattle.snapshots.specs.Heads.{SnapshotValue, StartsWithHead}
 use Rattle.state_snapshots.specs.Restoring.{IsRestored}
-use Rattle.kept_rotations.specs.Below.{Replays}
+use Rattle.journal.specs.declared.head.Head.{Head}
+use Rattle.journal.specs.declared.layout.TheConstants.{HEAD_SIZE}
+use Rattle.journal.specs.Files.{HasNoGroup}
+use Rattle.journal.specs.Heads.{IsHeadOf}
+use Rattle.data_directory.specs.declared.names.Name.{Name}
+use Rattle.data_directory.specs.declared.names.Name.TheVariants.{Snapshot, Journal}
+use Rattle.data_directory.specs.Directories.{DirectoryState}
+use Rattle.kept_rotations.specs.Below.{HasRecovered, Replays}
 use Rattle.kept_rotations.specs.Below.{IsKept, KeptState}
 use Rattle.kept_rotations.specs.GoingOn.{IsKeptOn}
+use Rattle.kept_starts.specs.declared.starting.Found.{Found}
+use Rattle.kept_starts.specs.Rows.{HasNoSnapshot, IsFileOf, IsTakenRow}
 
 -- a file begins with these bytes, where it is known
 abbrev pub IsFrontOf : (seen : Option (List ℕ)) → List ℕ → Type 0
 IsFrontOf seen bytes = IfSome seen (λ file. bytes ≡ take (length bytes) file)
 
 -- A file begins with this head, and a broker of this configuration holds what the images behind it say.
-pub record IsOfSnapshot {D : Type 0} (seen : D → Option (List ℕ)) (config : ConfigValue) (s : State) : Type 0 where
-  pub file : D
+pub record HoldsImages (seen : Option (List ℕ)) (config : ConfigValue) (s : State) : Type 0 where
   pub head : SnapshotValue
   pub at : ℕ
-  pub stands : IfSome (seen file) (λ bytes. StartsWithHead head bytes (drop at bytes))
-  pub restored : IsRestored head (seen file) at (new_state config) s
+  pub stands : IfSome seen (λ bytes. StartsWithHead head bytes (drop at bytes))
+  pub restored : IsRestored head seen at (new_state config) s
+
+-- so it is of some file
+pub record IsOfSnapshot {D : Type 0} (seen : D → Option (List ℕ)) (config : ConfigValue) (s : State) : Type 0 where
+  pub file : D
+  pub holds : HoldsImages (seen file) config s
 
 -- Some frames, handled again one after the other, lead from one state to another.
 pub record LeadsTo (s after : State) : Type 0 where
@@ -45,3 +59,66 @@ pub record IsStarted {D : Type 0} (seen : D → Option (List ℕ)) (k : KeptStat
   pub held : State
   pub of_snapshot : IsOfSnapshot seen config held
   pub kept : IsKeptOn seen held k.world.state k
+
+-- ---- the files of a row
+
+-- The file of the snapshot of this number says what a broker of some configuration holds.
+pub record SnapshotHolds {F : Type 0} (d : DirectoryState) (gives : Name → F → Type 0) (seen : F → Option (List ℕ)) (number : ℕ) (s : State) : Type 0 where
+  pub file : F
+  pub is_its : IsFileOf d gives (Snapshot number) file
+  pub config : ConfigValue
+  pub holds : HoldsImages (seen file) config s
+
+-- The file is that of the journal of this number, and begins with this head, which says the number.
+pub record IsJournalOf {F : Type 0} (d : DirectoryState) (gives : Name → F → Type 0) (seen : F → Option (List ℕ)) (number : ℕ) (file : F) (head : Head) : Type 0 where
+  pub is_its : IsFileOf d gives (Journal number) file
+  pub begins : IfSome (seen file) (λ bytes. IsHeadOf (take HEAD_SIZE bytes) head)
+  pub says : cast_unsigned w64 head.number ≡ number
+
+-- The frames of a file's groups, from behind its head up to where no group stands, lead from one state to another.
+pub record GroupsLead (seen : Option (List ℕ)) (key : List ℕ) (s after : State) : Type 0 where
+  pub end : ℕ
+  pub count : ℕ
+  pub recovered : HasRecovered seen key HEAD_SIZE end s after count
+  pub ended : IfSome seen (λ file. HasNoGroup key end (drop end file))
+
+-- So do those of the journal of this number.
+pub record JournalLeads {F : Type 0} (d : DirectoryState) (gives : Name → F → Type 0) (seen : F → Option (List ℕ)) (number : ℕ) (s after : State) : Type 0 where
+  pub file : F
+  pub head : Head
+  pub is_journal : IsJournalOf d gives seen number file head
+  pub groups : GroupsLead (seen file) head.key s after
+
+-- And behind them it has nothing.
+pub record WholeLeads {F : Type 0} (d : DirectoryState) (gives : Name → F → Type 0) (seen : F → Option (List ℕ)) (number : ℕ) (s after : State) : Type 0 where
+  pub journal : JournalLeads d gives seen number s after
+  pub whole : IfSome (seen journal.file) (λ bytes. length bytes ≡ journal.groups.end)
+
+-- the whole journals of so many numbers in a row, from this one on, lead from one state to another, each from where the one before led to
+abbrev pub RowLeads : {F : Type 0} (d : DirectoryState) (gives : Name → F → Type 0) (seen : F → Option (List ℕ)) (first count : ℕ) (s after : State) → Type 0
+RowLeads d gives seen first zero s after = s ≡ after
+RowLeads d gives seen first (suc count) s after = (mid : State) × RowLeads d gives seen first count s mid × WholeLeads d gives seen (first + count) mid after
+
+-- What the snapshot says, and the whole journals from its number up to before the last one, lead to this state.
+pub record FormerLead {F : Type 0} (d : DirectoryState) (gives : Name → F → Type 0) (seen : F → Option (List ℕ)) (snapshot last : ℕ) (s : State) : Type 0 where
+  pub held : State
+  pub of_snapshot : SnapshotHolds d gives seen snapshot held
+  pub led : RowLeads d gives seen snapshot (last - snapshot) held s
+
+-- From there the last journal leads to this state.
+pub record FilesLead {F : Type 0} (d : DirectoryState) (gives : Name → F → Type 0) (seen : F → Option (List ℕ)) (snapshot last : ℕ) (s : State) : Type 0 where
+  pub between : State
+  pub former : FormerLead d gives seen snapshot last between
+  pub newest : JournalLeads d gives seen last between s
+
+-- The files of a directory were taken, from its highest snapshot up to its last journal, and lead to this state.
+pub record AreTaken {F : Type 0} (d : DirectoryState) (gives : Name → F → Type 0) (seen : F → Option (List ℕ)) (snapshot last : ℕ) (s : State) : Type 0 where
+  pub row : IsTakenRow d gives seen snapshot last
+  pub lead : FilesLead d gives seen snapshot last s
+
+-- No snapshot was there; or the files that are told were taken, and the broker holds what they lead to, unless topics or partitions
+-- were added to that.
+abbrev pub TakesFiles : {F : Type 0} (d : DirectoryState) (gives : Name → F → Type 0) (seen : F → Option (List ℕ)) (found : Found) (now : State) → Type 0
+TakesFiles d gives seen found now =
+    MatchBool found.is_new (HasNoSnapshot d)
+    ((led : State) × AreTaken d gives seen found.snapshot found.journal led × (found.has_grown ≡ false → now ≡ led))

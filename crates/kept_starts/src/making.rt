@@ -1,5 +1,7 @@
 //! The files of a new directory.
 
+ghost use Rattle.std.specs.Prelude.{◌≡◌, IfOk};
+
 use crate::configuration::asked_config;
 use crate::faults::{StartFault, failed};
 use crate::standing::{FIRST, is_there};
@@ -41,20 +43,24 @@ fn make_snapshot<S: BatchStore, D: Directory>(
     alloc: S::Alloc,
     directory: &mut D,
     state: &BrokerState<S>,
-) -> Result<(), StartFault<S::Alloc>> {
-    let file = match directory.draft(Name::Making) {
+) -> Result<D::Draft, StartFault<S::Alloc>>
+    ensures is_synced { IfOk result (λ whole. D.Draft.synced whole ≡ D.Draft.seen whole) }
+{
+    let file = match directory.draft() {
         Ok(file) => file,
         Err(why) => return Err(failed(Some(Name::Making), why)),
     };
     match write_whole(alloc, file, FIRST, state) {
-        Ok(_) => Ok(()),
+        Ok(whole) => Ok(whole),
         Err(why) => Err(not_written(why)),
     }
 }
 
 /// Gives the snapshot its name, for certain.
-fn name_snapshot<D: Directory>(directory: &mut D) -> io::Result<()> {
-    directory.rename(Name::Making, Name::Snapshot(FIRST))?;
+fn name_snapshot<D: Directory>(directory: &mut D, whole: D::Draft) -> io::Result<()>
+    requires is_synced { D.Draft.synced whole ≡ D.Draft.seen whole }
+{
+    directory.publish(whole, FIRST)?;
     directory.sync()
 }
 
@@ -76,8 +82,8 @@ pub(crate) fn make_files<S: BatchStore, D: Directory>(
     if let Err(why) = make_journal(directory, FIRST) {
         return Err(failed(Some(Name::Journal(FIRST)), why));
     }
-    make_snapshot(alloc, directory, &state)?;
-    match name_snapshot(directory) {
+    let whole = make_snapshot(alloc, directory, &state)?;
+    match name_snapshot(directory, whole) {
         Ok(()) => Ok(()),
         Err(why) => Err(failed(Some(Name::Snapshot(FIRST)), why)),
     }

@@ -2,7 +2,7 @@
 
 ghost use Rattle.std.specs.Prelude.{IfOk};
 ghost use Rattle.broker_state.specs.State.{ConfigValue};
-ghost use Rattle.kept_starts.specs.Starts.{IsFrontOf, IsOfSnapshot};
+ghost use Rattle.kept_starts.specs.Starts.{HoldsImages, IsFrontOf, SnapshotHolds};
 
 use crate::configuration::{Change, asked_config, bad_topics, check_configuration, former_config};
 use crate::faults::{Damage, LaterWhy, StartFault, failed, unread};
@@ -126,7 +126,7 @@ fn restore_from<S: BatchStore, D: Disk>(
     shape: Shape,
 ) -> Result<(Node<S>, Change), StartFault<S::Alloc>>
     requires { IsFrontOf (D.seen disk.now) bytes.now }
-    ensures { IfOk result (λ r. (config : ConfigValue) × IsOfSnapshot D.seen config r.0) }
+    ensures { IfOk result (λ r. (config : ConfigValue) × HoldsImages (D.seen disk.now) config r.0) }
 {
     let name = Name::Snapshot(number);
     let (head, images) = match judge_head(bytes) {
@@ -149,6 +149,7 @@ fn restore_from<S: BatchStore, D: Disk>(
 }
 
 /// Restores the broker of a directory's snapshot.
+#[tactic(auto, using(crate::proofs::Taking::snapshot_holds))]
 pub(crate) fn restore_node<S: BatchStore, D: Directory>(
     alloc: S::Alloc,
     directory: &D,
@@ -156,7 +157,8 @@ pub(crate) fn restore_node<S: BatchStore, D: Directory>(
     config: &Config<S::Alloc>,
     shape: Shape,
 ) -> Result<Restored<S>, StartFault<S::Alloc>>
-    ensures { IfOk result (λ r. (config : ConfigValue) × IsOfSnapshot D.File.seen config r.node) }
+    ensures is_of_its_file { IfOk result (λ r. SnapshotHolds (D.state directory.now)
+        (D.gives directory.now) D.File.seen number r.node) }
 {
     let name = Name::Snapshot(number);
     let disk = match directory.open(name) {

@@ -1,8 +1,9 @@
 //! The start of a broker with a directory.
 
-ghost use Rattle.std.specs.Prelude.{◌≡◌, IfOk, OnOk};
+ghost use Rattle.std.specs.Prelude.{◌≡◌, IfOk, IfSome, OnOk};
 ghost use Rattle.journal.specs.declared.layout.TheConstants.{HEAD_SIZE};
-ghost use Rattle.kept_starts.specs.Starts.{IsRecovered, IsStarted};
+ghost use Rattle.kept_starts.specs.Rows.{IsTakenRow, IsTopRow};
+ghost use Rattle.kept_starts.specs.Starts.{FilesLead, GroupsLead, IsRecovered, IsStarted, TakesFiles};
 
 use crate::configuration::Change;
 use crate::faults::{StartFault, failed};
@@ -22,6 +23,8 @@ use std::io::{Error, ErrorKind};
 pub struct Found {
     /// Whether the directory was new.
     pub is_new: bool,
+    /// Whether topics or partitions were added to what its files had.
+    pub has_grown: bool,
     /// The number of the highest snapshot.
     pub snapshot: u64,
     /// How many frames were handled again.
@@ -118,7 +121,11 @@ fn go_on<S: BatchStore + Drop, D: Directory>(
 ) -> Result<Started<S, D>, StartFault<S::Alloc>>
     requires opened { former.reader.at ≡ HEAD_SIZE }
     requires recovered { IsRecovered D.File.seen former.node }
-    ensures { IfOk result (λ s. IsStarted D.File.seen s.keeper) }
+    ensures is_started { IfOk result (λ s. IsStarted D.File.seen s.keeper) }
+    ensures leads { IfOk result (λ s. GroupsLead (D.File.seen former.reader.disk)
+        former.reader.head.key former.node s.keeper.world.state) }
+    ensures tells { IfOk result (λ s. (s.found.snapshot ≡ former.row.snapshot)
+        × (s.found.journal ≡ former.row.last)) }
 {
     let row = former.row;
     let resumed = resume_last(alloc, Name::Journal(row.last), former.node, former.reader)?;
@@ -135,6 +142,7 @@ fn go_on<S: BatchStore + Drop, D: Directory>(
         rotation: Rotation::new(alloc, files, keeping.most_journal),
         found: Found {
             is_new: false,
+            has_grown: false,
             snapshot: row.snapshot,
             frames: former.frames.saturating_add(resumed.frames),
             journal: row.last,
@@ -149,8 +157,11 @@ fn fold<S: BatchStore + Drop, D: Directory>(
     directory: &mut D,
     started: &mut Started<S, D>,
 ) -> Result<(), StartFault<S::Alloc>>
-    ensures { OnOk result (IsStarted D.File.seen started.old.keeper
+    ensures keeps { OnOk result (IsStarted D.File.seen started.old.keeper
         → IsStarted D.File.seen started.new.keeper) }
+    ensures keeps_the_world { OnOk result
+        (started.new.keeper.world ≡ started.old.keeper.world) }
+    ensures keeps_what_was_found { OnOk result (started.new.found ≡ started.old.found) }
 {
     match started.rotation.fold(&mut started.keeper, directory) {
         Ok(()) => Ok(()),
@@ -164,8 +175,11 @@ fn fold_if_due<S: BatchStore + Drop, D: Directory>(
     directory: &mut D,
     started: &mut Started<S, D>,
 ) -> Result<(), StartFault<S::Alloc>>
-    ensures { OnOk result (IsStarted D.File.seen started.old.keeper
+    ensures keeps { OnOk result (IsStarted D.File.seen started.old.keeper
         → IsStarted D.File.seen started.new.keeper) }
+    ensures keeps_the_world { OnOk result
+        (started.new.keeper.world ≡ started.old.keeper.world) }
+    ensures keeps_what_was_found { OnOk result (started.new.found ≡ started.old.found) }
 {
     if is_due {
         return fold(directory, started);
@@ -183,7 +197,12 @@ fn start_standing<S: BatchStore + Drop, D: Directory>(
     keeping: Keeping,
     shape: Shape,
 ) -> Result<(Started<S, D>, Change), StartFault<S::Alloc>>
-    ensures { IfOk result (λ s. IsStarted D.File.seen s.0.keeper) }
+    ensures is_started { IfOk result (λ s. IsStarted D.File.seen s.0.keeper) }
+    ensures leads { IfOk result (λ s. FilesLead (D.state directory.old) (D.gives directory.old)
+        D.File.seen s.0.found.snapshot s.0.found.journal s.0.keeper.world.state) }
+    ensures row { IfOk result (λ s. IsTopRow (D.state directory.old) row.snapshot row.last
+        → IsTakenRow (D.state directory.old) (D.gives directory.old) D.File.seen
+        s.0.found.snapshot s.0.found.journal) }
 {
     let former: Former<S, D> = former_of(alloc, directory, config, row, shape)?;
     let change = former.change;
@@ -202,7 +221,8 @@ fn grow<S: BatchStore + Drop, D: Directory>(
     former: Started<S, D>,
     keeping: Keeping,
 ) -> Result<Started<S, D>, StartFault<S::Alloc>>
-    ensures { IfOk result (λ s. IsStarted D.File.seen s.keeper) }
+    ensures is_started { IfOk result (λ s. IsStarted D.File.seen s.keeper) }
+    ensures keeps_what_was_found { IfOk result (λ s. s.found ≡ former.found) }
 {
     let found = former.found;
     let files = former.rotation.files();
@@ -214,6 +234,25 @@ fn grow<S: BatchStore + Drop, D: Directory>(
     let (mut started, _) = start_standing(alloc, directory, config, row, keeping, Shape::Asked)?;
     started.found = found;
     Ok(started)
+}
+
+/// The row that stands in a directory; where none does, that of the files that are made.
+fn row_of<S: BatchStore, D: Directory>(
+    alloc: S::Alloc,
+    directory: &mut D,
+    config: &Config<S::Alloc>,
+    standing: Option<Row>,
+) -> Result<Row, StartFault<S::Alloc>>
+    ensures { IfOk result (λ row. IfSome standing (λ found. (row ≡ found)
+        × (directory.new ≡ directory.old))) }
+{
+    match standing {
+        Some(row) => Ok(row),
+        None => {
+            make_files::<S, D>(alloc, directory, config)?;
+            Ok(FIRST_ROW)
+        }
+    }
 }
 
 /// Starts a broker of this configuration with a directory: judges its files and handles the journals' frames again, and
@@ -232,12 +271,11 @@ pub fn start<S: BatchStore + Drop, D: Directory>(
     keeping: Keeping,
 ) -> Result<Started<S, D>, StartFault<S::Alloc>>
     ensures is_started { IfOk result (λ s. IsStarted D.File.seen s.keeper) }
+    ensures takes_its_files { IfOk result (λ s. TakesFiles (D.state directory.old)
+        (D.gives directory.old) D.File.seen s.found s.keeper.world.state) }
 {
     let standing = standing_of(alloc, directory)?;
-    if standing.is_none() {
-        make_files::<S, D>(alloc, directory, config)?;
-    }
-    let row = standing.unwrap_or(FIRST_ROW);
+    let row = row_of::<S, D>(alloc, directory, config, standing)?;
     let (mut started, change) = start_standing(
         alloc,
         directory,
@@ -247,7 +285,8 @@ pub fn start<S: BatchStore + Drop, D: Directory>(
         Shape::Former,
     )?;
     started.found.is_new = standing.is_none();
-    if change == Change::Grown {
+    started.found.has_grown = change == Change::Grown;
+    if started.found.has_grown {
         return grow(alloc, directory, config, started, keeping);
     }
     Ok(started)

@@ -356,9 +356,16 @@ impl<'a, A: Allocator + Copy> MemoryDirectory<'a, A> {
 }
 
 impl<'a, A: Allocator + Copy> Directory for MemoryDirectory<'a, A> {
+    ghost use Rattle.std.specs.Prelude.{⊤};
+    ghost use Rattle.data_directory.specs.Directories.{unknown};
+
     type File = MemoryFile<'a, A>;
 
     type Draft = MemoryFile<'a, A>;
+
+    ghost state = { λ directory. unknown };
+
+    ghost gives = { λ directory name file. ⊤ };
 
     fn names<B: Allocator + Copy>(&self, alloc: B) -> io::Result<Vec<Name, B>> {
         let mut list = Vec::new(alloc);
@@ -388,8 +395,12 @@ impl<'a, A: Allocator + Copy> Directory for MemoryDirectory<'a, A> {
         })
     }
 
-    fn draft(&mut self, name: Name) -> io::Result<MemoryFile<'a, A>> {
-        self.create(name)
+    fn draft(&mut self) -> io::Result<MemoryFile<'a, A>> {
+        let file = borrowed(self.store)?.create(Name::Making)?;
+        Ok(MemoryFile {
+            store: self.store,
+            file,
+        })
     }
 
     fn draw_key(&mut self) -> io::Result<[u8; KEY_SIZE]> {
@@ -397,8 +408,9 @@ impl<'a, A: Allocator + Copy> Directory for MemoryDirectory<'a, A> {
         Ok(DRAWN)
     }
 
-    fn rename(&mut self, from: Name, to: Name) -> io::Result<()> {
-        borrowed(self.store)?.rename(from, to)
+    fn publish(&mut self, draft: MemoryFile<'a, A>, number: u64) -> io::Result<()> {
+        drop(draft);
+        borrowed(self.store)?.rename(Name::Making, Name::Snapshot(number))
     }
 
     fn remove(&mut self, name: Name) -> io::Result<()> {

@@ -4,5 +4,5 @@ use Rattle.kept_starts.proofs.snapshot.restore_from.Goals as goal
 
 pub returns-in-Ok-restore_snapshot : goal.returns-in-Ok-restore_snapshot
 returns-in-Ok-restore_snapshot g c =
-    of_snapshot g.D.Disk.seen c.args.disk.now _ _ c.args.bytes.now _ _ _ _ c.from_state.result
+    of_snapshot (g.D.Disk.seen c.args.disk.now) _ _ c.args.bytes.now _ _ _ _ c.from_state.result
     c.requires c.in-Ok.ensures.accepts (search rules) c.in-Ok-new.ensures.is_new c.in-Ok-restore_snapshot.ensures.restores c.from_state.ensures

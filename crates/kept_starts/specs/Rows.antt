@@ -1,0 +1,35 @@
+-- Which files of a directory a start takes. This project's own; Kafka's documentation has its like in "Operations", section
+-- "Snapshots" of KRaft.
+use Rattle.std.specs.Prelude.{◌⊎◌, ℕ, ◌+◌, ◌<◌, ◌≤◌, true, false, List, length, Option, IfSome}
+use Rattle.data_directory.specs.declared.names.Name.{Name}
+use Rattle.data_directory.specs.declared.names.Name.TheVariants.{Snapshot, Journal}
+use Rattle.data_directory.specs.Directories.{DirectoryState, IsThere}
+use Rattle.journal.specs.declared.layout.TheConstants.{HEAD_SIZE}
+
+-- no snapshot is there
+abbrev pub HasNoSnapshot : DirectoryState → Type 0
+HasNoSnapshot d = (number : ℕ) → IsThere d (Snapshot number) false
+
+-- No snapshot with a higher number is there, and no journal behind the last one.
+pub record IsTopRow (d : DirectoryState) (snapshot last : ℕ) : Type 0 where
+  pub in_order : snapshot ≤ last
+  pub no_higher : (number : ℕ) → snapshot < number → IsThere d (Snapshot number) false
+  pub no_later : (number : ℕ) → last < number → IsThere d (Journal number) false
+
+-- A file of this name is there, and opening it by its name gave this one.
+pub record IsFileOf {F : Type 0} (d : DirectoryState) (gives : Name → F → Type 0) (name : Name) (file : F) : Type 0 where
+  pub there : IsThere d name true
+  pub given : gives name file
+
+-- A journal was being made: its file has no room for a group.
+pub record WasBeingMade {F : Type 0} (d : DirectoryState) (gives : Name → F → Type 0) (seen : F → Option (List ℕ)) (number : ℕ) : Type 0 where
+  pub file : F
+  pub is_its : IsFileOf d gives (Journal number) file
+  pub short : IfSome (seen file) (λ bytes. length bytes ≤ HEAD_SIZE)
+
+-- No snapshot with a higher number is there, and no journal behind the last one, but for one that was being made perhaps.
+pub record IsTakenRow {F : Type 0} (d : DirectoryState) (gives : Name → F → Type 0) (seen : F → Option (List ℕ)) (snapshot last : ℕ) : Type 0 where
+  pub in_order : snapshot ≤ last
+  pub no_higher : (number : ℕ) → snapshot < number → IsThere d (Snapshot number) false
+  pub next : IsThere d (Journal (last + 1)) false ⊎ WasBeingMade d gives seen (last + 1)
+  pub no_later : (number : ℕ) → last + 1 < number → IsThere d (Journal number) false
