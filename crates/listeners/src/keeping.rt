@@ -149,6 +149,7 @@ fn found_words(alloc: Global, directory: &str, found: &Found) -> Result<String, 
         journal,
         at,
         cut,
+        has_grown: _,
     } = *found;
     if is_new {
         return format!(in alloc; "recovered 0 frames; {directory} is new\n");
