@@ -1,7 +1,7 @@
 -- The files of a directory that are taken, and what they lead to.
-use Rattle.std.proofs.Common.{◌≡◌, ℕ, zero, suc, ◌+◌, ◌-◌, ◌<◌, ◌≤◌, arith, List, [], length, take, drop, Bool, true, false, Option, Some, None, sym, refl, subst, ◌∙◌, inl, inr, true≢false}
+use Rattle.std.proofs.Common.{◌≡◌, ℕ, zero, suc, ◌+◌, ◌-◌, ◌<◌, ◌≤◌, arith, List, [], length, take, drop, Bool, true, false, not, Option, Some, None, sym, refl, subst, ◌∙◌, inl, inr, true≢false}
 use Rattle.std.specs.Prelude.{◌⊎◌, IfSome, MatchBool, MatchOption}
-use Rattle.std.specs.Option.{is_none}
+use Rattle.std.specs.Option.{is_some}
 use Rattle.std.specs.Int.{cast_unsigned, w64}
 use Rattle.broker_state.specs.State.{ConfigValue, State}
 use Rattle.data_directory.specs.declared.names.Name.{Name}
@@ -151,18 +151,25 @@ module _ {F : Type 0} (d : DirectoryState) (gives : Name → F → Type 0) (seen
 pub stands_or_new : {X F : Type 0} (state : X → DirectoryState) (gives : X → Name → F → Type 0) (seen : F → Option (List ℕ)) (old new : X)
     (standing : Option Row) (row : Row) (is_new : Bool) (snapshot last : ℕ) (s : State)
     → MatchOption standing (HasNoSnapshot (state old)) (λ found. IsTopRow (state old) found.snapshot found.last)
-    → IfSome standing (λ found. (row ≡ found) × (new ≡ old)) → is_new ≡ is_none standing → FilesLead (state new) (gives new) seen snapshot last s
+    → IfSome standing (λ found. (row ≡ found) × (new ≡ old)) → is_some standing ≡ not is_new → FilesLead (state new) (gives new) seen snapshot last s
     → (IsTopRow (state new) row.snapshot row.last → IsTakenRow (state new) (gives new) seen snapshot last)
     → MatchBool is_new (HasNoSnapshot (state old)) (AreTaken (state old) (gives old) seen snapshot last s)
-stands_or_new state gives seen old new None row is_new snapshot last s top same tells lead taken =
-    subst (λ (b : Bool). MatchBool b (HasNoSnapshot (state old)) (AreTaken (state old) (gives old) seen snapshot last s)) (sym tells) top
-stands_or_new state gives seen old new (Some found) row is_new snapshot last s top same tells lead taken =
-    subst (λ (b : Bool). MatchBool b (HasNoSnapshot (state old)) (AreTaken (state old) (gives old) seen snapshot last s)) (sym tells)
-    (subst (λ (x : _). AreTaken (state x) (gives x) seen snapshot last s) same.1 (record {
+stands_or_new state gives seen old new None row true snapshot last s top same tells lead taken = top
+stands_or_new state gives seen old new None row false snapshot last s top same tells lead taken = absurd (true≢false (sym tells))
+stands_or_new state gives seen old new (Some found) row true snapshot last s top same tells lead taken = absurd (true≢false tells)
+stands_or_new state gives seen old new (Some found) row false snapshot last s top same tells lead taken =
+    subst (λ (x : _). AreTaken (state x) (gives x) seen snapshot last s) same.1 (record {
       row = taken (subst (λ (x : _). IsTopRow (state x) row.snapshot row.last) (sym same.1)
           (subst (λ (r : Row). IsTopRow (state old) r.snapshot r.last) (sym same.0) top));
       lead = lead;
-    }))
+    })
+
+-- where none are added, the broker holds what the files lead to
+pub tells_files : {F : Type 0} (d : DirectoryState) (gives : Name → F → Type 0) (seen : F → Option (List ℕ)) (is_new has_grown : Bool) (snapshot last : ℕ) (led : State)
+    → MatchBool is_new (HasNoSnapshot d) (AreTaken d gives seen snapshot last led)
+    → MatchBool is_new (HasNoSnapshot d) ((x : State) × AreTaken d gives seen snapshot last x × (has_grown ≡ false → led ≡ x))
+tells_files d gives seen true has_grown snapshot last led new = new
+tells_files d gives seen false has_grown snapshot last led taken = (led, taken, λ none. refl)
 
 -- whoever adds topics says so
 pub tells_growth : {F : Type 0} (d : DirectoryState) (gives : Name → F → Type 0) (seen : F → Option (List ℕ)) (found told : Found) (led now : State)
@@ -173,7 +180,7 @@ tells_growth d gives seen found told led now grown stood same = subst (λ (f : F
     by : (is_new : Bool) → MatchBool is_new (HasNoSnapshot d) (AreTaken d gives seen found.snapshot found.journal led)
         → MatchBool is_new (HasNoSnapshot d) ((x : State) × AreTaken d gives seen found.snapshot found.journal x × (found.has_grown ≡ false → now ≡ x))
     by true none = none
-    by false taken = (led, taken, λ not. absurd (true≢false (sym grown ∙ not)))
+    by false taken = (led, taken, λ none. absurd (true≢false (sym grown ∙ none)))
 
 -- ---- the last journal
 
