@@ -357,7 +357,7 @@ impl<'a, A: Allocator + Copy> MemoryDirectory<'a, A> {
 
 impl<'a, A: Allocator + Copy> Directory for MemoryDirectory<'a, A> {
     ghost use Rattle.std.specs.Prelude.{⊤};
-    ghost use Rattle.data_directory.specs.Directories.{unknown};
+    ghost use Rattle.kept_starts.specs.Below.{unknown};
 
     type File = MemoryFile<'a, A>;
 
