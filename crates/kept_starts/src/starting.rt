@@ -43,7 +43,7 @@ pub struct Started<S: BatchStore, D: Directory> {
     /// The broker, which keeps its changes.
     pub keeper: Keeper<S, S::Alloc, D::File>,
     /// The snapshots that are taken of it.
-    pub rotation: Rotation<D, S::Alloc>,
+    pub rotation: Rotation<D::Draft, S::Alloc>,
     /// What was found.
     pub found: Found,
 }

@@ -153,7 +153,7 @@ impl<S: BatchStore> ServedSessions for Sessions<S, Global> {
 pub(crate) struct Kept<S: BatchStore + Drop, D: Directory + Drop> {
     directory: D,
     keeper: Keeper<S, Global, D::File>,
-    rotation: Rotation<D, Global>,
+    rotation: Rotation<D::Draft, Global>,
     sync: SyncWay,
     /// When the journal is to be synced, if something in it isn't.
     sync_at: Option<Instant>,
