@@ -9,6 +9,7 @@ mod exchanges;
 mod journal_bytes;
 mod journal_memory;
 mod journals;
+mod known_directory;
 mod known_replies;
 mod later_lives;
 mod left_behind;

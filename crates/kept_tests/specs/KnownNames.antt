@@ -1,0 +1,39 @@
+-- The names of a directory by the list of all changes of them. A change takes a name away, or gives one to a file, or does both at
+-- once, and the bytes of that file may be known: of changes of any type, three functions say this.
+use Rattle.std.specs.Prelude.{ℕ, Bool, true, false, not, ◌&&◌, ◌||◌, nat_eq, if◌then◌else◌, List, fold, take, Option, None, Some}
+use Rattle.data_directory.specs.declared.names.Name.{Name}
+use Rattle.data_directory.specs.declared.names.Name.TheVariants.{Snapshot, Journal, Making}
+use Rattle.data_directory.specs.Directories.{DirectoryState}
+
+-- whether two names are the same
+abbrev pub is_name : Name → Name → Bool
+is_name (Snapshot number) (Snapshot other) = nat_eq number other
+is_name (Journal number) (Journal other) = nat_eq number other
+is_name Making Making = true
+is_name _ _ = false
+
+-- whether there is a name, and it is this one
+abbrev pub has_name : Name → Option Name → Bool
+has_name name None = false
+has_name name (Some other) = is_name name other
+
+-- whether a file has the name after a change that takes one away and gives one, where it is said whether one had it before
+abbrev pub there_after : Name → (gone named : Option Name) → (before : Bool) → Bool
+there_after name gone named before = has_name name named || (not (has_name name gone) && before)
+
+-- whether a file has the name after these changes; at first none has it
+abbrev pub is_there_by : {C : Type 0} (changes : List C) (gone named : C → Option Name) → Name → Bool
+is_there_by changes gone named name = fold (λ before change. there_after name (gone change) (named change) before) false changes
+
+-- the bytes that the snapshot of a number had when it got its name; none at first
+abbrev pub bytes_by : {C : Type 0} (changes : List C) (named : C → Option Name) (bytes : C → Option (List ℕ)) → ℕ → Option (List ℕ)
+bytes_by changes named bytes number =
+    fold (λ before change. if has_name (Snapshot number) (named change) then bytes change else before) None changes
+
+-- of these changes so many, from the first on, are on the disk for certain
+abbrev pub state_by : {C : Type 0} (changes : List C) (gone named : C → Option Name) (bytes : C → Option (List ℕ)) (synced : ℕ) → DirectoryState
+state_by changes gone named bytes synced = record {
+  there = λ name. Some (is_there_by changes gone named name);
+  certain = λ name. Some (is_there_by (take synced changes) gone named name);
+  bytes = bytes_by changes named bytes;
+}
