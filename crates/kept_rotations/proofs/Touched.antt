@@ -1,5 +1,5 @@
 -- The names that calls of a directory touch, one behind the other.
-use Rattle.std.proofs.Common.{◌≡◌, ◌⊎◌, inl, inr, ℕ, refl, sym, ap, subst, ◌∙◌, arith}
+use Rattle.std.proofs.Common.{◌≡◌, ℕ, ap, ◌∙◌, arith}
 use Rattle.data_directory.specs.declared.names.Name.{Name}
 use Rattle.data_directory.specs.declared.names.Name.TheVariants.{Snapshot, Journal, Making}
 use Rattle.data_directory.specs.Directories.{DirectoryState, KeepsOthers}

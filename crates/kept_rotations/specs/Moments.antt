@@ -1,6 +1,6 @@
 -- A snapshot of one moment, which is written while clients go on. This project's own; Kafka's documentation has its like in
 -- "Operations", section "Snapshots" of KRaft.
-use Rattle.std.specs.Prelude.{◌≡◌, ℕ, true, List, Option, IfSome}
+use Rattle.std.specs.Prelude.{◌≡◌, ◌⊎◌, ℕ, true, List, [], Option, None, IfSome}
 use Rattle.std.specs.Int.{cast_signed, w64}
 use Rattle.broker_state.specs.declared.place.Place.{Place}
 use Rattle.broker_state.specs.State.{State}
@@ -26,6 +26,10 @@ pub record HoldsMoment {F : Type 0} (seen : F → Option (List ℕ)) (number : �
 pub record IsOfMoment {D F : Type 0} (seen : F → Option (List ℕ)) (number : ℕ) (base : State) (k : KeptState D) (d : DraftState F) : Type 0 where
   pub holds : HoldsMoment seen number base k.world.state d
   pub guarded : (place : Place) → is_missing d place ≡ true → is_barred k.barred place ≡ true
+
+-- Where no snapshot is being written nothing is barred; or none was before, and what is barred is what was.
+abbrev pub OpensTheBarrier : {D F : Type 0} (k k' : KeptState D) (old new : RotationState F) → Type 0
+OpensTheBarrier k k' old new = new.draft ≡ None → (k'.barred ≡ []) ⊎ ((old.draft ≡ None) × (k'.barred ≡ k.barred))
 
 -- the snapshot that is being written, if one is, is of this moment, and has the last journal's number
 abbrev pub WritesMoment : {D F : Type 0} (seen : F → Option (List ℕ)) (base : State) (k : KeptState D) → RotationState F → Type 0
