@@ -2,6 +2,7 @@
 use Rattle.std.proofs.Common.{◌≡◌, ℕ, zero, suc, ◌+◌, ◌-◌, ◌≤◌, arith, List, [], ◌∷◌, ◌++◌, length, take, drop, Option, Some, None, sym, ap, refl, ◌∙◌, append_assoc, length-append, take-append-drop, subst}
 use Rattle.std.specs.Prelude.{IfSome}
 use Rattle.std.proofs.lemmas.List.{length-take}
+use Rattle.std.specs.Int.{cast_unsigned, w64}
 use Rattle.broker_state.specs.State.{ConfigValue, State, new_state}
 use Rattle.snapshots.specs.Heads.{SnapshotValue, StartsWithHead}
 use Rattle.state_snapshots.specs.Restoring.{IsRestored}
@@ -72,8 +73,9 @@ starts_in (Some file) s front rest is head = record {
 
 pub of_snapshot : (seen : Option (List ℕ)) (config : ConfigValue) (head : SnapshotValue) (front rest : List ℕ) (at : ℕ) (before held after : State)
     → IsFrontOf seen front → StartsWithHead head front rest → at ≡ length front - length rest → before ≡ new_state config
-    → IsRestored head seen at before held → after ≡ held → (x : ConfigValue) × HoldsImages seen x after
-of_snapshot seen config head front rest at before held after is stands behind new restored same = (
+    → IsRestored head seen at before held → after ≡ held → (number : ℕ) → cast_unsigned w64 head.number ≡ number
+    → (x : ConfigValue) × (h : HoldsImages seen x after) × (cast_unsigned w64 h.head.number ≡ number)
+of_snapshot seen config head front rest at before held after is stands behind new restored same number says = (
   config,
   record {
     head = head;
@@ -81,4 +83,5 @@ of_snapshot seen config head front rest at before held after is stands behind ne
     stands = subst (λ (n : ℕ). IfSome seen (λ bytes. StartsWithHead head bytes (drop n bytes))) (sym behind) (starts_in seen head front rest is stands);
     restored = subst (λ (s : State). IsRestored head seen at (new_state config) s) (sym same) (subst (λ (s : State). IsRestored head seen at s held) new restored);
   },
+  says,
 )

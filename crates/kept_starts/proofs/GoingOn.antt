@@ -1,5 +1,6 @@
 -- A broker that goes on behind what a snapshot and the frames of former journals led to is one that was started.
-use Rattle.std.proofs.Common.{◌≡◌, ℕ, List, [], ◌++◌, Option, subst, sym, ap}
+use Rattle.std.proofs.Common.{◌≡◌, ℕ, Bool, true, false, List, [], ◌++◌, Option, subst, sym, ap, true≢false}
+use Rattle.std.specs.Prelude.{MatchBool}
 use Rattle.broker_state.specs.State.{State}
 use Rattle.journal.specs.declared.layout.TheConstants.{HEAD_SIZE}
 use Rattle.sessions.specs.Orders.{World, new_world}
@@ -7,7 +8,8 @@ use Rattle.kept_rotations.specs.Below.{replays_then}
 use Rattle.kept_rotations.specs.Below.{IsKept, KeptState}
 use Rattle.kept_rotations.specs.Below.{HasRecovered}
 use Rattle.kept_rotations.specs.GoingOn.{IsKeptOn}
-use Rattle.kept_starts.specs.Starts.{LeadsTo, IsRecovered, GoesOn, IsStarted}
+use Rattle.kept_rotations.specs.Moments.{RotationState}
+use Rattle.kept_starts.specs.Starts.{LeadsTo, IsFolded, IsRecovered, GoesOn, IsStarted}
 
 -- ---- frames that lead on
 
@@ -56,3 +58,8 @@ folded seen k new world keeps is =
       of_snapshot = is.of_snapshot;
       kept = subst (λ (w : World). IsKeptOn seen is.held w.state new) (sym world) all;
     }
+
+-- where one is asked for, it has the last number
+pub folded_as_asked : {F : Type 0} (asked is_due : Bool) (old new : RotationState F) → (asked ≡ true → is_due ≡ true) → MatchBool is_due (IsFolded old new) (new ≡ old) → asked ≡ true → new.files.snapshot ≡ new.files.last
+folded_as_asked asked true old new due folds is = folds.snapshot
+folded_as_asked asked false old new due folds is = absurd (true≢false (sym (due is)))

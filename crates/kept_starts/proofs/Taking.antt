@@ -15,7 +15,7 @@ use Rattle.sessions.specs.Orders.{World, new_world}
 use Rattle.kept_rotations.specs.Below.{HasRecovered}
 use Rattle.kept_starts.specs.declared.standing.Row.{Row}
 use Rattle.kept_starts.specs.declared.starting.Found.{Found}
-use Rattle.kept_starts.specs.Rows.{HasNoSnapshot, IsTakenRow, IsTopRow, WasBeingMade}
+use Rattle.kept_starts.specs.Rows.{HasNone, IsTakenRow, IsTopRow, WasBeingMade}
 use Rattle.kept_starts.specs.Starts.{AreTaken, FilesLead, FormerLead, GroupsLead, HoldsImages, IsJournalOf, IsRecovered, LeadsTo, RowLeads, SnapshotHolds, TakesFiles, WholeLeads}
 use Rattle.kept_starts.proofs.GoingOn.{leads_on}
 
@@ -23,12 +23,13 @@ module _ {F : Type 0} (d : DirectoryState) (gives : Name → F → Type 0) (seen
   -- ---- one file
 
   pub snapshot_holds : (number : ℕ) (file : F) (s : State) → IsThere d (Snapshot number) true → gives (Snapshot number) file
-      → (config : ConfigValue) × HoldsImages (seen file) config s → SnapshotHolds d gives seen number s
+      → (config : ConfigValue) × (h : HoldsImages (seen file) config s) × (cast_unsigned w64 h.head.number ≡ number) → SnapshotHolds d gives seen number s
   snapshot_holds number file s there given holds = record {
     file = file;
     is_its = record { there = there; given = given };
     config = holds.0;
     holds = holds.1;
+    says = holds.2;
   }
 
   pub is_journal : (number : ℕ) (file disk : F) (head : Head) → IsThere d (Journal number) true → gives (Journal number) file
@@ -150,10 +151,10 @@ module _ {F : Type 0} (d : DirectoryState) (gives : Name → F → Type 0) (seen
 -- what stood was taken, where a snapshot stood
 pub stands_or_new : {X F : Type 0} (state : X → DirectoryState) (gives : X → Name → F → Type 0) (seen : F → Option (List ℕ)) (old new : X)
     (standing : Option Row) (row : Row) (is_new : Bool) (snapshot last : ℕ) (s : State)
-    → MatchOption standing (HasNoSnapshot (state old)) (λ found. IsTopRow (state old) found.snapshot found.last)
+    → MatchOption standing (HasNone (state old) (gives old) seen) (λ found. IsTopRow (state old) found.snapshot found.last)
     → IfSome standing (λ found. (row ≡ found) × (new ≡ old)) → is_some standing ≡ not is_new → FilesLead (state new) (gives new) seen snapshot last s
     → (IsTopRow (state new) row.snapshot row.last → IsTakenRow (state new) (gives new) seen snapshot last)
-    → MatchBool is_new (HasNoSnapshot (state old)) (AreTaken (state old) (gives old) seen snapshot last s)
+    → MatchBool is_new (HasNone (state old) (gives old) seen) (AreTaken (state old) (gives old) seen snapshot last s)
 stands_or_new state gives seen old new None row true snapshot last s top same tells lead taken = top
 stands_or_new state gives seen old new None row false snapshot last s top same tells lead taken = absurd (true≢false (sym tells))
 stands_or_new state gives seen old new (Some found) row true snapshot last s top same tells lead taken = absurd (true≢false tells)
@@ -166,19 +167,19 @@ stands_or_new state gives seen old new (Some found) row false snapshot last s to
 
 -- where none are added, the broker holds what the files lead to
 pub tells_files : {F : Type 0} (d : DirectoryState) (gives : Name → F → Type 0) (seen : F → Option (List ℕ)) (is_new has_grown : Bool) (snapshot last : ℕ) (led : State)
-    → MatchBool is_new (HasNoSnapshot d) (AreTaken d gives seen snapshot last led)
-    → MatchBool is_new (HasNoSnapshot d) ((x : State) × AreTaken d gives seen snapshot last x × (has_grown ≡ false → led ≡ x))
+    → MatchBool is_new (HasNone d gives seen) (AreTaken d gives seen snapshot last led)
+    → MatchBool is_new (HasNone d gives seen) ((x : State) × AreTaken d gives seen snapshot last x × (has_grown ≡ false → led ≡ x))
 tells_files d gives seen true has_grown snapshot last led new = new
 tells_files d gives seen false has_grown snapshot last led taken = (led, taken, λ none. refl)
 
 -- whoever adds topics says so
 pub tells_growth : {F : Type 0} (d : DirectoryState) (gives : Name → F → Type 0) (seen : F → Option (List ℕ)) (found told : Found) (led now : State)
-    → found.has_grown ≡ true → MatchBool found.is_new (HasNoSnapshot d) (AreTaken d gives seen found.snapshot found.journal led) → told ≡ found
+    → found.has_grown ≡ true → MatchBool found.is_new (HasNone d gives seen) (AreTaken d gives seen found.snapshot found.journal led) → told ≡ found
     → TakesFiles d gives seen told now
 tells_growth d gives seen found told led now grown stood same = subst (λ (f : Found). TakesFiles d gives seen f now) (sym same) (by found.is_new stood)
   where
-    by : (is_new : Bool) → MatchBool is_new (HasNoSnapshot d) (AreTaken d gives seen found.snapshot found.journal led)
-        → MatchBool is_new (HasNoSnapshot d) ((x : State) × AreTaken d gives seen found.snapshot found.journal x × (found.has_grown ≡ false → now ≡ x))
+    by : (is_new : Bool) → MatchBool is_new (HasNone d gives seen) (AreTaken d gives seen found.snapshot found.journal led)
+        → MatchBool is_new (HasNone d gives seen) ((x : State) × AreTaken d gives seen found.snapshot found.journal x × (found.has_grown ≡ false → now ≡ x))
     by true none = none
     by false taken = (led, taken, λ none. absurd (true≢false (sym grown ∙ none)))
 

@@ -2,4 +2,5 @@
 pub mod Numbers
 pub mod Rows
 pub mod Starts
+pub mod Refusals
 pub mod Below

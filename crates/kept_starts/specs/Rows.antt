@@ -1,14 +1,12 @@
 -- Which files of a directory a start takes. This project's own; Kafka's documentation has its like in "Operations", section
 -- "Snapshots" of KRaft.
-use Rattle.std.specs.Prelude.{◌⊎◌, ℕ, ◌+◌, ◌<◌, ◌≤◌, true, false, List, length, Option, IfSome}
+use Rattle.std.specs.Prelude.{◌≡◌, ◌≢◌, ◌⊎◌, ℕ, ◌+◌, ◌<◌, ◌≤◌, true, false, List, length, Option, IfSome}
+use Rattle.std.specs.List.{Contains}
 use Rattle.data_directory.specs.declared.names.Name.{Name}
 use Rattle.data_directory.specs.declared.names.Name.TheVariants.{Snapshot, Journal}
 use Rattle.data_directory.specs.Directories.{DirectoryState, IsThere}
+use Rattle.kept_starts.specs.Numbers.{HaveNone}
 use Rattle.journal.specs.declared.layout.TheConstants.{HEAD_SIZE}
-
--- no snapshot is there
-abbrev pub HasNoSnapshot : DirectoryState → Type 0
-HasNoSnapshot d = (number : ℕ) → IsThere d (Snapshot number) false
 
 -- No snapshot with a higher number is there, and no journal behind the last one.
 pub record IsTopRow (d : DirectoryState) (snapshot last : ℕ) : Type 0 where
@@ -33,3 +31,13 @@ pub record IsTakenRow {F : Type 0} (d : DirectoryState) (gives : Name → F → 
   pub no_higher : (number : ℕ) → snapshot < number → IsThere d (Snapshot number) false
   pub next : IsThere d (Journal (last + 1)) false ⊎ WasBeingMade d gives seen (last + 1)
   pub no_later : (number : ℕ) → last + 1 < number → IsThere d (Journal number) false
+
+-- No snapshot is there, and no journal but the first one perhaps, if that was being made.
+pub record HasNone {F : Type 0} (d : DirectoryState) (gives : Name → F → Type 0) (seen : F → Option (List ℕ)) : Type 0 where
+  pub no_snapshot : (number : ℕ) → IsThere d (Snapshot number) false
+  pub no_other : (number : ℕ) → number ≢ 1 → IsThere d (Journal number) false
+  pub first : IsThere d (Journal 1) false ⊎ WasBeingMade d gives seen 1
+
+-- there is none of these journals; or there is but the first one, which was being made
+abbrev pub AreNone : {F : Type 0} (d : DirectoryState) (gives : Name → F → Type 0) (seen : F → Option (List ℕ)) (journals : List ℕ) → Type 0
+AreNone d gives seen journals = HaveNone journals ⊎ (((number : ℕ) → Contains journals number → number ≡ 1) × WasBeingMade d gives seen 1)

@@ -1,5 +1,5 @@
 -- A broker that was started with a directory.
-use Rattle.std.specs.Prelude.{◌≡◌, ℕ, zero, suc, ◌+◌, ◌-◌, false, List, [], length, take, drop, Option, IfSome, MatchBool}
+use Rattle.std.specs.Prelude.{◌≡◌, ℕ, zero, suc, ◌⊎◌, ◌+◌, ◌-◌, ◌<◌, false, List, [], length, take, drop, Option, None, IfSome, MatchBool}
 use Rattle.std.specs.Int.{cast_unsigned, w64}
 use Rattle.broker_state.specs.State.{ConfigValue, State, new_state}
 use Rattle.snapshots.specs.Heads.{SnapshotValue, StartsWithHead}
@@ -14,8 +14,10 @@ use Rattle.data_directory.specs.Directories.{DirectoryState}
 use Rattle.kept_rotations.specs.Below.{HasRecovered, Replays}
 use Rattle.kept_rotations.specs.Below.{IsKept, KeptState}
 use Rattle.kept_rotations.specs.GoingOn.{IsKeptOn}
+use Rattle.kept_rotations.specs.declared.files.KeptFiles.{KeptFiles}
+use Rattle.kept_rotations.specs.Moments.{RotationState}
 use Rattle.kept_starts.specs.declared.starting.Found.{Found}
-use Rattle.kept_starts.specs.Rows.{HasNoSnapshot, IsFileOf, IsTakenRow}
+use Rattle.kept_starts.specs.Rows.{HasNone, IsFileOf, IsTakenRow}
 
 -- a file begins with these bytes, where it is known
 abbrev pub IsFrontOf : (seen : Option (List ℕ)) → List ℕ → Type 0
@@ -62,12 +64,13 @@ pub record IsStarted {D : Type 0} (seen : D → Option (List ℕ)) (k : KeptStat
 
 -- ---- the files of a row
 
--- The file of the snapshot of this number says what a broker of some configuration holds.
+-- The file of the snapshot of this number, which its head has too, says what a broker of some configuration holds.
 pub record SnapshotHolds {F : Type 0} (d : DirectoryState) (gives : Name → F → Type 0) (seen : F → Option (List ℕ)) (number : ℕ) (s : State) : Type 0 where
   pub file : F
   pub is_its : IsFileOf d gives (Snapshot number) file
   pub config : ConfigValue
   pub holds : HoldsImages (seen file) config s
+  pub says : cast_unsigned w64 holds.head.number ≡ number
 
 -- The file is that of the journal of this number, and begins with this head, which says the number.
 pub record IsJournalOf {F : Type 0} (d : DirectoryState) (gives : Name → F → Type 0) (seen : F → Option (List ℕ)) (number : ℕ) (file : F) (head : Head) : Type 0 where
@@ -116,9 +119,27 @@ pub record AreTaken {F : Type 0} (d : DirectoryState) (gives : Name → F → Ty
   pub row : IsTakenRow d gives seen snapshot last
   pub lead : FilesLead d gives seen snapshot last s
 
--- No snapshot was there; or the files that are told were taken, and the broker holds what they lead to, unless topics or partitions
+-- ---- the snapshots that follow
+
+-- A snapshot was taken, of the number behind the last one, and none is being written.
+pub record IsFolded {F : Type 0} (old new : RotationState F) : Type 0 where
+  pub last : new.files.last ≡ old.files.last + 1
+  pub snapshot : new.files.snapshot ≡ new.files.last
+  pub draft : new.draft ≡ None
+
+-- snapshots go on from these files, or from a snapshot that was taken behind them
+abbrev pub GoesOnBehind : (snapshot journal : ℕ) → KeptFiles → Type 0
+GoesOnBehind snapshot journal files = ((files.snapshot ≡ snapshot) × (files.last ≡ journal)) ⊎ ((files.snapshot ≡ files.last) × (journal < files.last))
+
+-- none is being written, and they go on from the files that were found, or behind them
+abbrev pub RotatesFrom : {F : Type 0} → Found → RotationState F → Type 0
+RotatesFrom found r = (r.draft ≡ None) × MatchBool found.has_grown (r.files.snapshot ≡ r.files.last) (GoesOnBehind found.snapshot found.journal r.files)
+
+-- ---- what is taken
+
+-- None of a broker's files was there; or the files that are told were taken, and the broker holds what they lead to, unless topics or partitions
 -- were added to that.
 abbrev pub TakesFiles : {F : Type 0} (d : DirectoryState) (gives : Name → F → Type 0) (seen : F → Option (List ℕ)) (found : Found) (now : State) → Type 0
 TakesFiles d gives seen found now =
-    MatchBool found.is_new (HasNoSnapshot d)
+    MatchBool found.is_new (HasNone d gives seen)
     ((led : State) × AreTaken d gives seen found.snapshot found.journal led × (found.has_grown ≡ false → now ≡ led))

@@ -1,5 +1,7 @@
 //! Why a broker doesn't start with a directory.
 
+ghost use Rattle.kept_starts.specs.Refusals.{IsFailure};
+
 use broker_state::{ConfigError, RestoreError, Role};
 use data_directory::Name;
 use journal::{OpenError, ReadError};
@@ -10,7 +12,7 @@ use std::alloc::{AllocError, Allocator};
 use std::io::{Error, ErrorKind};
 use thiserror::Error;
 
-/// Why a broker doesn't start with a directory. Nothing in the directory has changed, but where a call failed.
+/// Why a broker doesn't start with a directory. Nothing in the directory has changed, but where a call failed or memory lacked.
 #[derive(Drop)]
 pub enum StartFault<A: Allocator> {
     /// A broker didn't write these bytes.
@@ -37,7 +39,7 @@ pub enum StartFault<A: Allocator> {
     Configuration(ConfigError),
     /// There is no memory.
     OutOfMemory,
-    /// A call of the system failed: of a file, or of the directory.
+    /// A call of the system failed: of a file, or of the directory; or a file of this start's own isn't what was made.
     Failed(Option<Name>, Error),
 }
 
@@ -97,7 +99,9 @@ impl<A: Allocator> From<AllocError> for StartFault<A> {
 }
 
 /// What it means that a call failed.
-pub(crate) fn failed<A: Allocator>(name: Option<Name>, why: Error) -> StartFault<A> {
+pub(crate) fn failed<A: Allocator>(name: Option<Name>, why: Error) -> StartFault<A>
+    ensures { IsFailure result }
+{
     match why.kind() {
         ErrorKind::OutOfMemory => StartFault::OutOfMemory,
         _ => StartFault::Failed(name, why),
@@ -110,4 +114,29 @@ pub(crate) fn unread<A: Allocator>(name: Name, why: ReadError) -> StartFault<A> 
         ReadError::OutOfMemory => StartFault::OutOfMemory,
         ReadError::OnDisk(why) => failed(Some(name), why),
     }
+}
+
+/// What a fault means of files that this start made itself: it is no refusal, as the system gives other bytes than were written.
+pub(crate) fn as_failure<A: Allocator>(why: StartFault<A>) -> StartFault<A>
+    ensures { IsFailure result }
+{
+    let name = match why {
+        StartFault::OutOfMemory => return StartFault::OutOfMemory,
+        StartFault::Failed(name, why) => return StartFault::Failed(name, why),
+        StartFault::Damaged {
+            name,
+            at: _,
+            why: _,
+        } => Some(name),
+        StartFault::Later(name, _) | StartFault::Missing(name) | StartFault::NotRegular(name) => {
+            Some(name)
+        }
+        StartFault::OtherRole(_)
+        | StartFault::OtherTopic {
+            name: _,
+            partitions: _,
+        }
+        | StartFault::Configuration(_) => None,
+    };
+    StartFault::Failed(name, Error::from(ErrorKind::InvalidData))
 }

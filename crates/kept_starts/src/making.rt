@@ -1,34 +1,45 @@
 //! The files of a new directory.
 
-ghost use Rattle.std.specs.Prelude.{◌≡◌, IfOk};
+ghost use Rattle.std.specs.Prelude.{◌≡◌, IfErr, IfOk};
+ghost use Rattle.kept_starts.specs.Refusals.{IsFailure, RefusesUnchanged};
 
 use crate::configuration::asked_config;
 use crate::faults::{StartFault, failed};
-use crate::standing::{FIRST, is_there};
+use crate::standing::FIRST;
 use broker_state::{BrokerState, Config, ConfigError};
-use data_directory::{Directory, Name};
+use data_directory::{Directory, Kind, Name};
 use kept_rotations::{make_journal, write_whole};
 use segment::BatchStore;
 use snapshot_drafts::DraftError;
 use std::alloc::Allocator;
 use std::io::{self, Error, ErrorKind};
 
+/// Removes what has the name of a file that was being made, if anything has. It was judged before that it is a file.
+fn remove_any<D: Directory>(directory: &mut D, name: Name) -> io::Result<()> {
+    match directory.kind(name)? {
+        Kind::Nothing => Ok(()),
+        Kind::File => directory.remove(name),
+        Kind::Other => Err(Error::from(ErrorKind::InvalidData)),
+    }
+}
+
 /// Removes a file that was being made, if it is there.
 pub(crate) fn remove_unfinished<D: Directory, A: Allocator>(
     directory: &mut D,
     name: Name,
-) -> Result<(), StartFault<A>> {
-    if !is_there(directory, name)? {
-        return Ok(());
-    }
-    match directory.remove(name) {
+) -> Result<(), StartFault<A>>
+    ensures fails { IfErr result IsFailure }
+{
+    match remove_any(directory, name) {
         Ok(()) => Ok(()),
         Err(why) => Err(failed(Some(name), why)),
     }
 }
 
 /// What it means that a snapshot isn't written.
-fn not_written<A: Allocator>(why: DraftError) -> StartFault<A> {
+fn not_written<A: Allocator>(why: DraftError) -> StartFault<A>
+    ensures { IsFailure result }
+{
     match why {
         DraftError::OutOfMemory => StartFault::OutOfMemory,
         DraftError::OnDisk(why) => failed(Some(Name::Making), why),
@@ -45,6 +56,7 @@ fn make_snapshot<S: BatchStore, D: Directory>(
     state: &BrokerState<S>,
 ) -> Result<D::Draft, StartFault<S::Alloc>>
     ensures is_synced { IfOk result (λ whole. D.Draft.synced whole ≡ D.Draft.seen whole) }
+    ensures fails { IfErr result IsFailure }
 {
     let file = match directory.draft() {
         Ok(file) => file,
@@ -64,19 +76,30 @@ fn name_snapshot<D: Directory>(directory: &mut D, whole: D::Draft) -> io::Result
     directory.sync()
 }
 
+/// A broker of a configuration to which nothing was done yet.
+pub(crate) fn new_broker<S: BatchStore>(
+    alloc: S::Alloc,
+    config: &Config<S::Alloc>,
+    first_producer: i64,
+) -> Result<BrokerState<S>, StartFault<S::Alloc>> {
+    match BrokerState::new(alloc, asked_config(alloc, config, first_producer)?) {
+        Ok(state) => Ok(state),
+        Err(ConfigError::OutOfMemory) => Err(StartFault::OutOfMemory),
+        Err(why) => Err(StartFault::Configuration(why)),
+    }
+}
+
 /// Makes the files of a directory that has none, but for some that were being made. What was removed of these is
 /// gone for certain before the snapshot has its name.
 pub(crate) fn make_files<S: BatchStore, D: Directory>(
     alloc: S::Alloc,
     directory: &mut D,
     config: &Config<S::Alloc>,
-) -> Result<(), StartFault<S::Alloc>> {
-    let set_up = asked_config(alloc, config, config.first_producer)?;
-    let state = match BrokerState::<S>::new(alloc, set_up) {
-        Ok(state) => state,
-        Err(ConfigError::OutOfMemory) => return Err(StartFault::OutOfMemory),
-        Err(why) => return Err(StartFault::Configuration(why)),
-    };
+) -> Result<(), StartFault<S::Alloc>>
+    ensures refuses { IfErr result
+        (RefusesUnchanged (D.state directory.old) (D.state directory.new)) }
+{
+    let state: BrokerState<S> = new_broker(alloc, config, config.first_producer)?;
     remove_unfinished(directory, Name::Making)?;
     remove_unfinished(directory, Name::Journal(FIRST))?;
     if let Err(why) = make_journal(directory, FIRST) {

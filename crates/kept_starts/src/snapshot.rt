@@ -1,11 +1,13 @@
 //! The broker that a snapshot holds.
 
-ghost use Rattle.std.specs.Prelude.{IfOk};
+ghost use Rattle.std.specs.Prelude.{◌≡◌, IfOk, OnOk};
+ghost use Rattle.std.specs.Int.{cast_unsigned, w64};
 ghost use Rattle.broker_state.specs.State.{ConfigValue};
 ghost use Rattle.kept_starts.specs.Starts.{HoldsImages, IsFrontOf, SnapshotHolds};
 
 use crate::configuration::{Change, asked_config, bad_topics, check_configuration, former_config};
 use crate::faults::{Damage, LaterWhy, StartFault, failed, unread};
+use crate::making::new_broker;
 use crate::reading::read_front;
 use broker_state::{BrokerState, Config, ConfigError};
 use data_directory::{Directory, Name};
@@ -90,22 +92,26 @@ pub(crate) enum Shape {
     Asked,
 }
 
-/// The configuration of the broker of a snapshot.
-fn config_of<A: Allocator + Copy>(
-    alloc: A,
+/// The configuration of the broker of a snapshot. Where it is the snapshot's own, that which is asked for is judged too, as it
+/// comes into its place later.
+fn config_of<S: BatchStore>(
+    alloc: S::Alloc,
     name: Name,
-    config: &Config<A>,
+    config: &Config<S::Alloc>,
     head: &SnapshotHead<'_>,
     is_former: bool,
-) -> Result<Config<A>, StartFault<A>> {
+) -> Result<Config<S::Alloc>, StartFault<S::Alloc>> {
     if is_former {
+        new_broker::<S>(alloc, config, head.first_producer)?;
         return former_config(alloc, name, config, head);
     }
     Ok(asked_config(alloc, config, head.first_producer)?)
 }
 
 /// Refuses a snapshot of another number than its name has.
-fn check_number<A: Allocator>(number: u64, head: &SnapshotHead<'_>) -> Result<(), StartFault<A>> {
+fn check_number<A: Allocator>(number: u64, head: &SnapshotHead<'_>) -> Result<(), StartFault<A>>
+    ensures { OnOk result (cast_unsigned w64 head.now.number ≡ number) }
+{
     if head.number.cast_unsigned() != number {
         return Err(StartFault::Damaged {
             name: Name::Snapshot(number),
@@ -126,7 +132,9 @@ fn restore_from<S: BatchStore, D: Disk>(
     shape: Shape,
 ) -> Result<(Node<S>, Change), StartFault<S::Alloc>>
     requires { IsFrontOf (D.seen disk.now) bytes.now }
-    ensures { IfOk result (λ r. (config : ConfigValue) × HoldsImages (D.seen disk.now) config r.0) }
+    ensures { IfOk result (λ r. (config : ConfigValue)
+        × (held : HoldsImages (D.seen disk.now) config r.0)
+        × (cast_unsigned w64 held.head.number ≡ number)) }
 {
     let name = Name::Snapshot(number);
     let (head, images) = match judge_head(bytes) {
@@ -136,7 +144,7 @@ fn restore_from<S: BatchStore, D: Disk>(
     check_number(number, &head)?;
     let change = check_configuration(alloc, name, config, &head)?;
     let is_former = change == Change::Grown && shape == Shape::Former;
-    let set_up = config_of(alloc, name, config, &head, is_former)?;
+    let set_up = config_of::<S>(alloc, name, config, &head, is_former)?;
     let mut state = match BrokerState::new(alloc, set_up) {
         Ok(state) => state,
         Err(why) => return Err(config_fault(name, change, why)),

@@ -1,12 +1,13 @@
 //! The start of a broker with a directory.
 
-ghost use Rattle.std.specs.Prelude.{◌≡◌, IfOk, IfSome, OnOk};
+ghost use Rattle.std.specs.Prelude.{◌≡◌, None, true, IfErr, IfOk, IfSome, MatchBool, OnOk};
 ghost use Rattle.journal.specs.declared.layout.TheConstants.{HEAD_SIZE};
+ghost use Rattle.kept_starts.specs.Refusals.{IsFailure, RefusesUnchanged};
 ghost use Rattle.kept_starts.specs.Rows.{IsTakenRow, IsTopRow};
-ghost use Rattle.kept_starts.specs.Starts.{FilesLead, GroupsLead, IsRecovered, IsStarted, TakesFiles};
+ghost use Rattle.kept_starts.specs.Starts.{FilesLead, GoesOnBehind, GroupsLead, IsFolded, IsRecovered, IsStarted, RotatesFrom, TakesFiles};
 
 use crate::configuration::Change;
-use crate::faults::{StartFault, failed};
+use crate::faults::{StartFault, as_failure, failed};
 use crate::making::{make_files, remove_unfinished};
 use crate::recovering::{Former, former_of, resume_last};
 use crate::snapshot::Shape;
@@ -25,13 +26,13 @@ pub struct Found {
     pub is_new: bool,
     /// Whether topics or partitions were added to what its files had.
     pub has_grown: bool,
-    /// The number of the highest snapshot.
+    /// The number of the highest snapshot that was there, or was made.
     pub snapshot: u64,
     /// How many frames were handled again.
     pub frames: u64,
-    /// The number of the last journal.
+    /// The number of the last journal that was there, or was made.
     pub journal: u64,
-    /// The size that it has now, in bytes.
+    /// The size that it has behind the cut, in bytes.
     pub at: u64,
     /// How many bytes were cut behind it.
     pub cut: u64,
@@ -58,7 +59,9 @@ pub struct Keeping {
 }
 
 /// What it means that no snapshot was taken.
-fn not_folded<A: Allocator>(why: FoldFault) -> StartFault<A> {
+fn not_folded<A: Allocator>(why: FoldFault) -> StartFault<A>
+    ensures { IsFailure result }
+{
     match why {
         FoldFault::Missed(Missed::OutOfMemory) => StartFault::OutOfMemory,
         FoldFault::Missed(Missed::Failed(name, why)) => failed(Some(name), why),
@@ -77,7 +80,9 @@ fn remove_lower<D: Directory, A: Allocator>(
     directory: &mut D,
     names: &[Name],
     snapshot: u64,
-) -> Result<(), StartFault<A>> {
+) -> Result<(), StartFault<A>>
+    ensures fails { IfErr result IsFailure }
+{
     for name in names {
         match name {
             Name::Snapshot(number) | Name::Journal(number) if *number < snapshot => {
@@ -98,7 +103,9 @@ fn settle_names<D: Directory, A: Allocator + Copy>(
     directory: &mut D,
     snapshot: u64,
     unfinished: Option<u64>,
-) -> Result<(), StartFault<A>> {
+) -> Result<(), StartFault<A>>
+    ensures fails { IfErr result IsFailure }
+{
     remove_unfinished(directory, Name::Making)?;
     if let Some(number) = unfinished {
         remove_unfinished(directory, Name::Journal(number))?;
@@ -126,10 +133,17 @@ fn go_on<S: BatchStore + Drop, D: Directory>(
         former.reader.head.key former.node s.keeper.world.state) }
     ensures tells { IfOk result (λ s. (s.found.snapshot ≡ former.row.snapshot)
         × (s.found.journal ≡ former.row.last)) }
+    ensures rotates { IfOk result (λ s. (s.rotation.files.snapshot ≡ former.row.snapshot)
+        × (s.rotation.files.last ≡ former.row.last) × (s.rotation.draft ≡ None)) }
+    ensures refuses { IfErr result
+        (RefusesUnchanged (D.state directory.old) (D.state directory.new)) }
 {
     let row = former.row;
     let resumed = resume_last(alloc, Name::Journal(row.last), former.node, former.reader)?;
-    settle_names(alloc, directory, row.snapshot, former.unfinished)?;
+    match settle_names(alloc, directory, row.snapshot, former.unfinished) {
+        Ok(()) => {}
+        Err(why) => return Err(why),
+    }
     let files = KeptFiles {
         snapshot: row.snapshot,
         last: row.last,
@@ -162,11 +176,20 @@ fn fold<S: BatchStore + Drop, D: Directory>(
     ensures keeps_the_world { OnOk result
         (started.new.keeper.world ≡ started.old.keeper.world) }
     ensures keeps_what_was_found { OnOk result (started.new.found ≡ started.old.found) }
+    ensures folds { OnOk result (IsFolded started.old.rotation started.new.rotation) }
+    ensures fails { IfErr result IsFailure }
 {
     match started.rotation.fold(&mut started.keeper, directory) {
         Ok(()) => Ok(()),
         Err(why) => Err(not_folded(why)),
     }
+}
+
+/// Whether a snapshot is to be taken at once.
+fn is_fold_due(keeping: Keeping, is_of_other_meaning: bool, change: Change) -> bool
+    ensures { keeping.is_folded ≡ true → result ≡ true }
+{
+    keeping.is_folded || is_of_other_meaning || change == Change::Grown
 }
 
 /// Takes a snapshot at once if one is due.
@@ -180,6 +203,10 @@ fn fold_if_due<S: BatchStore + Drop, D: Directory>(
     ensures keeps_the_world { OnOk result
         (started.new.keeper.world ≡ started.old.keeper.world) }
     ensures keeps_what_was_found { OnOk result (started.new.found ≡ started.old.found) }
+    ensures folds { OnOk result (MatchBool is_due
+        (IsFolded started.old.rotation started.new.rotation)
+        (started.new.rotation ≡ started.old.rotation)) }
+    ensures fails { IfErr result IsFailure }
 {
     if is_due {
         return fold(directory, started);
@@ -203,13 +230,21 @@ fn start_standing<S: BatchStore + Drop, D: Directory>(
     ensures row { IfOk result (λ s. IsTopRow (D.state directory.old) row.snapshot row.last
         → IsTakenRow (D.state directory.old) (D.gives directory.old) D.File.seen
         s.0.found.snapshot s.0.found.journal) }
+    ensures rotates { IfOk result (λ s. (s.0.rotation.draft ≡ None)
+        × GoesOnBehind s.0.found.snapshot s.0.found.journal s.0.rotation.files) }
+    ensures folds { IfOk result (λ s. keeping.is_folded ≡ true
+        → s.0.rotation.files.snapshot ≡ s.0.rotation.files.last) }
+    ensures refuses { IfErr result
+        (RefusesUnchanged (D.state directory.old) (D.state directory.new)) }
 {
     let former: Former<S, D> = former_of(alloc, directory, config, row, shape)?;
     let change = former.change;
-    let is_due = keeping.is_folded || former.is_of_other_meaning || change == Change::Grown;
+    let is_due = is_fold_due(keeping, former.is_of_other_meaning, change);
     let mut started = go_on(alloc, directory, former, keeping)?;
-    fold_if_due(is_due, directory, &mut started)?;
-    Ok((started, change))
+    match fold_if_due(is_due, directory, &mut started) {
+        Ok(()) => Ok((started, change)),
+        Err(why) => Err(why),
+    }
 }
 
 /// Adds the topics and partitions that are asked for to a broker of which a snapshot was just taken: it is read again with
@@ -223,6 +258,9 @@ fn grow<S: BatchStore + Drop, D: Directory>(
 ) -> Result<Started<S, D>, StartFault<S::Alloc>>
     ensures is_started { IfOk result (λ s. IsStarted D.File.seen s.keeper) }
     ensures keeps_what_was_found { IfOk result (λ s. s.found ≡ former.found) }
+    ensures folds { IfOk result (λ s. (s.rotation.draft ≡ None)
+        × (s.rotation.files.snapshot ≡ s.rotation.files.last)) }
+    ensures fails { IfErr result IsFailure }
 {
     let found = former.found;
     let files = former.rotation.files();
@@ -231,9 +269,17 @@ fn grow<S: BatchStore + Drop, D: Directory>(
         snapshot: files.snapshot,
         last: files.last,
     };
-    let (mut started, _) = start_standing(alloc, directory, config, row, keeping, Shape::Asked)?;
-    started.found = found;
-    Ok(started)
+    let folding = Keeping {
+        is_folded: true,
+        ..keeping
+    };
+    match start_standing(alloc, directory, config, row, folding, Shape::Asked) {
+        Ok((mut started, _)) => {
+            started.found = found;
+            Ok(started)
+        }
+        Err(why) => Err(as_failure(why)),
+    }
 }
 
 /// The row that stands in a directory; where none does, that of the files that are made.
@@ -243,8 +289,10 @@ fn row_of<S: BatchStore, D: Directory>(
     config: &Config<S::Alloc>,
     standing: Option<Row>,
 ) -> Result<Row, StartFault<S::Alloc>>
-    ensures { IfOk result (λ row. IfSome standing (λ found. (row ≡ found)
+    ensures found { IfOk result (λ row. IfSome standing (λ found. (row ≡ found)
         × (directory.new ≡ directory.old))) }
+    ensures refuses { IfErr result
+        (RefusesUnchanged (D.state directory.old) (D.state directory.new)) }
 {
     match standing {
         Some(row) => Ok(row),
@@ -253,6 +301,13 @@ fn row_of<S: BatchStore, D: Directory>(
             Ok(FIRST_ROW)
         }
     }
+}
+
+/// What a fault means: of files that this start made it is no refusal.
+fn fault_of<A: Allocator>(is_new: bool, why: StartFault<A>) -> StartFault<A>
+    ensures { MatchBool is_new (IsFailure result) (result ≡ why) }
+{
+    if is_new { as_failure(why) } else { why }
 }
 
 /// Starts a broker of this configuration with a directory: judges its files and handles the journals' frames again, and
@@ -264,6 +319,7 @@ fn row_of<S: BatchStore, D: Directory>(
 ///
 /// The first [`StartFault`] that is found: of the names, of the snapshot, of the configuration, of each journal's head and
 /// its groups, from the snapshot's number on; then the directory is as it was. `Failed` and `OutOfMemory` may come later.
+/// A file of this start's own that can't be read again is `Failed`.
 pub fn start<S: BatchStore + Drop, D: Directory>(
     alloc: S::Alloc,
     directory: &mut D,
@@ -273,17 +329,17 @@ pub fn start<S: BatchStore + Drop, D: Directory>(
     ensures is_started { IfOk result (λ s. IsStarted D.File.seen s.keeper) }
     ensures takes_its_files { IfOk result (λ s. TakesFiles (D.state directory.old)
         (D.gives directory.old) D.File.seen s.found s.keeper.world.state) }
+    ensures rotates { IfOk result (λ s. RotatesFrom s.found s.rotation) }
+    ensures refuses { IfErr result
+        (RefusesUnchanged (D.state directory.old) (D.state directory.new)) }
 {
     let standing = standing_of(alloc, directory)?;
     let row = row_of::<S, D>(alloc, directory, config, standing)?;
-    let (mut started, change) = start_standing(
-        alloc,
-        directory,
-        config,
-        row,
-        keeping,
-        Shape::Former,
-    )?;
+    let begun = start_standing(alloc, directory, config, row, keeping, Shape::Former);
+    let (mut started, change) = match begun {
+        Ok(begun) => begun,
+        Err(why) => return Err(fault_of(standing.is_none(), why)),
+    };
     started.found.is_new = standing.is_none();
     started.found.has_grown = change == Change::Grown;
     if started.found.has_grown {

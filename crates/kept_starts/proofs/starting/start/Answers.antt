@@ -4,19 +4,19 @@ use Rattle.kept_starts.proofs.starting.start.Goals as goal
 
 pub returns-clause-takes_its_files : goal.returns-clause-takes_its_files
 returns-clause-takes_its_files g c =
-    let first = c.in_ok-started.started in
+    let first = c.in-Ok.begun.0 in
     let stood = stands_or_new g.D.Directory.state g.D.Directory.gives g.D.File.Disk.seen c.args.directory.now c.row_of.new.directory
     c.in_ok-standing.standing c.in_ok-row.row c.is_none-started.result first.found.snapshot first.found.journal first.keeper.world.state
-    c.in_ok-standing.ensures.is_the_top c.in_ok-row.ensures c.is_none-started.ensures c.in_ok-started.ensures.leads c.in_ok-started.ensures.row in
+    c.in_ok-standing.ensures.is_the_top c.in_ok-row.ensures.found c.is_none-started.ensures c.in-Ok.ensures.leads c.in-Ok.ensures.row in
     tells_files (g.D.Directory.state c.args.directory.now) (g.D.Directory.gives c.args.directory.now) g.D.File.Disk.seen c.is_none-started.result c.eq-started.result
     first.found.snapshot first.found.journal first.keeper.world.state stood
 
 pub returns-then-started-clause-takes_its_files : goal.returns-then-started-clause-takes_its_files
 returns-then-started-clause-takes_its_files g c =
-    let first = c.in_ok-started.started in
+    let first = c.in-Ok.begun.0 in
     let stood = stands_or_new g.D.Directory.state g.D.Directory.gives g.D.File.Disk.seen c.args.directory.now c.row_of.new.directory
     c.in_ok-standing.standing c.in_ok-row.row c.is_none-started.result first.found.snapshot first.found.journal first.keeper.world.state
-    c.in_ok-standing.ensures.is_the_top c.in_ok-row.ensures c.is_none-started.ensures c.in_ok-started.ensures.leads c.in_ok-started.ensures.row in
+    c.in_ok-standing.ensures.is_the_top c.in_ok-row.ensures.found c.is_none-started.ensures c.in-Ok.ensures.leads c.in-Ok.ensures.row in
     IfOk-weaker c.grow.result _ _
     (λ s same. tells_growth (g.D.Directory.state c.args.directory.now) (g.D.Directory.gives c.args.directory.now) g.D.File.Disk.seen _ s.found
     first.keeper.world.state s.keeper.world.state c.if-started.true stood same)
