@@ -1,5 +1,5 @@
 -- A journal without a group.
-use Rattle.std.proofs.Common.{◌≡◌, ℕ, false, List, [], ◌++◌, length, Option, Some, None, refl, sym, ap, subst, ◌∙◌, append-nil}
+use Rattle.std.proofs.Common.{◌≡◌, ℕ, ◌+◌, false, List, [], ◌++◌, length, Option, Some, None, refl, sym, ap, subst, ◌∙◌, append-nil}
 use Rattle.std.specs.Prelude.{IfSome}
 use Rattle.std.specs.Io.KnownBytes.{append_known}
 use Rattle.journal.specs.declared.head.Head.{Head}
@@ -7,6 +7,7 @@ use Rattle.journal.specs.declared.layout.TheConstants.{HEAD_SIZE}
 use Rattle.journal.specs.Files.{head_bytes}
 use Rattle.journal.specs.Journals.{JournalState, IsHeld, IsJournal}
 use Rattle.kept_sessions.specs.Keeping.{HoldsFrames}
+use Rattle.kept_rotations.specs.GoingOn.{HasHeadAlone}
 
 -- a file without bytes, and then a head, holds no frames
 pub head_alone : (key : List ℕ) (h : Head) (o o' : Option (List ℕ)) → IfSome o (λ file. file ≡ []) → o' ≡ append_known o (head_bytes h) → IfSome o' (λ file. length file ≡ HEAD_SIZE) → IfSome o' (λ file. HoldsFrames key file [])
@@ -21,6 +22,17 @@ head_alone key h (Some file) o' none is size =
       valid = tt;
       frames_are = refl;
     })
+
+-- it has just that head
+pub head_there : (key : List ℕ) (h : Head) (o o' : Option (List ℕ)) → IfSome o (λ file. file ≡ []) → o' ≡ append_known o (head_bytes h) → key ≡ h.key
+    → IfSome o' (λ file. file ≡ head_bytes (record { meaning = h.meaning; number = h.number; key = key }))
+head_there key h None o' none is same = subst (λ (x : Option (List ℕ)). IfSome x (λ file. file ≡ head_bytes (record { meaning = h.meaning; number = h.number; key = key }))) (sym is) tt
+head_there key h (Some file) o' none is same =
+    subst (λ (x : Option (List ℕ)). IfSome x (λ file. file ≡ head_bytes (record { meaning = h.meaning; number = h.number; key = key }))) (sym is)
+    (ap (λ (l : List ℕ). l ++ head_bytes h) none ∙ ap (λ (k : List ℕ). head_bytes (record { meaning = h.meaning; number = h.number; key = k })) (sym same))
+
+pub head_behind : {D : Type 0} (seen : D → Option (List ℕ)) (number last : ℕ) (made now : JournalState D) → number ≡ last + 1 → now ≡ made → HasHeadAlone seen number made → HasHeadAlone seen (last + 1) now
+head_behind seen number last made now is same has = subst (λ (j : JournalState _). HasHeadAlone seen (last + 1) j) (sym same) (subst (λ (n : ℕ). HasHeadAlone seen n made) is has)
 
 -- the size that a journal's file has, as long as no call has failed
 pub file_size : {D : Type 0} (seen : D → Option (List ℕ)) (may_leave : D → List ℕ → Type 0) (j : JournalState D) → IsJournal seen may_leave j → (j.end ≡ HEAD_SIZE) → j.has_failed ≡ false → IfSome (seen j.disk) (λ file. length file ≡ HEAD_SIZE)

@@ -1,8 +1,11 @@
 -- A broker whose frames go on in another journal. This project's own; Kafka's documentation has its like in "Operations", section
 -- "Snapshots" of KRaft.
 use Rattle.std.specs.Prelude.{◌≡◌, ◌⊎◌, ℕ, List, [], Option, IfSome}
+use Rattle.std.specs.Int.{cast_signed, w64}
 use Rattle.broker_state.specs.State.{State}
+use Rattle.journal.specs.Files.{head_bytes}
 use Rattle.journal.specs.Journals.{JournalState}
+use Rattle.kept_rotations.specs.declared.opening.TheConstants.{MEANING}
 use Rattle.kept_sessions.specs.Replaying.{Replays}
 use Rattle.kept_sessions.specs.Keeping.{HoldsFrames, IsKept, KeptState}
 
@@ -16,6 +19,11 @@ pub record IsKeptOn {D : Type 0} (seen : D → Option (List ℕ)) (first start :
 -- no frame is in the journal's file
 abbrev pub IsFresh : {D : Type 0} → (D → Option (List ℕ)) → JournalState D → Type 0
 IsFresh seen journal = IfSome (seen journal.disk) (λ file. HoldsFrames journal.key file [])
+
+-- the file has the head of a new journal of this number, and nothing else
+abbrev pub HasHeadAlone : {D : Type 0} → (D → Option (List ℕ)) → (number : ℕ) → JournalState D → Type 0
+HasHeadAlone seen number journal =
+    IfSome (seen journal.disk) (λ file. file ≡ head_bytes (record { meaning = MEANING; number = cast_signed w64 number; key = journal.key }))
 
 -- The journal is the one before, of which no byte has changed, or another one without frames.
 abbrev pub GoesOn : {D : Type 0} → (D → Option (List ℕ)) → (old new : JournalState D) → Type 0

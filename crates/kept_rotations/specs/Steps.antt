@@ -10,7 +10,7 @@ use Rattle.data_directory.specs.declared.names.Name.TheVariants.{Snapshot, Journ
 use Rattle.data_directory.specs.Directories.{DirectoryState, IsThere, Becomes, KeepsOthers, AreCertain, IsPublished}
 use Rattle.journal.specs.Journals.{JournalState}
 use Rattle.kept_sessions.specs.Keeping.{KeptState}
-use Rattle.kept_rotations.specs.GoingOn.{IsFresh}
+use Rattle.kept_rotations.specs.GoingOn.{HasHeadAlone, IsFresh}
 use Rattle.kept_rotations.specs.Moments.{RotationState, WritesMoment, AreOfMoment}
 
 -- ---- names
@@ -108,9 +108,9 @@ pub record Stops {D F : Type 0} (seen : F → Option (List ℕ)) (k : KeptState 
   pub names : KeepsOthers (IsTried old.files.last) d d'
   pub named : MayBeNamed seen k old d d'
 
--- One step: one of these, and the last journal is a new one, without frames, just where one was made.
+-- One step: one of these, and the last journal is a new one, of its number and without frames, just where one was made.
 abbrev pub Steps : {D F : Type 0} (seen : D → Option (List ℕ)) (drafted : F → Option (List ℕ)) (k k' : KeptState D) (old new : RotationState F)
     (d d' : DirectoryState) → Type 0
 Steps seen drafted k k' old new d d' =
-    (Opens drafted k' old new d d' × IsFresh seen k'.journal)
+    (Opens drafted k' old new d d' × IsFresh seen k'.journal × HasHeadAlone seen (old.files.last + 1) k'.journal)
     ⊎ (IsSame seen k.journal k'.journal × (Stays drafted k k' old new d d' ⊎ (Publishes drafted k old new d d' ⊎ Drops old new d d')))
