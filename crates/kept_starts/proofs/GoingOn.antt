@@ -1,5 +1,5 @@
 -- A broker that goes on behind what a snapshot and the frames of former journals led to is one that was started.
-use Rattle.std.proofs.Common.{◌≡◌, ℕ, Bool, true, false, List, [], ◌++◌, Option, subst, sym, ap, true≢false}
+use Rattle.std.proofs.Common.{◌≡◌, ℕ, Bool, true, false, List, [], ◌++◌, Option, None, subst, sym, ap, true≢false}
 use Rattle.std.specs.Prelude.{MatchBool}
 use Rattle.broker_state.specs.State.{State}
 use Rattle.journal.specs.declared.layout.TheConstants.{HEAD_SIZE}
@@ -9,7 +9,8 @@ use Rattle.kept_rotations.specs.Below.{IsKept, KeptState}
 use Rattle.kept_rotations.specs.Below.{HasRecovered}
 use Rattle.kept_rotations.specs.GoingOn.{IsKeptOn}
 use Rattle.kept_rotations.specs.Moments.{RotationState}
-use Rattle.kept_starts.specs.Starts.{LeadsTo, IsFolded, IsRecovered, GoesOn, IsStarted}
+use Rattle.kept_starts.specs.declared.starting.Found.{Found}
+use Rattle.kept_starts.specs.Starts.{LeadsTo, IsFolded, IsRecovered, GoesOn, GoesOnBehind, IsStarted, RotatesFrom}
 
 -- ---- frames that lead on
 
@@ -60,6 +61,10 @@ folded seen k new world keeps is =
     }
 
 -- where one is asked for, it has the last number
-pub folded_as_asked : {F : Type 0} (asked is_due : Bool) (old new : RotationState F) → (asked ≡ true → is_due ≡ true) → MatchBool is_due (IsFolded old new) (new ≡ old) → asked ≡ true → new.files.snapshot ≡ new.files.last
-folded_as_asked asked true old new due folds is = folds.snapshot
-folded_as_asked asked false old new due folds is = absurd (true≢false (sym (due is)))
+pub folded_as_asked : {F : Type 0} (P Q : Type 0) (asked is_due : Bool) (old new : RotationState F) → (asked ≡ true → is_due ≡ true) → MatchBool is_due (IsFolded old new × P) Q → asked ≡ true → (new.files.snapshot ≡ new.files.last) × P
+folded_as_asked P Q asked true old new due folds is = (folds.0.snapshot, folds.1)
+folded_as_asked P Q asked false old new due folds is = absurd (true≢false (sym (due is)))
+
+-- behind topics that were added one has it too
+pub grown_rotates : {F : Type 0} (found : Found) (r : RotationState F) → r.draft ≡ None → r.files.snapshot ≡ r.files.last → found.has_grown ≡ true → RotatesFrom found r
+grown_rotates found r none snapshot grown = (none, subst (λ (b : Bool). MatchBool b (r.files.snapshot ≡ r.files.last) (GoesOnBehind found.snapshot found.journal r.files)) (sym grown) snapshot)

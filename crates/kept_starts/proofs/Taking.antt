@@ -11,6 +11,7 @@ use Rattle.journal.specs.declared.head.Head.{Head}
 use Rattle.journal.specs.declared.layout.TheConstants.{HEAD_SIZE}
 use Rattle.journal.specs.Files.{HasNoGroup}
 use Rattle.journal.specs.Heads.{IsHeadOf}
+use Rattle.kept_rotations.specs.declared.opening.TheConstants.{MEANING}
 use Rattle.sessions.specs.Orders.{World, new_world}
 use Rattle.kept_rotations.specs.Below.{HasRecovered}
 use Rattle.kept_starts.specs.declared.standing.Row.{Row}
@@ -32,14 +33,21 @@ module _ {F : Type 0} (d : DirectoryState) (gives : Name → F → Type 0) (seen
     says = holds.2;
   }
 
-  pub is_journal : (number : ℕ) (file disk : F) (head : Head) → IsThere d (Journal number) true → gives (Journal number) file
-      → IfSome (seen file) (λ bytes. IsHeadOf (take HEAD_SIZE bytes) head) → disk ≡ file → cast_unsigned w64 head.number ≡ number → IsJournalOf d gives seen number disk head
-  is_journal number file disk head there given begins same says =
-      subst (λ (f : F). IsJournalOf d gives seen number f head) (sym same) (record {
-        is_its = record { there = there; given = given };
-        begins = begins;
-        says = says;
-      })
+  meant : (head : Head) (size : ℕ) (bytes : Option (List ℕ)) → IfSome bytes (λ known. length known ≡ size) → (head.meaning ≡ MEANING) ⊎ (size ≤ HEAD_SIZE)
+      → IfSome bytes (λ known. (head.meaning ≡ MEANING) ⊎ (length known ≤ HEAD_SIZE))
+  meant head size None sized means = tt
+  meant head size (Some known) sized (inl same) = inl same
+  meant head size (Some known) sized (inr short) = inr (omega (arith, sized, short))
+
+  pub is_journal : (number size : ℕ) (file disk : F) (head : Head) → IsThere d (Journal number) true → gives (Journal number) file
+      → IfSome (seen file) (λ bytes. IsHeadOf (take HEAD_SIZE bytes) head) → disk ≡ file → cast_unsigned w64 head.number ≡ number
+      → IfSome (seen disk) (λ bytes. length bytes ≡ size) → (head.meaning ≡ MEANING) ⊎ (size ≤ HEAD_SIZE) → IsJournalOf d gives seen number disk head
+  is_journal number size file disk head there given begins same says sized means = record {
+    is_its = record { there = there; given = subst (gives (Journal number)) (sym same) given };
+    begins = subst (λ (f : F). IfSome (seen f) (λ bytes. IsHeadOf (take HEAD_SIZE bytes) head)) (sym same) begins;
+    says = says;
+    means = meant head size (seen disk) sized means;
+  }
 
   pub was_made : (number size : ℕ) (file : F) → IsThere d (Journal number) true → gives (Journal number) file
       → IfSome (seen file) (λ bytes. size ≡ length bytes) → size ≤ HEAD_SIZE → WasBeingMade d gives seen number

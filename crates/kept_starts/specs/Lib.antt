@@ -3,4 +3,5 @@ pub mod Numbers
 pub mod Rows
 pub mod Starts
 pub mod Refusals
+pub mod Removals
 pub mod Below

@@ -1,5 +1,5 @@
 -- A broker that was started with a directory.
-use Rattle.std.specs.Prelude.{◌≡◌, ℕ, zero, suc, ◌⊎◌, ◌+◌, ◌-◌, ◌<◌, false, List, [], length, take, drop, Option, None, IfSome, MatchBool}
+use Rattle.std.specs.Prelude.{◌≡◌, ℕ, zero, suc, ◌⊎◌, ◌+◌, ◌-◌, ◌<◌, ◌≤◌, false, List, [], length, take, drop, Option, None, IfSome, MatchBool}
 use Rattle.std.specs.Int.{cast_unsigned, w64}
 use Rattle.broker_state.specs.State.{ConfigValue, State, new_state}
 use Rattle.snapshots.specs.Heads.{SnapshotValue, StartsWithHead}
@@ -14,6 +14,7 @@ use Rattle.data_directory.specs.Directories.{DirectoryState}
 use Rattle.kept_rotations.specs.Below.{HasRecovered, Replays}
 use Rattle.kept_rotations.specs.Below.{IsKept, KeptState}
 use Rattle.kept_rotations.specs.GoingOn.{IsKeptOn}
+use Rattle.kept_rotations.specs.declared.opening.TheConstants.{MEANING}
 use Rattle.kept_rotations.specs.declared.files.KeptFiles.{KeptFiles}
 use Rattle.kept_rotations.specs.Moments.{RotationState}
 use Rattle.kept_starts.specs.declared.starting.Found.{Found}
@@ -72,11 +73,13 @@ pub record SnapshotHolds {F : Type 0} (d : DirectoryState) (gives : Name → F �
   pub holds : HoldsImages (seen file) config s
   pub says : cast_unsigned w64 holds.head.number ≡ number
 
--- The file is that of the journal of this number, and begins with this head, which says the number.
+-- The file is that of the journal of this number, and begins with this head, which says the number; where there may be groups behind it,
+-- their frames mean what the program takes them for.
 pub record IsJournalOf {F : Type 0} (d : DirectoryState) (gives : Name → F → Type 0) (seen : F → Option (List ℕ)) (number : ℕ) (file : F) (head : Head) : Type 0 where
   pub is_its : IsFileOf d gives (Journal number) file
   pub begins : IfSome (seen file) (λ bytes. IsHeadOf (take HEAD_SIZE bytes) head)
   pub says : cast_unsigned w64 head.number ≡ number
+  pub means : IfSome (seen file) (λ bytes. (head.meaning ≡ MEANING) ⊎ (length bytes ≤ HEAD_SIZE))
 
 -- The frames of a file's groups, from behind its head up to where no group stands, lead from one state to another.
 pub record GroupsLead (seen : Option (List ℕ)) (key : List ℕ) (s after : State) : Type 0 where

@@ -1,6 +1,7 @@
 //! The files of a new directory.
 
 ghost use Rattle.std.specs.Prelude.{◌≡◌, IfErr, IfOk};
+ghost use Rattle.data_directory.specs.Directories.{IsName, KeepsOthers};
 ghost use Rattle.kept_starts.specs.Refusals.{IsFailure, RefusesUnchanged};
 
 use crate::configuration::asked_config;
@@ -15,7 +16,9 @@ use std::alloc::Allocator;
 use std::io::{self, Error, ErrorKind};
 
 /// Removes what has the name of a file that was being made, if anything has. It was judged before that it is a file.
-fn remove_any<D: Directory>(directory: &mut D, name: Name) -> io::Result<()> {
+fn remove_any<D: Directory>(directory: &mut D, name: Name) -> io::Result<()>
+    ensures { KeepsOthers (IsName name) (D.state directory.old) (D.state directory.new) }
+{
     match directory.kind(name)? {
         Kind::Nothing => Ok(()),
         Kind::File => directory.remove(name),
@@ -28,6 +31,7 @@ pub(crate) fn remove_unfinished<D: Directory, A: Allocator>(
     directory: &mut D,
     name: Name,
 ) -> Result<(), StartFault<A>>
+    ensures keeps_others { KeepsOthers (IsName name) (D.state directory.old) (D.state directory.new) }
     ensures fails { IfErr result IsFailure }
 {
     match remove_any(directory, name) {

@@ -1,7 +1,11 @@
 //! The start of a broker with a directory.
 
-ghost use Rattle.std.specs.Prelude.{◌≡◌, None, true, IfErr, IfOk, IfSome, MatchBool, OnOk};
+ghost use Rattle.std.specs.Prelude.{◌≡◌, ◌+◌, None, false, true, IfErr, IfOk, IfSome, MatchBool, OnOk};
 ghost use Rattle.journal.specs.declared.layout.TheConstants.{HEAD_SIZE};
+ghost use Rattle.data_directory.specs.declared.names.Name.TheVariants.{Journal as JournalOf, Snapshot};
+ghost use Rattle.data_directory.specs.Directories.{IsName, IsThere, KeepsOthers};
+ghost use Rattle.kept_rotations.specs.Steps.{IsBelow};
+ghost use Rattle.kept_starts.specs.Removals.{IsOld, Removes};
 ghost use Rattle.kept_starts.specs.Refusals.{IsFailure, RefusesUnchanged};
 ghost use Rattle.kept_starts.specs.Rows.{IsTakenRow, IsTopRow};
 ghost use Rattle.kept_starts.specs.Starts.{FilesLead, GoesOnBehind, GroupsLead, IsFolded, IsRecovered, IsStarted, RotatesFrom, TakesFiles};
@@ -76,11 +80,14 @@ fn not_folded<A: Allocator>(why: FoldFault) -> StartFault<A>
 }
 
 /// Removes files with a number below that of the snapshot.
+#[tactic(auto, using(crate::proofs::Removing::one_snapshot, crate::proofs::Removing::one_journal))]
 fn remove_lower<D: Directory, A: Allocator>(
     directory: &mut D,
     names: &[Name],
     snapshot: u64,
 ) -> Result<(), StartFault<A>>
+    ensures keeps_others { OnOk result (KeepsOthers (IsBelow snapshot) (D.state directory.old)
+        (D.state directory.new)) }
     ensures fails { IfErr result IsFailure }
 {
     for name in names {
@@ -96,26 +103,43 @@ fn remove_lower<D: Directory, A: Allocator>(
     Ok(())
 }
 
+/// Removes the journal behind the last one, if it was being made.
+fn remove_next<D: Directory, A: Allocator>(
+    directory: &mut D,
+    last: u64,
+    has_unfinished: bool,
+) -> Result<(), StartFault<A>>
+    ensures keeps_others { KeepsOthers (IsName (JournalOf (last + 1))) (D.state directory.old)
+        (D.state directory.new) }
+    ensures fails { IfErr result IsFailure }
+{
+    match last.checked_add(1) {
+        Some(next) if has_unfinished => remove_unfinished(directory, Name::Journal(next)),
+        _ => Ok(()),
+    }
+}
+
 /// Removes what was being made, and has the names on the disk for certain, as a start that was ended may have left them
 /// unsynced; then what the snapshot has taken the place of.
+#[tactic(auto, using(crate::proofs::Removing::settled))]
 fn settle_names<D: Directory, A: Allocator + Copy>(
     alloc: A,
     directory: &mut D,
-    snapshot: u64,
-    unfinished: Option<u64>,
+    row: Row,
+    has_unfinished: bool,
 ) -> Result<(), StartFault<A>>
+    ensures keeps_others { OnOk result (KeepsOthers (IsOld row.snapshot row.last)
+        (D.state directory.old) (D.state directory.new)) }
     ensures fails { IfErr result IsFailure }
 {
     remove_unfinished(directory, Name::Making)?;
-    if let Some(number) = unfinished {
-        remove_unfinished(directory, Name::Journal(number))?;
-    }
+    remove_next(directory, row.last, has_unfinished)?;
     match directory.sync() {
         Ok(()) => {}
         Err(why) => return Err(failed(None, why)),
     }
     let names = names_of(alloc, directory)?;
-    remove_lower(directory, &names, snapshot)
+    remove_lower(directory, &names, row.snapshot)
 }
 
 /// A broker goes on with the last of its journals. Then what is of no use in the directory is removed.
@@ -135,12 +159,14 @@ fn go_on<S: BatchStore + Drop, D: Directory>(
         × (s.found.journal ≡ former.row.last)) }
     ensures rotates { IfOk result (λ s. (s.rotation.files.snapshot ≡ former.row.snapshot)
         × (s.rotation.files.last ≡ former.row.last) × (s.rotation.draft ≡ None)) }
+    ensures removes { OnOk result (KeepsOthers (IsOld former.row.snapshot former.row.last)
+        (D.state directory.old) (D.state directory.new)) }
     ensures refuses { IfErr result
         (RefusesUnchanged (D.state directory.old) (D.state directory.new)) }
 {
     let row = former.row;
     let resumed = resume_last(alloc, Name::Journal(row.last), former.node, former.reader)?;
-    match settle_names(alloc, directory, row.snapshot, former.unfinished) {
+    match settle_names(alloc, directory, row, former.has_unfinished) {
         Ok(()) => {}
         Err(why) => return Err(why),
     }
@@ -177,6 +203,8 @@ fn fold<S: BatchStore + Drop, D: Directory>(
         (started.new.keeper.world ≡ started.old.keeper.world) }
     ensures keeps_what_was_found { OnOk result (started.new.found ≡ started.old.found) }
     ensures folds { OnOk result (IsFolded started.old.rotation started.new.rotation) }
+    ensures is_there { OnOk result
+        (IsThere (D.state directory.new) (Snapshot started.new.rotation.files.last) true) }
     ensures fails { IfErr result IsFailure }
 {
     match started.rotation.fold(&mut started.keeper, directory) {
@@ -204,8 +232,9 @@ fn fold_if_due<S: BatchStore + Drop, D: Directory>(
         (started.new.keeper.world ≡ started.old.keeper.world) }
     ensures keeps_what_was_found { OnOk result (started.new.found ≡ started.old.found) }
     ensures folds { OnOk result (MatchBool is_due
-        (IsFolded started.old.rotation started.new.rotation)
-        (started.new.rotation ≡ started.old.rotation)) }
+        (IsFolded started.old.rotation started.new.rotation
+        × IsThere (D.state directory.new) (Snapshot started.new.rotation.files.last) true)
+        ((started.new.rotation ≡ started.old.rotation) × (directory.new ≡ directory.old))) }
     ensures fails { IfErr result IsFailure }
 {
     if is_due {
@@ -233,7 +262,10 @@ fn start_standing<S: BatchStore + Drop, D: Directory>(
     ensures rotates { IfOk result (λ s. (s.0.rotation.draft ≡ None)
         × GoesOnBehind s.0.found.snapshot s.0.found.journal s.0.rotation.files) }
     ensures folds { IfOk result (λ s. keeping.is_folded ≡ true
-        → s.0.rotation.files.snapshot ≡ s.0.rotation.files.last) }
+        → (s.0.rotation.files.snapshot ≡ s.0.rotation.files.last)
+        × IsThere (D.state directory.new) (Snapshot s.0.rotation.files.last) true) }
+    ensures removes { IfOk result (λ s. Removes (D.state directory.old) (D.state directory.new)
+        s.0.found s.0.rotation.files) }
     ensures refuses { IfErr result
         (RefusesUnchanged (D.state directory.old) (D.state directory.new)) }
 {
@@ -249,6 +281,7 @@ fn start_standing<S: BatchStore + Drop, D: Directory>(
 
 /// Adds the topics and partitions that are asked for to a broker of which a snapshot was just taken: it is read again with
 /// them, and another one is taken.
+#[tactic(auto, using(crate::proofs::GoingOn::grown_rotates))]
 fn grow<S: BatchStore + Drop, D: Directory>(
     alloc: S::Alloc,
     directory: &mut D,
@@ -259,7 +292,10 @@ fn grow<S: BatchStore + Drop, D: Directory>(
     ensures is_started { IfOk result (λ s. IsStarted D.File.seen s.keeper) }
     ensures keeps_what_was_found { IfOk result (λ s. s.found ≡ former.found) }
     ensures folds { IfOk result (λ s. (s.rotation.draft ≡ None)
-        × (s.rotation.files.snapshot ≡ s.rotation.files.last)) }
+        × (s.rotation.files.snapshot ≡ s.rotation.files.last)
+        × IsThere (D.state directory.new) (Snapshot s.rotation.files.last) true) }
+    ensures rotates { IfOk result (λ s. former.found.has_grown ≡ true
+        → RotatesFrom s.found s.rotation) }
     ensures fails { IfErr result IsFailure }
 {
     let found = former.found;
@@ -330,6 +366,8 @@ pub fn start<S: BatchStore + Drop, D: Directory>(
     ensures takes_its_files { IfOk result (λ s. TakesFiles (D.state directory.old)
         (D.gives directory.old) D.File.seen s.found s.keeper.world.state) }
     ensures rotates { IfOk result (λ s. RotatesFrom s.found s.rotation) }
+    ensures removes { IfOk result (λ s. s.found.is_new ≡ false
+        → Removes (D.state directory.old) (D.state directory.new) s.found s.rotation.files) }
     ensures refuses { IfErr result
         (RefusesUnchanged (D.state directory.old) (D.state directory.new)) }
 {

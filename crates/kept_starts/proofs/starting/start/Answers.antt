@@ -1,5 +1,7 @@
-use Rattle.std.proofs.lemmas.Result.{IfOk-weaker}
+use Rattle.std.proofs.Common.{inl, inr}
+use Rattle.std.proofs.lemmas.Result.{IfErr-weaker, IfOk-weaker}
 use Rattle.kept_starts.proofs.Taking.{stands_or_new, tells_files, tells_growth}
+use Rattle.kept_starts.proofs.Removing.{removes_or_new}
 use Rattle.kept_starts.proofs.starting.start.Goals as goal
 
 pub returns-clause-takes_its_files : goal.returns-clause-takes_its_files
@@ -21,3 +23,17 @@ returns-then-started-clause-takes_its_files g c =
     (λ s same. tells_growth (g.D.Directory.state c.args.directory.now) (g.D.Directory.gives c.args.directory.now) g.D.File.Disk.seen _ s.found
     first.keeper.world.state s.keeper.world.state c.if-started.true stood same)
     c.grow.ensures.keeps_what_was_found
+
+pub returns-clause-removes : goal.returns-clause-removes
+returns-clause-removes g c = λ stood.
+    removes_or_new g.D.Directory.state c.args.directory.now c.row_of.new.directory c.start_standing-begun.new.directory c.in_ok-standing.standing c.in_ok-row.row c.is_none-started.result
+    c.in-Ok.begun.0.found c.in-Ok.begun.0.rotation.files c.in_ok-row.ensures.found c.is_none-started.ensures c.in-Ok.ensures.removes stood
+
+pub returns-then-started-clause-removes : goal.returns-then-started-clause-removes
+returns-then-started-clause-removes g c = IfOk-weaker c.grow.result _ _ (λ s folds stood. inr (folds.1, folds.2)) c.grow.ensures.folds
+
+pub returns-then-started-clause-rotates : goal.returns-then-started-clause-rotates
+returns-then-started-clause-rotates g c = IfOk-weaker c.grow.result _ _ (λ s rotates. rotates c.if-started.true) c.grow.ensures.rotates
+
+pub returns-then-started-clause-refuses : goal.returns-then-started-clause-refuses
+returns-then-started-clause-refuses g c = IfErr-weaker c.grow.result _ _ (λ why fails. inl fails) c.grow.ensures.fails

@@ -1,0 +1,51 @@
+-- The names that a start removes, one call behind the other.
+use Rattle.std.proofs.Common.{◌≡◌, inl, inr, ℕ, ◌+◌, ◌<◌, Bool, true, false, not, Option, Some, None, sym, subst, true≢false}
+use Rattle.std.specs.Prelude.{IfSome, MatchBool}
+use Rattle.std.specs.Option.{is_some}
+use Rattle.data_directory.specs.declared.names.Name.TheVariants.{Snapshot, Journal, Making}
+use Rattle.data_directory.specs.Directories.{DirectoryState, IsThere, KeepsOthers, IsName, IsNone}
+use Rattle.kept_rotations.specs.declared.files.KeptFiles.{KeptFiles}
+use Rattle.kept_rotations.specs.Moments.{RotationState}
+use Rattle.kept_rotations.specs.Steps.{IsBelow}
+use Rattle.kept_rotations.proofs.Touched.{others_then}
+use Rattle.kept_starts.specs.declared.standing.Row.{Row}
+use Rattle.kept_starts.specs.declared.starting.Found.{Found}
+use Rattle.kept_starts.specs.Removals.{IsOld, Removes}
+use Rattle.kept_starts.specs.Starts.{IsFolded}
+
+-- ---- files below the snapshot
+
+module _ (snapshot number : ℕ) (a b c : DirectoryState) where
+  pub one_snapshot : KeepsOthers (IsBelow snapshot) a b → number < snapshot → KeepsOthers (IsName (Snapshot number)) b c → KeepsOthers (IsBelow snapshot) a c
+  one_snapshot first below others = others_then (IsBelow snapshot) (IsBelow snapshot) a b (λ name at. at) (IsName (Snapshot number)) c (λ name at. (number, below, inr at)) first others
+
+  pub one_journal : KeepsOthers (IsBelow snapshot) a b → number < snapshot → KeepsOthers (IsName (Journal number)) b c → KeepsOthers (IsBelow snapshot) a c
+  one_journal first below others = others_then (IsBelow snapshot) (IsBelow snapshot) a b (λ name at. at) (IsName (Journal number)) c (λ name at. (number, below, inl at)) first others
+
+-- ---- all of them
+
+pub settled : (snapshot last : ℕ) (a b c d e : DirectoryState) → KeepsOthers (IsName Making) a b → KeepsOthers (IsName (Journal (last + 1))) b c → KeepsOthers IsNone c d → KeepsOthers (IsBelow snapshot) d e
+    → KeepsOthers (IsOld snapshot last) a e
+settled snapshot last a b c d e making next synced below =
+    let old = IsOld snapshot last in
+    let two : KeepsOthers old a c = others_then (IsName Making) old a b (λ name at. inl at) (IsName (Journal (last + 1))) c (λ name at. inr (inl at)) making next in
+    let three : KeepsOthers old a d = others_then old old a c (λ name at. at) IsNone d (λ name at. absurd at) two synced in
+    others_then old old a d (λ name at. at) (IsBelow snapshot) e (λ name at. inr (inr at)) three below
+
+-- ---- of what was found
+
+pub removes_found : {X F : Type 0} (state : X → DirectoryState) (d mid new : X) (is_due : Bool) (old after : RotationState F) (found found' : Found) (snapshot last : ℕ)
+    → found' ≡ found → found.snapshot ≡ snapshot → found.journal ≡ last → KeepsOthers (IsOld snapshot last) (state d) (state mid)
+    → MatchBool is_due (IsFolded old after × IsThere (state new) (Snapshot after.files.last) true) ((after ≡ old) × (new ≡ mid)) → Removes (state d) (state new) found' after.files
+removes_found state d mid new true old after found found' snapshot last same at behind keeps folds = inr (folds.0.snapshot, folds.1)
+removes_found state d mid new false old after found found' snapshot last same at behind keeps folds =
+    inl (subst (λ (f : Found). KeepsOthers (IsOld f.snapshot f.journal) (state d) (state new)) (sym same)
+    (subst (λ (x : _). KeepsOthers (IsOld found.snapshot found.journal) (state d) (state x)) (sym folds.1)
+    (subst (λ (n : ℕ). KeepsOthers (IsOld n found.journal) (state d) (state mid)) (sym at)
+    (subst (λ (n : ℕ). KeepsOthers (IsOld snapshot n) (state d) (state mid)) (sym behind) keeps))))
+
+pub removes_or_new : {X : Type 0} (state : X → DirectoryState) (old new after : X) (standing : Option Row) (row : Row) (is_new : Bool) (found : Found) (files : KeptFiles)
+    → IfSome standing (λ f. (row ≡ f) × (new ≡ old)) → is_some standing ≡ not is_new → Removes (state new) (state after) found files → is_new ≡ false → Removes (state old) (state after) found files
+removes_or_new state old new after None row true found files same tells removes is = absurd (true≢false is)
+removes_or_new state old new after None row false found files same tells removes is = absurd (true≢false (sym tells))
+removes_or_new state old new after (Some f) row is_new found files same tells removes is = subst (λ (x : _). Removes (state x) (state after) found files) same.1 removes
