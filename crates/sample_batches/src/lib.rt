@@ -1,4 +1,4 @@
-//! Batches for tests, made by another program. `tests/batches.py`, an encoder of its own, gives the same
+//! Batches for tests, made by another program. `tests/encoders/batches.py`, an encoder of its own, gives the same
 //! bytes of those that it has a form for, and the same crc of each.
 #![tactic(auto)]
 

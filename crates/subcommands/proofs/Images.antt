@@ -3,7 +3,7 @@ use Rattle.std.proofs.Common.{◌≡◌, ℕ, ◌+◌, ◌^◌, true, false, Lis
 use Rattle.std.specs.Io.KnownBytes.{Appends, Consumes, Keeps}
 use Rattle.std.proofs.KnownBytes.{Consumes-nil, Consumes-trans, Consumes-kept, Appends-kept}
 use Rattle.std.proofs.lemmas.List.{append-nil}
-use Rattle.image_merge.specs.Merging.{MergesImages}
+use Rattle.subcommands.specs.Merging.{MergesImages}
 use Rattle.streams.specs.declared.failed.FillError.TheVariants as fill
 use Rattle.streams.specs.State.{SourceState, SinkState, ReadsOnce, ReadsMore, ReadsEnd, StopsFilling, LosesRest, TakesAllBut}
 use Rattle.subcommands.specs.declared.error.ImagesError.{ImagesError}

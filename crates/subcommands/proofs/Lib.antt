@@ -1,6 +1,8 @@
 pub mod Streams
 pub mod Refusals
 pub mod Intake
+mod Sized
+mod Pairs
 mod Images
 mod Stopping
 mod Statuses

@@ -2,6 +2,7 @@
 pub mod Ends
 pub mod Tables
 pub mod Refused
+pub mod Merging
 pub mod Merges
 pub mod Runs
 pub mod Status

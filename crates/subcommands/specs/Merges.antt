@@ -1,9 +1,9 @@
 -- What merging two images does, from the bytes that come in to the bytes that go out.
 use Rattle.std.specs.Prelude.{◌≡◌, ◌≢◌, ℕ, true, false, List, Option}
 use Rattle.std.specs.Io.KnownBytes.{Consumes, Appends}
-use Rattle.image_merge.specs.declared.error.MergeFault.{MergeFault}
-use Rattle.image_merge.specs.declared.error.MergeFault.TheVariants as fault
-use Rattle.image_merge.specs.Merging.{MergesImages, RefusesPair}
+use Rattle.subcommands.specs.declared.merge_fault.MergeFault.{MergeFault}
+use Rattle.subcommands.specs.declared.merge_fault.MergeFault.TheVariants as fault
+use Rattle.subcommands.specs.Merging.{MergesImages, RefusesPair}
 use Rattle.subcommands.specs.declared.error.ImagesError.{ImagesError}
 use Rattle.subcommands.specs.declared.error.ImagesError.TheVariants.{Images, Read, Write, OutOfMemory}
 use Rattle.streams.specs.State.{SourceState, SinkState, IsReadOut, TakesFront}

@@ -1,7 +1,7 @@
 -- What a table or a merge came to, by the status that is answered: 0 done, 1 the input is refused, 3 out of memory, 4 a read
 -- or a write failed. Where there was no memory to look at the arguments, nothing was read.
 use Rattle.std.specs.Prelude.{◌≡◌, ◌≢◌, ◌⊎◌, ℕ}
-use Rattle.image_merge.specs.declared.error.MergeFault.{MergeFault}
+use Rattle.subcommands.specs.declared.merge_fault.MergeFault.{MergeFault}
 use Rattle.streams.specs.State.{SourceState, SinkState}
 use Rattle.subcommands.specs.declared.error.Refusal.{Refusal}
 use Rattle.subcommands.specs.declared.error.TableError.TheVariants as table

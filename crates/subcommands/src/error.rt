@@ -1,8 +1,8 @@
 //! Why a subcommand did not do what it was asked for.
 
+use crate::merge_fault::MergeFault;
 use batch_codec::BatchError;
 use broker_core::SessionError;
-use image_merge::MergeFault;
 use partition_log::DeliverError;
 use thiserror::Error;
 

@@ -4,6 +4,8 @@
 #![tactic(auto)]
 
 mod error;
+mod image_pairs;
+mod merge_fault;
 mod merging;
 mod replaying;
 mod session;
@@ -15,6 +17,7 @@ pub use broker_core::{
     Answer, Config, ConfigError, Ended, GROUP_TOPIC, Node, Role, SessionError, TopicConfig, serve,
 };
 pub use error::{ImagesError, Refusal, SessionFault, TableError};
+pub use merge_fault::MergeFault;
 pub use merging::{merge_stream, run_merge};
 pub use replaying::run_replay;
 pub use session::{answer_frames, refuse_configuration, run_session};

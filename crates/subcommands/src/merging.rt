@@ -10,9 +10,10 @@ ghost use Rattle.subcommands.specs.Runs.{RunsMerge};
 ghost use Rattle.subcommands.specs.Status.{images_status};
 
 use crate::error::ImagesError;
+use crate::image_pairs::merge_images;
+use crate::merge_fault::MergeFault;
 use crate::status::{DONE, images_status};
 use bytes::BytesMut;
-use image_merge::{MergeFault, merge_images};
 use std::alloc::Allocator;
 use std::io::{Read, Write};
 use streams::{FillError, MOST_READS, Sink, Source, fill};

@@ -1,10 +1,10 @@
 //! Two clients' sessions under each allocation failing in turn: one of them lacks memory, or neither does, and the other is
 //! answered.
 
-use crate::tests::brokers::configured;
 use crate::tests::frames::{FETCHED, LIST, LISTED, NOT_STORED, PRODUCE, STORED};
 use crate::tests::served::READ_ROOM;
 use refusing_alloc::Refusing;
+use sample_brokers::brokers::configured;
 use segment::{BatchStore, ProgramStore};
 use sessions::{Plainly, Seat, Sessions, Then, Visit, Why};
 use std::alloc::Allocator;

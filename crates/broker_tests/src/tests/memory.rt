@@ -1,15 +1,15 @@
 //! A broker in memory of which one allocation fails: one call lacks memory and what takes none answers as before, and
 //! made again it does what it is to do.
 
-use crate::tests::brokers::{answers_of, has_answers, has_logs, leader, prints};
 use crate::tests::frames::{
     DESCRIBE, DESCRIBED, FETCH, FETCHED, LIST, LISTED_AT_1, NOT_STORED, PRODUCE, STORED, repeated,
 };
 use crate::tests::pieces::{reader_of, writer_of};
 use crate::tests::served::{READ_ROOM, session};
-use crate::tests::stores::{BOTH, Kept};
 use refusing_alloc::Refusing;
 use request_frames::parse;
+use sample_brokers::brokers::{answers_of, has_answers, has_logs, leader, prints};
+use sample_brokers::stores::{BOTH, Kept};
 use segment::{BatchStore, SegStore, VecStore};
 use std::alloc::Allocator;
 use std::test::Fail;

@@ -18,7 +18,7 @@ clean 0 9 9\ntable 1\ncover 1\ncover 2\ntrim 1 1\ncover 1\n";
 const PRINTED: &str = "base 0\nbase 1\nimage 0\nadded\nmerged\ncleaned 0 1 0\na=1\nb=2\nend\n0-2\n\
 refused NoCopy\ntrimmed\n1-2\n";
 
-/// Two images behind their sizes, encoded by tests/copies.py: one has seen offset 0, the other offset 1.
+/// Two images behind their sizes, encoded by tests/encoders/copies.py: one has seen offset 0, the other offset 1.
 static PAIR: [u8; 232] = [
     0x00, 0x00, 0x00, 0x70, 0x4b, 0x43, 0x50, 0x59, 0x00, 0x01, 0x00, 0x00, 0x00, 0x00, 0x00, 0x00,
     0x00, 0x00, 0x00, 0x00, 0x00, 0x01, 0x00, 0x00, 0x00, 0x00, 0x00, 0x00, 0x00, 0x00, 0x00, 0x00,

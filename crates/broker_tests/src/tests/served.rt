@@ -1,10 +1,10 @@
 //! Sessions of a Produce and a ListOffsets request: cut frames, streams in pieces and such that fail, and
 //! how few allocations they make.
 
-use crate::tests::brokers::{end_of, leader};
 use crate::tests::frames::{LIST, LISTED, LISTED_AT_1, PRODUCE, STORED, repeated};
 use crate::tests::pieces::{Halting, NONE, Pieces, WAYS, reader_of, writer_of};
 use refusing_alloc::Refusing;
+use sample_brokers::brokers::{end_of, leader};
 use segment::{BatchStore, ProgramStore};
 use std::alloc::Allocator;
 use std::io::ErrorKind;

@@ -1,9 +1,9 @@
 //! A session under each allocation failing in turn: a request is answered, or nothing is but that memory was wanting.
 
-use crate::tests::brokers::configured;
 use crate::tests::frames::{LIST, LISTED};
 use crate::tests::served::READ_ROOM;
 use refusing_alloc::Refusing;
+use sample_brokers::brokers::configured;
 use std::alloc::Allocator;
 use std::test::Fail;
 use streams::{Sink, Source};

@@ -47,7 +47,7 @@ fn clusters_have_one_to_eight_copies(rt: HostRuntime) -> Result<(), Fail> {
 }
 
 /// A batch of a producer that asks for the offset 9 and the leader epoch 5, and a byte behind it. In the folder
-/// `tests`: `batch_of("base:9 leader:5 producer:7 epoch:0 sequence:0 k=v".split()) + bytes(1)`.
+/// `tests/encoders`: `batch_of("base:9 leader:5 producer:7 epoch:0 sequence:0 k=v".split()) + bytes(1)`.
 const MISPLACED: [u8; 71] = [
     0x00, 0x00, 0x00, 0x00, 0x00, 0x00, 0x00, 0x09, 0x00, 0x00, 0x00, 0x3a, 0x00, 0x00, 0x00, 0x05,
     0x02, 0xa3, 0x5a, 0xf1, 0x74, 0x00, 0x00, 0x00, 0x00, 0x00, 0x00, 0x00, 0x00, 0x00, 0x00, 0x00,

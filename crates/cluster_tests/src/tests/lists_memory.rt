@@ -1,15 +1,14 @@
-//! Calls beside those of copies and clusters, each allocation failing in turn: a list of batches that is cleaned, two
-//! images that are merged, the parts of an image, and escaped bytes. What was given is as it was, and the call succeeds
+//! Calls beside those of copies and clusters, each allocation failing in turn: a list of batches that is cleaned, the
+//! parts of an image, and escaped bytes. What was given is as it was, and the call succeeds
 //! later.
 
 use crate::tests::copies::are_added;
 use crate::tests::memory::MOST;
-use crate::tests::outside::{LEFT, NONE_OF_TWO, RIGHT, SECOND_OF_TWO, TWO};
+use crate::tests::outside::{RIGHT, SECOND_OF_TWO, TWO};
 use crate::tests::parts::{batches_of, know_content};
 use batch_codec::encode;
 use cleaner::clean_list;
 use copy_images::fields::{put_crc, put_ranges};
-use image_merge::{MergeFault, merge_images};
 use partition_log::{CleanReport, PartitionLog};
 use refusing_alloc::Refusing;
 use script_words::unescape;
@@ -49,33 +48,6 @@ fn cleans_a_list<S: BatchStore>(heap: S::Alloc, ample: S::Alloc) -> bool {
     is_filled && is_cleaned == Ok(true)
 }
 
-/// Two images, each behind its size.
-fn two_images<A: Allocator + Copy>(alloc: A) -> Result<Vec<u8, A>, AllocError> {
-    let mut input = Vec::new(alloc);
-    let images: [&[u8]; 2] = [&LEFT, &RIGHT];
-    for image in images {
-        let size = u32::try_from(image.len()).map_err(|_| AllocError)?;
-        input.extend_from_slice(&size.to_be_bytes())?;
-        input.extend_from_slice(image)?;
-    }
-    Ok(input)
-}
-
-/// Two images are merged, at the first time or the second.
-fn merges_images<A: Allocator + Copy>(heap: A, ample: A) -> bool {
-    let Ok(input) = two_images(ample) else {
-        return false;
-    };
-    let merged = match merge_images(heap, &input) {
-        Err(MergeFault::OutOfMemory) => merge_images(heap, &input),
-        merged => merged,
-    };
-    match merged {
-        Ok(image) => image.as_slice() == NONE_OF_TWO.as_slice(),
-        Err(_) => false,
-    }
-}
-
 /// The ranges that the copy of `RIGHT` has seen.
 static SEEN: [(i64, i64); 2] = [(0, 1), (3, 3)];
 
@@ -111,10 +83,9 @@ fn reads_escapes<A: Allocator + Copy>(heap: A) -> bool {
 }
 
 /// The calls: what each is, and how many bytes it is given.
-static CALLS: [(&str, usize); 5] = [
+static CALLS: [(&str, usize); 4] = [
     ("a list in memory of its own", TWO.len()),
     ("a list in segments", TWO.len()),
-    ("two images", LEFT.len() + RIGHT.len()),
     ("the parts of an image", RIGHT.len()),
     ("escapes", 8),
 ];
@@ -124,8 +95,7 @@ fn succeeds_later<A: Allocator + Copy>(heap: A, ample: A, call: usize) -> bool {
     match call {
         0 => cleans_a_list::<VecStore<A>>(heap, ample),
         1 => cleans_a_list::<SegStore<A>>(heap, ample),
-        2 => merges_images(heap, ample),
-        3 => puts_parts(heap),
+        2 => puts_parts(heap),
         _ => reads_escapes(heap),
     }
 }

@@ -1,4 +1,4 @@
-//! Batches, images and deltas of another program. In the folder `tests`, by Python:
+//! Batches, images and deltas of another program. In the folder `tests/encoders`, by Python:
 //!
 //! ```text
 //! from batches import crc32c, input_of

@@ -2,8 +2,8 @@
 //! also with zeros behind it, and any sectors of it torn. What is read are the groups that are left whole, all that were
 //! synced among them; the end is no damage, and a further group goes on from there.
 
+use crate::tests::groups::{KEPT_HEAD, frames_of, group_of, joined, journal_name, refusal};
 use crate::tests::journal_bytes::FOUR;
-use crate::tests::journals::{KEPT_HEAD, frames_of, group_of, joined, journal_name, refusal};
 use crate::tests::lent::{Lent, Watched};
 use journal::layout::{FRAMES_AT, HEAD_SIZE};
 use journal::{
@@ -146,7 +146,7 @@ fn has_further<A: Allocator + Copy>(alloc: A, lent: Lent<'_, A>, count: usize) -
     let Ok(mut reader) = Reader::open(lent, alloc) else {
         return false;
     };
-    let is_read = has_first(&mut reader, count) && matches!(reader.next(), Ok(true));
+    let is_read = has_first(&mut reader, count) && reader.read_to_end().is_ok();
     is_read && reader.frames() == frames_of(FOUR) && reader.at() == reader.size()
 }
 

@@ -1,12 +1,12 @@
 //! Snapshots that are written image by image while the broker changes: as they are written at once, with each call of the
 //! file failing in turn, and with each allocation.
 
-use crate::tests::exchanges::{COMMIT, STORE};
-use crate::tests::requests::{new_node, request_in};
 use broker_node::{Node, Role};
 use broker_state::Place;
 use journal::MemoryDisk;
 use refusing_alloc::Refusing;
+use sample_brokers::exchanges::{COMMIT, STORE};
+use sample_brokers::small::{new_node, request_in};
 use segment::{BatchStore, SegStore};
 use snapshot_drafts::{Draft, DraftError, MemoryDraft};
 use state_snapshots::write_snapshot;

@@ -1,8 +1,8 @@
 //! Journals that are read in memory of which one allocation fails, and over a disk of which one call fails: one call
 //! lacks it, the reader is where it was, and made again the call does what it is to do.
 
+use crate::tests::groups::{frames_of, group_of, joined};
 use crate::tests::journal_bytes::{FOUR, HEAD, ONE, SECOND, THIRD};
-use crate::tests::journals::{frames_of, group_of, joined};
 use crate::tests::lent::{Lent, Watched};
 use journal::{Disk, GroupBuffer, MemoryDisk, OpenError, ReadError, Reader};
 use refusing_alloc::Refusing;

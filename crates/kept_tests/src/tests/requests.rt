@@ -1,18 +1,17 @@
 //! Requests handled so that it is told whether memory sufficed: as they are handled without, and with each allocation
 //! failing in turn.
 
-use crate::tests::exchanges::{
+use broker_node::{Answer, GROUP_TOPIC, Node, Role};
+use exact_replies::{Memory, handle_exactly, may_change};
+use refusing_alloc::Refusing;
+use sample_brokers::brokers::{answers_of, has_answers};
+use sample_brokers::exchanges::{
     CLEAN, COMMIT, DELIVER, Exchange, FORGET, MERGE, NEXT_PRODUCER_ID, PATCH, POSITION,
     PRODUCER_ID, SILENT, STORE, TAKE, TRIM,
 };
-use broker_node::{Answer, Config, GROUP_TOPIC, Node, Role, TopicConfig};
-use copy_answers::put_answers;
-use exact_replies::{Memory, handle_exactly, may_change};
-use refusing_alloc::Refusing;
-use request_frames::{Request, parse};
+use sample_brokers::small::{new_node, request_in};
 use segment::{BatchStore, SegStore};
 use std::alloc::{AllocError, Allocator};
-use std::string::String;
 
 /// What a broker is asked, in this order, and the ends of partition 0 of `t`, of `u` and of the topic of groups then.
 struct Run {
@@ -47,81 +46,6 @@ static OF_A_FOLLOWER: Run = Run {
 /// More allocations than all requests ask for.
 const MOST: u64 = 200;
 
-/// Adds a topic of two partitions.
-fn add_topic<A: Allocator + Copy>(
-    alloc: A,
-    topics: &mut Vec<TopicConfig<A>, A>,
-    name: &str,
-) -> Result<(), AllocError> {
-    let name = String::from_str(alloc, name)?;
-    topics.push(TopicConfig {
-        name,
-        partitions: 2,
-    })?;
-    Ok(())
-}
-
-/// A configuration with the topics `t` and `u`.
-pub(crate) fn configured<A: Allocator + Copy>(
-    alloc: A,
-    role: Role,
-) -> Result<Config<A>, AllocError> {
-    let mut topics = Vec::new(alloc);
-    add_topic(alloc, &mut topics, "t")?;
-    add_topic(alloc, &mut topics, "u")?;
-    let host = String::from_str(alloc, "hhh")?;
-    Ok(Config {
-        role,
-        node_id: 1,
-        host,
-        port: 9092,
-        topics,
-        first_producer: 0,
-    })
-}
-
-/// A new broker; none where there is no memory for it.
-pub(crate) fn new_node<S: BatchStore>(alloc: S::Alloc, role: Role) -> Option<Node<S>> {
-    let config = configured(alloc, role).ok()?;
-    Node::new(alloc, config).ok()
-}
-
-/// Appends what a partition answers without taking memory, where there is such a partition.
-fn put_partition<S: BatchStore, B: Allocator + Copy>(
-    out: &mut Vec<u8, B>,
-    node: &Node<S>,
-    topic: &[u8],
-) -> Result<(), AllocError> {
-    match node.log(topic, 0) {
-        Some(log) => put_answers(out, log),
-        None => Ok(()),
-    }
-}
-
-/// What the partitions that the requests name answer without taking memory.
-fn answers_of<S: BatchStore, B: Allocator + Copy>(
-    alloc: B,
-    node: &Node<S>,
-) -> Result<Vec<u8, B>, AllocError> {
-    let mut out = Vec::new(alloc);
-    put_partition(&mut out, node, b"t")?;
-    put_partition(&mut out, node, b"u")?;
-    put_partition(&mut out, node, GROUP_TOPIC)?;
-    Ok(out)
-}
-
-/// Whether they answer so.
-fn has_answers<S: BatchStore, B: Allocator + Copy>(
-    alloc: B,
-    node: &Node<S>,
-    answers: &[u8],
-) -> bool {
-    match answers_of(alloc, node) {
-        Ok(now) => now.as_slice() == answers,
-        Err(_) => false,
-    }
-}
-
 /// The end of partition 0 of a topic.
 fn end<S: BatchStore>(node: &Node<S>, topic: &[u8]) -> i64 {
     node.log(topic, 0).map_or(-1, |log| log.end())
@@ -130,11 +54,6 @@ fn end<S: BatchStore>(node: &Node<S>, topic: &[u8]) -> i64 {
 /// Whether the partitions end as they should.
 fn has_ends<S: BatchStore>(node: &Node<S>, ends: (i64, i64, i64)) -> bool {
     (end(node, b"t"), end(node, b"u"), end(node, GROUP_TOPIC)) == ends
-}
-
-/// The request in a frame behind its size.
-pub(crate) fn request_in(frame: &'static [u8]) -> Option<Request<'static>> {
-    parse(frame.get(4..).unwrap_or(b"")).ok()
 }
 
 /// What came of a request.

@@ -1,6 +1,6 @@
 use Rattle.std.proofs.Common.{ℕ, List, rules, sym, subst, refl}
 use Rattle.std.proofs.lemmas.Result.{on_ok_weaker, IfErr-weaker}
-use Rattle.image_merge.specs.Merging.{MergesImages, RefusesPair}
+use Rattle.subcommands.specs.Merging.{MergesImages, RefusesPair}
 use Rattle.subcommands.proofs.Images.{reading_fails, printing_fails}
 use Rattle.subcommands.proofs.merging.merge_stream.Goals as goal
 

@@ -1,6 +1,0 @@
-use Rattle.std.proofs.Common.{rules}
-use Rattle.image_merge.proofs.Sized.{starts_sized}
-use Rattle.image_merge.proofs.images.split_sized.Goals as goal
-
-pub returns-then-size-gt-MAX_SIZE : goal.returns-then-size-gt-MAX_SIZE
-returns-then-size-gt-MAX_SIZE c = search (rules, starts_sized)

@@ -1,0 +1,224 @@
+//! A directory in memory whose names are known: of it each clause on the names of a directory says something, and is proved.
+
+ghost use Rattle.std.specs.Prelude.{◌≡◌, ◌≤◌, ◌++◌, ◌∷◌, [], None, OnErr, OnOk, Some, false, length, true};
+ghost use Rattle.std.specs.List.{Contains};
+ghost use Rattle.data_directory.specs.declared.names.Name.{Name};
+ghost use Rattle.data_directory.specs.Directories.{Becomes, IsName, IsThere, KeepsCertain, KeepsOthers};
+ghost use Rattle.memory_directories.specs.KnownNames.{there_after};
+
+use data_directory::{Directory, Kind, Name};
+use journal::MemoryDisk;
+use journal::layout::KEY_SIZE;
+use snapshot_drafts::MemoryDraft;
+use std::alloc::{AllocError, Allocator};
+use std::io::{self, Error, ErrorKind};
+
+/// The bytes that are drawn for the key of a journal.
+const DRAWN: [u8; KEY_SIZE] = *b"01234567";
+
+/// A change of names.
+#[derive(Drop)]
+struct Change<A: Allocator + Copy> {
+    /// The name that no file has any more.
+    gone: Option<Name>,
+    /// The name that a file has got.
+    named: Option<Name>,
+    /// What a snapshot in the making had when it got that name.
+    draft: Option<MemoryDraft<A>>,
+}
+
+impl<A: Allocator + Copy> Change<A> {
+    /// Whether a file has a name after it, where it is said whether one had it before.
+    fn leaves(&self, name: Name, before: bool) -> bool
+        ensures { result ≡ there_after name self.now.gone self.now.named before }
+    {
+        self.named == Some(name) || (self.gone != Some(name) && before)
+    }
+}
+
+/// A directory in memory that knows which names are there, and which of them are on the disk for certain. It keeps names alone:
+/// a file that is opened has no byte.
+#[derive(Drop)]
+pub struct KnownDirectory<A: Allocator + Copy> {
+    alloc: A,
+    /// All changes of names, the last one last.
+    changes: Vec<Change<A>, A>,
+    /// How many of them are on the disk for certain.
+    synced: usize,
+    ghost synced_within: { synced ≤ length changes.items },
+}
+
+impl<A: Allocator + Copy> KnownDirectory<A> {
+    /// An empty directory.
+    pub fn new(alloc: A) -> KnownDirectory<A>
+        ensures { result.changes.items ≡ [] }
+    {
+        KnownDirectory {
+            alloc,
+            changes: Vec::new(alloc),
+            synced: 0,
+        }
+    }
+
+    /// Whether a file has a name.
+    fn is_there(&self, name: Name) -> bool
+        ensures { (⟦<KnownDirectory<A> as Directory>⟧.state self.now).there name ≡ Some result }
+    {
+        let mut is_there = false;
+        for change in &self.changes {
+            is_there = change.leaves(name, is_there);
+        }
+        is_there
+    }
+
+    /// Makes a change, or none where memory lacks.
+    fn make(&mut self, change: Change<A>) -> Result<(), AllocError>
+        ensures makes { OnOk result (self.new.changes.items ≡ self.old.changes.items ++ change ∷ []) }
+        ensures unchanged { OnErr result (self.new.changes.items ≡ self.old.changes.items) }
+        ensures synced { self.new.synced ≡ self.old.synced }
+    {
+        self.changes.push(change)?;
+        Ok(())
+    }
+
+    /// Gives a name to a new file, where none has it.
+    fn give(&mut self, name: Name) -> io::Result<()>
+        ensures was_absent { OnOk result (IsThere (⟦<KnownDirectory<A> as Directory>⟧.state self.old) name false) }
+        ensures makes { OnOk result (Becomes name true
+            (⟦<KnownDirectory<A> as Directory>⟧.state self.old)
+            (⟦<KnownDirectory<A> as Directory>⟧.state self.new)) }
+        ensures keeps_others { KeepsOthers (IsName name)
+            (⟦<KnownDirectory<A> as Directory>⟧.state self.old)
+            (⟦<KnownDirectory<A> as Directory>⟧.state self.new) }
+        ensures keeps_certain { KeepsCertain (IsName name)
+            (⟦<KnownDirectory<A> as Directory>⟧.state self.old)
+            (⟦<KnownDirectory<A> as Directory>⟧.state self.new) }
+    {
+        self.refuse_had(name)?;
+        self.make(Change {
+            gone: None,
+            named: Some(name),
+            draft: None,
+        })?;
+        Ok(())
+    }
+
+    /// Refuses a name that a file has.
+    fn refuse_had(&self, name: Name) -> io::Result<()>
+        ensures { OnOk result (IsThere (⟦<KnownDirectory<A> as Directory>⟧.state self.now) name false) }
+    {
+        if self.is_there(name) {
+            return Err(Error::from(ErrorKind::AlreadyExists));
+        }
+        Ok(())
+    }
+
+    /// Refuses a name that no file has.
+    fn refuse_absent(&self, name: Name) -> io::Result<()>
+        ensures { OnOk result (IsThere (⟦<KnownDirectory<A> as Directory>⟧.state self.now) name true) }
+    {
+        if !self.is_there(name) {
+            return Err(Error::from(ErrorKind::NotFound));
+        }
+        Ok(())
+    }
+}
+
+impl<A: Allocator + Copy> KnownDirectory<A> {
+    /// Puts a name on a list, if one is given and a file has it.
+    fn list<B: Allocator + Copy>(
+        &self,
+        named: Option<Name>,
+        names: &mut Vec<Name, B>,
+    ) -> Result<(), AllocError>
+        ensures keeps { OnOk result ((name : Name) → Contains names.old.items name → Contains names.new.items name) }
+        ensures lists { OnOk result ((name : Name) → named ≡ Some name
+            → IsThere (⟦<KnownDirectory<A> as Directory>⟧.state self.now) name true → Contains names.new.items name) }
+    {
+        if let Some(name) = named
+            && self.is_there(name)
+            && !names.contains(&name)
+        {
+            names.push(name)?;
+        }
+        Ok(())
+    }
+}
+
+impl<A: Allocator + Copy> Directory for KnownDirectory<A> {
+    ghost use Rattle.std.specs.Prelude.{⊤};
+    ghost use Rattle.std.specs.Option.{option_map};
+    ghost use Rattle.snapshot_drafts.specs.MemoryDrafts.{bytes_of};
+    ghost use Rattle.memory_directories.specs.KnownNames.{state_by};
+
+    type File = MemoryDisk<A>;
+
+    type Draft = MemoryDraft<A>;
+
+    ghost state = { λ d. state_by d.changes.items (λ change. change.gone) (λ change. change.named)
+        (λ change. option_map bytes_of change.draft) d.synced };
+
+    ghost gives = { λ d name file. ⊤ };
+
+    fn names<B: Allocator + Copy>(&self, alloc: B) -> io::Result<Vec<Name, B>> {
+        let mut names = Vec::new(alloc);
+        for change in &self.changes {
+            self.list(change.named, &mut names)?;
+        }
+        Ok(names)
+    }
+
+    fn kind(&self, name: Name) -> io::Result<Kind> {
+        if self.is_there(name) {
+            Ok(Kind::File)
+        } else {
+            Ok(Kind::Nothing)
+        }
+    }
+
+    fn open(&self, name: Name) -> io::Result<MemoryDisk<A>> {
+        self.refuse_absent(name)?;
+        Ok(MemoryDisk::new(self.alloc, b"")?)
+    }
+
+    fn create(&mut self, name: Name) -> io::Result<MemoryDisk<A>> {
+        let file = MemoryDisk::new(self.alloc, b"")?;
+        self.give(name)?;
+        Ok(file)
+    }
+
+    fn draft(&mut self) -> io::Result<MemoryDraft<A>> {
+        self.give(Name::Making)?;
+        Ok(MemoryDraft::new(self.alloc))
+    }
+
+    fn publish(&mut self, draft: MemoryDraft<A>, number: u64) -> io::Result<()> {
+        self.refuse_absent(Name::Making)?;
+        self.refuse_had(Name::Snapshot(number))?;
+        self.make(Change {
+            gone: Some(Name::Making),
+            named: Some(Name::Snapshot(number)),
+            draft: Some(draft),
+        })?;
+        Ok(())
+    }
+
+    fn remove(&mut self, name: Name) -> io::Result<()> {
+        self.refuse_absent(name)?;
+        self.make(Change {
+            gone: Some(name),
+            named: None,
+            draft: None,
+        })?;
+        Ok(())
+    }
+
+    fn sync(&mut self) -> io::Result<()> {
+        self.synced = self.changes.len();
+        Ok(())
+    }
+
+    fn draw_key(&mut self) -> io::Result<[u8; KEY_SIZE]> {
+        Ok(DRAWN)
+    }
+}

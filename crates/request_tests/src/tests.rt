@@ -1,0 +1,11 @@
+//! The tests, and what they share, a file for each.
+
+mod cutting;
+mod entry_memory;
+mod exchanges;
+mod new_brokers;
+mod one;
+mod parts;
+mod refusing;
+mod request_memory;
+mod writing;
