@@ -1,6 +1,7 @@
 pub mod AnsweredFrames
 pub mod ChangedPlaces
 pub mod FollowersStay
+mod EffectsApart
 mod Followed
 mod Said
 mod TopicsFit

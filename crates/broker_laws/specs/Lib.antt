@@ -1,2 +1,3 @@
 pub mod ProducerIds
+pub mod OneChange
 pub mod Examples

@@ -23,15 +23,17 @@ ghost use Rattle.answering.specs.Plans.{AnswersAll};
 ghost use Rattle.log_requests.specs.Fetch.{FetchRoom, fetch_work};
 ghost use Rattle.setup_requests.specs.ApiVersions.{listed_ranges};
 ghost use Rattle.broker_state.specs.Batches.{append_fault, FaultIs};
-ghost use Rattle.broker_state.specs.State.{ConfigValue, State, new_state, partition_at, is_known, with_content};
-ghost use Rattle.broker_state.specs.declared.config.Role.TheVariants.{Follower};
+ghost use Rattle.broker_state.specs.State.{ConfigValue, State, new_state, partition_at, is_known, content_at, with_content};
+ghost use Rattle.broker_state.specs.declared.config.Role.TheVariants.{Leader, Follower};
 ghost use Rattle.broker_state.specs.Producers.{with_id_given};
 ghost use Rattle.broker_state.specs.Sound.{IsSoundConfig, IsSound};
 ghost use Rattle.broker_node.specs.Effects.{TopicPartition, effect, places, is_among};
-ghost use Rattle.broker_node.specs.Effects.Effect.{reads, gives_id, appends};
+ghost use Rattle.broker_node.specs.Effects.Effect.{reads, gives_id, appends, takes, cleans, trims};
 ghost use Rattle.broker_node.specs.Replies.{reply, IsReply, MayReply};
 ghost use Rattle.broker_node.specs.Fitting.{IsFitting, FitsReply};
 ghost use Rattle.broker_node.specs.Streams.{IsAnswered, AreAnswered};
+ghost use Rattle.copy_requests.specs.Import.{has_begun};
+ghost use Rattle.broker_laws.specs.OneChange.{CleansAt, TrimsAt};
 ghost use Rattle.broker_laws.specs.ProducerIds.{ids_given, AreInARow};
 
 /// The reply that is a function is the one case of what may be replied in which no entry runs out of
@@ -106,6 +108,21 @@ pub fn a_request_changes_only_its_places()
         → MayReply s q out after → after ≡ s }
     ensures followers_give_no_id { (s after : State) (q : RequestValue) (out : Option (List ℕ))
         → s.config.role ≡ Follower → effect q.body ≡ gives_id → MayReply s q out after → after ≡ s }
+{}
+
+/// What a request makes of the one partition that it changes, by its effect: what cleans makes a cleaning of what is there,
+/// what trims cuts it at a start, and what takes what another copy has does nothing at a leader whose log has begun; or
+/// nothing changes. With what [`a_request_changes_only_its_places`] says of those that read, give an id and append, a request
+/// that can change something has no other effect than its own. Of one that only reads this isn't said: it may have any.
+pub fn effects_are_told_apart()
+    ensures one_cleaning { (s after : State) (q : RequestValue) (out : Option (List ℕ)) (p : TopicPartition)
+        → effect q.body ≡ cleans p → MayReply s q out after → CleansAt p s after }
+    ensures one_cut { (s after : State) (q : RequestValue) (out : Option (List ℕ)) (p : TopicPartition)
+        → effect q.body ≡ trims p → MayReply s q out after → TrimsAt p s after }
+    ensures leaders_take_nothing { (s after : State) (q : RequestValue) (out : Option (List ℕ))
+        (p : TopicPartition) → s.config.role ≡ Leader
+        → has_begun (content_at s p.topic p.partition) ≡ true → effect q.body ≡ takes p
+        → MayReply s q out after → after ≡ s }
 {}
 
 /// Over any list of requests to a new broker, wherever memory lacks, the producer ids in the responses with

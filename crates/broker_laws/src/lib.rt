@@ -7,5 +7,6 @@ mod laws;
 
 pub use laws::{
     a_request_changes_only_its_places, answered_snoc, answers_function, any_version_is_answered,
-    append_faults, one_content_changes, producer_ids_are_in_a_row, replies_fit,
+    append_faults, effects_are_told_apart, one_content_changes, producer_ids_are_in_a_row,
+    replies_fit,
 };

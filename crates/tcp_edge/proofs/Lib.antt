@@ -2,3 +2,4 @@ mod Arguments
 mod TextAndNumber
 mod TopicLists
 mod Hosts
+mod ExampleLines

@@ -1,4 +1,5 @@
 pub mod CommandLine
+pub mod Examples
 pub mod Keeping
 pub mod Addresses
 pub mod Asked

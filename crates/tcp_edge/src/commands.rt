@@ -10,39 +10,42 @@ use std::alloc::{AllocError, Global};
 
 const ABOUT: &str = "A message broker with compacted topics";
 
-const ABOUT_TABLE: &str = "Prints the current state of a topic: reads record batches, end to end, \
-from standard input, and writes a line KEY=VALUE for each key that has a value, by rising key bytes";
+const ABOUT_TABLE: &str =
+    "Prints the latest value of each key of a topic. Reads record batches, back to \
+back, from standard input, and writes a line KEY=VALUE for each key that has a value, sorted by key bytes";
 
 const ABOUT_SESSION: &str =
-    "Answers the request frames on standard input, end to end, with response \
-frames on standard output, as a new broker with these topics";
+    "Reads Kafka requests from standard input, back to back, and writes the \
+responses to standard output, as a new broker with these topics";
 
-const ABOUT_SERVE: &str = "Listens on 127.0.0.1 as a new broker with these topics, answers the \
-requests of one connection after the other, and prints a line for each";
+const ABOUT_SERVE: &str =
+    "Listens on 127.0.0.1 as a new broker with these topics, serves one connection \
+at a time, and prints a line for each";
 
 const ABOUT_START: &str =
-    "Listens as a broker with these topics, a new one or the one that a directory \
-keeps, and answers the requests of many connections at once, until it is ended";
+    "Runs a broker with these topics, a new one or the one that a directory keeps, \
+and serves many connections at once, until it is stopped";
 
 const ABOUT_REPLAY: &str =
-    "Reads a script of events from standard input, makes them happen to the copies \
-of one partition, and prints what comes of each";
+    "Reads a script from standard input, applies its events to the replicas of one \
+partition, and prints the result of each";
 
-const ABOUT_MERGE: &str = "Reads the images of two copies of a partition from standard input, each \
-behind its size (4 bytes, the highest first), and writes the image of their merge to standard output";
+const ABOUT_MERGE: &str =
+    "Reads the images of two replicas of a partition from standard input, each after \
+its size (4 bytes, big-endian), and writes the image of the merged replica to standard output";
 
 const SCRIPT: &str = "\
-The first line of a script is 'copies N', for 1 to 8 copies; copy 0 is the leader's. Each other line
-is one of these. Copies, batches and images are numbered from 0.
+The first line of a script is 'copies N', for 1 to 8 replicas. Replica 0 is the leader. Each other line
+is one of these. Replicas, batches and images are numbered from 0.
   produce ITEM ..                        sends a batch to the leader: base O, or repeat O
   produce-as PRODUCER EPOCH SEQ ITEM ..  sends it as a producer's batch
-  deliver COPY BATCH                     delivers a batch to a follower: added, or repeat
-  clean COPY UPTO TOMB                   cleans a copy: cleaned RECORDS TOMBSTONES BATCHES
-  send COPY                              keeps an image of a copy: image I
-  merge COPY IMAGE                       merges an image into a follower: merged
-  trim COPY START                        drops what lies below an offset: trimmed
-  table COPY                             prints a line KEY=VALUE for each key, and end
-  cover COPY                             prints the ranges of the offsets that were seen, or none
+  deliver REPLICA BATCH                  delivers a batch to a follower: added, or repeat
+  clean REPLICA UPTO TOMB                compacts a replica: cleaned RECORDS TOMBSTONES BATCHES
+  send REPLICA                           takes an image of a replica: image I
+  merge REPLICA IMAGE                    merges an image into a follower: merged
+  trim REPLICA START                     drops what is below an offset: trimmed
+  table REPLICA                          prints a line KEY=VALUE for each key, and end
+  cover REPLICA                          prints the ranges of offsets that it has seen, or none
 An ITEM is KEY=VALUE, or KEY to delete the key; %XX is a byte. What is refused prints refused NAME.
 
 Example: printf 'copies 1\\nproduce a=1 b=2\\ntable 0\\n' | kbroker replay";
@@ -54,46 +57,47 @@ const EXAMPLE_SERVE: &str = "Example: kbroker serve --port 9092 --connections 10
 const EXAMPLE_START: &str =
     "Example: kbroker start --listen 0.0.0.0:9092 --advertise broker.example.com:9092 orders:3 prices:1";
 
-const HELP_TOPICS: &str = "A topic's name and the number of its partitions, as orders:3";
+const HELP_TOPICS: &str = "A topic's name and its number of partitions, such as orders:3";
 
-const HELP_ROLE: &str = "What the broker is to its partitions: a leader gives out their offsets, a \
-follower holds copies";
+const HELP_ROLE: &str = "What the broker is for its partitions: a leader assigns their offsets, a \
+follower holds replicas";
 
-const HELP_PORT: &str = "The port to listen on; 0 for any that is free";
+const HELP_PORT: &str = "The port to listen on; 0 for any free port";
 
-const HELP_FIRST_PRODUCER: &str = "The producer id that the broker gives out first";
+const HELP_FIRST_PRODUCER: &str = "The first producer id that the broker gives out";
 
-const HELP_CONNECTIONS: &str = "How many connections to serve before it ends";
+const HELP_CONNECTIONS: &str = "How many connections to serve before it exits";
 
 const HELP_LISTEN: &str =
-    "The IP address and the port to listen on, an IPv6 address in brackets; port 0 \
-for any that is free";
+    "The IP address and port to listen on, an IPv6 address in brackets; port 0 \
+for any free port";
 
 const HELP_ADVERTISE: &str =
-    "Where clients are told to reach the broker, if that isn't the address \
+    "The host and port that clients are told to connect to, if not the address \
 that it listens on";
 
-const HELP_MOST_CONNECTIONS: &str = "How many connections it holds at most";
+const HELP_MOST_CONNECTIONS: &str = "The maximum number of connections at once";
 
 const HELP_MOST_HELD: &str =
-    "How many bytes of requests and replies all connections together hold at \
-most; above it the one that holds most ends";
+    "The maximum number of bytes of requests and replies that are buffered for all \
+connections together; above it, the connection with the most is closed";
 
-const HELP_IDLE: &str = "After how many seconds without a request or a reply a connection ends";
+const HELP_IDLE: &str =
+    "The number of seconds without a request or a reply after which a connection is closed";
 
 const HELP_DATA: &str =
-    "The directory in which it keeps what it acknowledged, and from which it goes on when it starts \
-again; without one that is kept in memory alone";
+    "The directory that it keeps its data in, and recovers from when it starts again; \
+without it, the data is in memory only";
 
 const HELP_SYNC: &str =
-    "When what it keeps is synced to the disk: always (before a reply tells of it, the default), \
-never (when the system does), or within so many milliseconds, 1 to 60000";
+    "When changes are synced to disk: always (before any reply shows them; the default), \
+never (left to the operating system), or within so many milliseconds, 1 to 60000";
 
 const HELP_SNAPSHOT_AFTER: &str =
-    "A snapshot of what it keeps is taken once the journals since the last one have so many bytes, and more \
-than that has";
+    "Takes a snapshot once the journals since the last one have at least this many bytes, \
+and at least as many as that snapshot";
 
-const HELP_FOLD: &str = "Takes a snapshot of what is kept, and ends";
+const HELP_FOLD: &str = "Takes a snapshot as a checkpoint of all data, and exits";
 
 static ROLES: [&str; 2] = ["leader", "follower"];
 

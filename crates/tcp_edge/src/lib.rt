@@ -7,6 +7,7 @@ mod asked;
 mod calls;
 mod command_line;
 mod commands;
+pub mod examples;
 mod keeping;
 mod refusals;
 mod topics;
