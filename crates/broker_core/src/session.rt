@@ -15,7 +15,7 @@ use streams::{MOST_READS, Sink, Source};
 use thiserror::Error;
 
 /// How a session ended whose input came to its end.
-#[derive(Clone, Copy, Debug, PartialEq, Eq)]
+#[derive(Clone, Copy, PartialEq, Eq)]
 pub struct Ended {
     /// How many frames were answered.
     pub frames: u64,

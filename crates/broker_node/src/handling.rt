@@ -24,7 +24,7 @@ use setup_requests::{reply_to_api_versions, reply_to_find_coordinator, reply_to_
 use std::alloc::{AllocError, Allocator};
 
 /// What stands behind the output once a request was handled.
-#[derive(Clone, Copy, Debug, PartialEq, Eq)]
+#[derive(Clone, Copy, PartialEq, Eq)]
 pub enum Answer {
     /// One response frame.
     Reply,

@@ -4,7 +4,7 @@ use std::alloc::Allocator;
 use std::string::String;
 
 /// What a broker is to its partitions.
-#[derive(Clone, Copy, Debug, PartialEq, Eq)]
+#[derive(Clone, Copy, PartialEq, Eq)]
 pub enum Role {
     /// It gives out their offsets.
     Leader,
@@ -13,7 +13,7 @@ pub enum Role {
 }
 
 /// A topic that a broker is to keep.
-#[derive(Debug, Drop)]
+#[derive(Drop)]
 pub struct TopicConfig<A: Allocator> {
     /// Its name: 1 to 249 letters, digits, `.`, `_` and `-` of ASCII, but not `.` and `..`.
     pub name: String<A>,
@@ -22,7 +22,7 @@ pub struct TopicConfig<A: Allocator> {
 }
 
 /// How a broker is configured.
-#[derive(Debug, Drop)]
+#[derive(Drop)]
 pub struct Config<A: Allocator> {
     /// What the broker is to its partitions.
     pub role: Role,

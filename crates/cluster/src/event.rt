@@ -53,7 +53,7 @@ pub enum Event<A: Allocator + Copy> {
 }
 
 /// What came of an event that was not refused.
-#[derive(Clone, Copy, Debug, PartialEq, Eq)]
+#[derive(Clone, Copy, PartialEq, Eq)]
 pub enum Outcome {
     /// What came of a batch that was sent to the leader.
     Based {

@@ -3,7 +3,7 @@
 use thiserror::Error;
 
 /// What came of a delivery that was not refused.
-#[derive(Clone, Copy, Debug, PartialEq, Eq)]
+#[derive(Clone, Copy, PartialEq, Eq)]
 pub enum Delivered {
     /// The batch was added.
     Added,

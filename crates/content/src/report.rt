@@ -1,7 +1,7 @@
 //! What a cleaning took away.
 
 /// What a cleaning took away.
-#[derive(Clone, Copy, Debug, PartialEq, Eq)]
+#[derive(Clone, Copy, PartialEq, Eq)]
 pub struct CleanReport {
     /// Records removed because a later one has their key, tombstones among them.
     pub records: u64,

@@ -92,7 +92,7 @@ fn trim_entry<S: BatchStore>(state: &mut BrokerState<S>, request: &TrimRequest<'
 }
 
 /// Moves the start of the partition of a Trim request, and appends the response to the output. Its room
-/// is taken before anything changes; the trim itself takes no memory.
+/// is taken before anything changes; the trim itself needs no memory.
 ///
 /// # Errors
 ///

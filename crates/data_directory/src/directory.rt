@@ -8,7 +8,7 @@ use std::alloc::Allocator;
 use std::io;
 
 /// What stands at a name.
-#[derive(Clone, Copy, Debug, PartialEq, Eq)]
+#[derive(Clone, Copy, PartialEq, Eq)]
 pub enum Kind {
     /// Nothing.
     Nothing,

@@ -23,7 +23,7 @@ pub struct Folder<'a, R: Files<File = File> + RandomSource + Alloc + Clone + Dro
 }
 
 /// Why a directory isn't opened.
-#[derive(Debug, Drop)]
+#[derive(Drop)]
 pub enum FolderError {
     /// Another process has locked it.
     InUse,

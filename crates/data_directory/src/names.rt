@@ -12,7 +12,7 @@ const JOURNAL: &str = "journal.";
 const MAKING: &str = "snapshot.tmp";
 
 /// The name of a file that a broker keeps in its directory. All other names are left alone.
-#[derive(Clone, Copy, Debug, PartialEq, Eq)]
+#[derive(Clone, Copy, PartialEq, Eq)]
 pub enum Name {
     /// A snapshot, by its number from 1 on.
     Snapshot(u64),

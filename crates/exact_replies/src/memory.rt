@@ -1,7 +1,7 @@
 //! What is told of memory.
 
 /// Whether memory sufficed for a request that may change something.
-#[derive(Clone, Copy, Debug, PartialEq, Eq)]
+#[derive(Clone, Copy, PartialEq, Eq)]
 pub enum Memory {
     /// It did for each entry.
     Sufficed,

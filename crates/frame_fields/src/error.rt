@@ -2,7 +2,7 @@
 use thiserror::Error;
 
 /// What is wrong with a field.
-#[derive(Clone, Copy, Debug)]
+#[derive(Clone, Copy)]
 pub enum FieldFault {
     /// The frame ends before the field does.
     ShortBody,

@@ -32,7 +32,7 @@ impl<'a, E: Element<'a> + Drop> Element<'a> for Topic<'a, E> {
 }
 
 /// A topic's name.
-#[derive(Clone, Copy, Debug)]
+#[derive(Clone, Copy)]
 pub struct Name<'a>(
     /// The name, as sent. It need not be the name of a topic.
     pub &'a [u8],

@@ -14,7 +14,7 @@ use frame_fields::fields::{int16, int32, string};
 use std::alloc::{AllocError, Allocator};
 
 /// The key of a committed offset, borrowed from its bytes.
-#[derive(Clone, Copy, Debug)]
+#[derive(Clone, Copy)]
 pub struct GroupKey<'a> {
     /// The group that consumes; bytes that need not be text.
     pub group: &'a [u8],

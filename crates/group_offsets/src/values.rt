@@ -15,7 +15,7 @@ use frame_fields::fields::{int16, int64, nullable_string};
 use std::alloc::{AllocError, Allocator};
 
 /// A committed offset, borrowed from its value's bytes.
-#[derive(Clone, Copy, Debug)]
+#[derive(Clone, Copy)]
 pub struct Committed<'a> {
     /// The offset that the group consumes next, as it was committed. It may be any number.
     pub offset: i64,

@@ -19,7 +19,7 @@ const TOPICS_AT: u64 = 40;
 type SnapshotTopics<'a> = Array<'a, Topic<'a, SnapshotPartition>>;
 
 /// How what is asked for differs from what a snapshot has.
-#[derive(Clone, Copy, Debug, PartialEq, Eq)]
+#[derive(Clone, Copy, PartialEq, Eq)]
 pub(crate) enum Change {
     /// Not at all, but perhaps in the order of the topics.
     Same,

@@ -84,7 +84,7 @@ fn config_fault<A: Allocator>(name: Name, change: Change, why: ConfigError) -> S
 }
 
 /// How the broker of a snapshot is set up: with what is asked for, or with what the snapshot has of it.
-#[derive(Clone, Copy, Debug, PartialEq, Eq)]
+#[derive(Clone, Copy, PartialEq, Eq)]
 pub(crate) enum Shape {
     /// As the snapshot says, where more is asked for.
     Former,

@@ -24,7 +24,7 @@ use std::alloc::Allocator;
 use std::io::{Error, ErrorKind};
 
 /// What was found in a directory.
-#[derive(Clone, Copy, Debug, PartialEq, Eq)]
+#[derive(Clone, Copy, PartialEq, Eq)]
 pub struct Found {
     /// Whether the directory was new.
     pub is_new: bool,
@@ -54,7 +54,7 @@ pub struct Started<S: BatchStore, D: Directory> {
 }
 
 /// How a broker is to keep what it does.
-#[derive(Clone, Copy, Debug, PartialEq, Eq)]
+#[derive(Clone, Copy, PartialEq, Eq)]
 pub struct Keeping {
     /// Whether a snapshot is taken at the start, whatever is there.
     pub is_folded: bool,

@@ -14,7 +14,7 @@ pub struct ServeOptions {
 }
 
 /// When a journal is synced.
-#[derive(Clone, Copy, Debug, PartialEq, Eq)]
+#[derive(Clone, Copy, PartialEq, Eq)]
 pub enum SyncWay {
     /// Before anything leaves that it keeps.
     Always,

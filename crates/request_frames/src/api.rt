@@ -6,7 +6,7 @@ ghost use Rattle.request_frames.specs.Apis.{api_key, api_version, other_version,
 use frame_fields::FrameError;
 
 /// A kind of request that is read, in one version. From Deliver on they are this project's own.
-#[derive(Clone, Copy, Debug)]
+#[derive(Clone, Copy)]
 pub enum Api {
     /// Produce, version 3.
     Produce,

@@ -4,11 +4,11 @@ use crate::items::Items;
 use crate::words::{Words, has_empty_word, split_word};
 
 /// A line that is none of a script's.
-#[derive(Clone, Copy, Debug, PartialEq, Eq)]
+#[derive(Clone, Copy, PartialEq, Eq)]
 pub struct BadLine;
 
 /// Who sends a batch, and as which of its batches.
-#[derive(Clone, Copy, Debug, PartialEq, Eq)]
+#[derive(Clone, Copy, PartialEq, Eq)]
 pub struct Producer {
     /// The producer's id, or -1 for none.
     pub id: i64,

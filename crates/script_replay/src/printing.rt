@@ -11,7 +11,7 @@ use streams::Sink;
 use table_lines::{BUFFER_SIZE, pass_on, put, put_line};
 
 /// Why a line is not done, or not printed.
-#[derive(Clone, Copy, Debug, PartialEq, Eq)]
+#[derive(Clone, Copy, PartialEq, Eq)]
 pub(crate) enum LineFault {
     /// It is none of a script's.
     BadLine,

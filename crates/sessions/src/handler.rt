@@ -46,7 +46,7 @@ pub trait Handler<S: BatchStore> {
 }
 
 /// The broker alone handles requests, and nothing is noted.
-#[derive(Clone, Copy, Debug, PartialEq, Eq)]
+#[derive(Clone, Copy, PartialEq, Eq)]
 pub struct Plainly;
 
 impl<S: BatchStore> Handler<S> for Plainly {

@@ -26,7 +26,7 @@ pub const MOST_OWED: usize = 262_144;
 const MOST_WRITES: u32 = 4;
 
 /// What is known of a connection beside its session.
-#[derive(Clone, Copy, Debug, PartialEq, Eq)]
+#[derive(Clone, Copy, PartialEq, Eq)]
 pub struct Seat {
     /// Whether a read may give something. A read that would wait clears it; an event sets it.
     pub may_read: bool,

@@ -7,7 +7,7 @@ use frame_fields::fields::int64;
 use frame_fields::{Element, FieldFault};
 
 /// What a snapshot says of a partition.
-#[derive(Clone, Copy, Debug)]
+#[derive(Clone, Copy)]
 pub struct SnapshotPartition {
     /// How many bytes its image has, as it stands there: it may be negative.
     pub size: i64,

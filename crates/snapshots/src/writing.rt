@@ -13,7 +13,7 @@ use responses::{append_fixed, begin_topic, count_bytes};
 use std::alloc::{AllocError, Allocator};
 
 /// A topic as a snapshot is to have it.
-#[derive(Clone, Copy, Debug)]
+#[derive(Clone, Copy)]
 pub struct SnapshotTopic<'a> {
     /// Its name, of 32,767 bytes at the most.
     pub name: &'a [u8],
@@ -22,7 +22,7 @@ pub struct SnapshotTopic<'a> {
 }
 
 /// How a broker was set up, and where it stands.
-#[derive(Clone, Copy, Debug)]
+#[derive(Clone, Copy)]
 pub struct SnapshotNumbers {
     /// The snapshot's number.
     pub number: i64,

@@ -10,11 +10,11 @@
 ///     // sink.failed(), and at least one byte of the reply isn't written
 /// }
 /// ```
-#[derive(Clone, Copy, Debug, PartialEq, Eq)]
+#[derive(Clone, Copy, PartialEq, Eq)]
 pub struct Failed;
 
 /// No bytes came into a buffer, which is as it was.
-#[derive(Clone, Copy, Debug, PartialEq, Eq)]
+#[derive(Clone, Copy, PartialEq, Eq)]
 pub enum FillError {
     /// The read failed, or one had failed before. The source has its flag set.
     Read,

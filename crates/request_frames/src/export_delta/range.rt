@@ -7,7 +7,7 @@ use frame_fields::fields::int64;
 use frame_fields::{Element, FieldFault};
 
 /// A range of offsets that are asked for.
-#[derive(Clone, Copy, Debug)]
+#[derive(Clone, Copy)]
 pub struct AskedRange {
     /// The first offset, as sent. Any number may have been sent.
     pub first: i64,

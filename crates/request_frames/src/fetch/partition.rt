@@ -7,7 +7,7 @@ use frame_fields::fields::{int32, int64};
 use frame_fields::{Element, FieldFault};
 
 /// What a Fetch request asks of a partition.
-#[derive(Clone, Copy, Debug)]
+#[derive(Clone, Copy)]
 pub struct FetchPartition {
     /// The partition's index, as sent.
     pub partition: i32,

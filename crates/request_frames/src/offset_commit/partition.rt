@@ -8,7 +8,7 @@ use frame_fields::fields::{int32, int64, nullable_string};
 use frame_fields::{Element, FieldFault};
 
 /// What an OffsetCommit request asks of a partition.
-#[derive(Clone, Copy, Debug)]
+#[derive(Clone, Copy)]
 pub struct OffsetCommitPartition<'a> {
     /// The partition's index, as sent.
     pub partition: i32,

@@ -7,7 +7,7 @@ use frame_fields::fields::int32;
 use frame_fields::{Element, FieldFault};
 
 /// What an OffsetFetch request asks of a partition.
-#[derive(Clone, Copy, Debug)]
+#[derive(Clone, Copy)]
 pub struct OffsetFetchPartition {
     /// The partition's index, as sent.
     pub partition: i32,

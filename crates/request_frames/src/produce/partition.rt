@@ -8,7 +8,7 @@ use frame_fields::fields::{int32, nullable_bytes};
 use frame_fields::{Element, FieldFault};
 
 /// What a Produce request asks of a partition.
-#[derive(Clone, Copy, Debug)]
+#[derive(Clone, Copy)]
 pub struct ProducePartition<'a> {
     /// The partition's index, as sent.
     pub index: i32,
