@@ -3,7 +3,7 @@
     copy_inputs.py NAME
 
 writes the input of this name to standard output. The same name gives the same bytes. Batches and images are written
-from their formats (docs/FORMATS.md), by the encoder of tests/batches.py.
+from their formats (docs/FORMATS.md), by the encoder of tests/encoders/batches.py.
 """
 import functools
 import os
@@ -13,7 +13,7 @@ import sys
 
 sys.dont_write_bytecode = True
 sys.path.insert(0, os.path.join(os.path.dirname(os.path.realpath(__file__)), "..", "tests"))
-from batches import batch, crc32c, record
+from encoders.batches import batch, crc32c, record
 
 BATCHES = 100_000
 VALUE_BYTES = 100

@@ -10,7 +10,7 @@ import struct
 
 from streams import PARTITION, batches, batches_of, frames
 
-import copies
+from encoders import copies
 
 LIMIT = 8_388_608  # bytes of a frame
 BATCH_LIMIT = 1_048_588

@@ -8,8 +8,7 @@ from timing import run
 
 HERE = os.path.dirname(os.path.realpath(__file__))
 sys.path.insert(0, os.path.join(HERE, "..", "tests"))
-import batches
-import frames
+from encoders import batches, frames
 
 PARTITION = struct.pack(">i", 0)
 PLACE = frames.text(b"t") + PARTITION  # of a request for one partition

@@ -1,0 +1,1 @@
+"""The cases of `kbroker start`: each runs brokers and clients of its own."""

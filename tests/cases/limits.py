@@ -1,0 +1,403 @@
+"""What clients of `kbroker start` can make it hold and spend, and what it does at each bound: connections, open files, bytes,
+memory, time without a word, and lines of connections' ends.
+
+Each bound is given on the command line or set by the system; processor time and memory are those of /proc.
+"""
+import contextlib
+import re
+import select
+import signal
+import struct
+import time
+
+from cases.many_clients import LARGE, ONE_READ, fill, frame, large_reply, works
+from cases.started import SECONDS, Started, holds, is_soon, reply, request, same, slow
+from encoders import frames
+
+MEGABYTE = 1_000_000
+LARGEST_FRAME = 8_388_608
+
+
+def announced(size):
+    """What stands in front of a frame."""
+    return struct.pack(">i", size)
+
+
+def produce_of(size):
+    """A Produce to partition 0 of about so many bytes."""
+    return request(f"produce t:0 batch a={{v*{size - 150}}}")
+
+
+def is_gone(client):
+    """Whether the other side has ended a client's connection, of which all that comes is passed over."""
+    with contextlib.suppress(ConnectionError):
+        while select.select([client.socket], [], [], 0)[0]:
+            if not client.socket.recv(1 << 20):
+                return True
+        return False
+    return True
+
+
+# ---- connections and open files
+
+
+def served_in_turn(broker, clients, most):
+    """Of clients that all have asked, only so many are served at a time; each of the others once one of them is gone."""
+    told = reply("versions 0")
+    for it in clients:
+        it.send(request("versions"))
+    for it in clients[:most]:
+        it.gets(told)
+    for number, it in enumerate(clients[most:], most):
+        holds(f"client {number} is served beside {most} others", it.gets_nothing(0.05))
+    broker.rests("connections wait")
+    for number, it in enumerate(clients[most:]):
+        clients[number].close()
+        it.gets(told, f"the reply to client {number + most}")
+        it.ask("listoffsets t:0 -1", "listed t:0 0 -1 0")
+    for it in clients:
+        it.close()
+    holds("an end of another kind", all(why == "end" for _, _, why in broker.ends(len(clients)).told))
+
+
+def most_connections(program):
+    """The most are three; six clients come."""
+    with Started(program, "--most-connections", "3") as broker:
+        served_in_turn(broker, broker.clients(6), 3)
+        same("lines beside those of ends", broker.ends(6).others, [])
+
+
+def most_connections_reset(program):
+    """Clients that are reset while they wait cost the others nothing."""
+    with Started(program, "--most-connections", "1") as broker, broker.client() as first:
+        first.ask("versions", "versions 0")
+        waiting = broker.clients(20)
+        for it in waiting[:19]:
+            it.send(request("versions"))
+            it.reset()
+        first.ask("versions", "versions 0")
+        first.close()
+        waiting[19].ask("versions", "versions 0")
+        waiting[19].close()
+
+
+def few_files(program):
+    """Of the files that it may open it keeps 32 for others, and says at the start how many connections are left. What it might
+    have if it asked for more doesn't count."""
+    for files, most in ((36, 4), (33, 1), (24, 1)):
+        with Started(program, files=files) as broker:
+            served_in_turn(broker, broker.clients(most + 3), most)
+            line = f"connections: {most} of 10000, as the system allows {files} open files"
+            same("the lines at the start", broker.ends(most + 3).others, [line])
+
+
+def enough_files(program):
+    """Nothing is said where the files are enough."""
+    with Started(program, "--most-connections", "8", files=40) as broker:
+        served_in_turn(broker, broker.clients(9), 8)
+        same("lines beside those of ends", broker.ends(9).others, [])
+
+
+def no_file_left(program):
+    """The system takes the files away once it runs: accepting fails, which is told once in a second, costs no processor time, and
+    harms nobody that is connected. Once there are files again, those that wait are served."""
+    with Started(program) as broker, broker.client() as served:
+        works(served, 0)
+        began = time.monotonic()
+        broker.take_files()
+        waiting = broker.clients(3)
+        for it in waiting:
+            it.send(request("versions"))
+        form = re.escape(f"accept {broker.listening.removeprefix('listening ')}: ")
+        said = is_soon(lambda: any(re.match(form, it) for it in broker.lines))
+        holds(f"no line 'accept ADDRESS: WHY' in {broker.lines}", said)
+        broker.rests("accepting fails")
+        works(served, 1, 5)
+        holds("one is served without a file", waiting[0].gets_nothing(0.05))
+        broker.limit_files(200)
+        for number, it in enumerate(waiting):
+            it.gets(reply("versions 0"), f"the reply to client {number} that waited")
+            it.close()
+        works(served, 6, 5)
+        holds(f"more lines than the time allows: {broker.lines}", len(broker.lines) <= 100)
+        failed = [it for it in broker.lines if re.match(form, it)]
+        holds(f"more than one in a second: {failed}", len(failed) <= time.monotonic() - began + 2)
+
+
+# ---- bytes that are held and owed
+
+
+def most_held(program):
+    """Of three that each send a part of a large Produce, the one that holds most ends when all hold more than allowed: the first,
+    and not the one that came last or held most before. The others get their replies."""
+    with Started(program, "--most-held", str(MEGABYTE)) as broker, broker.client() as other:
+        first, second, third = broker.clients(3)
+        large, middle, small = produce_of(900_000), produce_of(380_000), produce_of(220_000)
+        first.send(large[:300_000])
+        second.send(middle[:350_000])
+        third.send(small[:200_000])
+        works(other, 0, 5)
+        same("lines while less than the most is held", broker.lines, [])
+        with contextlib.suppress(ConnectionError):
+            first.send(large[300_000:600_000])
+        broker.tells(1, first, "most held")
+        holds("the connection that held most stays", is_soon(lambda: is_gone(first)))
+        works(other, 5, 5)
+        second.send(middle[350_000:])
+        second.gets(reply("produced t:0 0 0"))
+        third.send(small[200_000:])
+        third.gets(reply("produced t:0 0 1"))
+        same("connections that ended", broker.ends(1).count(), 1)
+
+
+def most_owed(program):
+    """Ten that don't read their large replies are owed a quarter of a megabyte each at the least, once the system takes no more,
+    and so more than the one and a half that are allowed together, which is more than one of them can be owed: some end, others
+    stay, and who reads is served."""
+    with Started(program, "--most-held", "1500000") as broker, broker.client() as other:
+        fill(other)
+        slow = [broker.client(room=4096) for _ in range(10)]
+        for it in slow:
+            it.send(request("fetch t:0 0") * 10)
+        broker.ends(1)
+        works(other, 0, 50)
+        ends = broker.ends(1)
+        holds(f"others end, or for another reason: {ends.told}", {why for _, _, why in ends.told} == {"most held"})
+        holds("a client that reads has ended", ends.why(other) is None)
+        holds("all end that don't read", any(ends.why(it) is None for it in slow))
+        for it in slow:
+            it.close()
+
+
+def announced_alone(program):
+    """Fifty connections each announce the largest frame, and send a hundred bytes of it."""
+    with Started(program) as broker, broker.client() as other:
+        works(other, 0, 5)
+        clients = broker.clients(50)
+        for it in clients:
+            it.ask("versions", "versions 0")
+        before = broker.memory()
+        for it in clients:
+            it.send(announced(LARGEST_FRAME) + bytes(100))
+        works(other, 5, 20)
+        more = broker.memory() - before
+        holds(f"fifty sizes cost {more} bytes of memory", more < 10 * MEGABYTE)
+        for it in clients:
+            it.close()
+        ends = broker.ends(50)
+        same("why they end", {why for _, _, why in ends.told}, {"end within frame 1"})
+
+
+def replies_unread(program):
+    """A client asks for 200 MB, and reads none of it: of what it is owed some megabytes are held at the most."""
+    with Started(program) as broker, broker.client() as other, broker.client(room=4096) as slow:
+        fill(other)
+        works(other, 0, 5)
+        before = broker.memory()
+        slow.send(request("fetch t:0 0") * 200)
+        works(other, 5, 50)
+        more = broker.memory() - before
+        holds(f"a client that doesn't read costs {more} bytes of memory", more < 16 * MEGABYTE)
+        broker.rests("a client doesn't read")
+        for number in range(20):
+            slow.gets(large_reply(), f"reply {number}")
+
+
+def requests_unread(program):
+    """A client that reads nothing sends requests for as long as they are taken: that comes to an end, and costs memory only up
+    to a bound."""
+    with Started(program) as broker, broker.client() as other, broker.client(room=4096) as slow:
+        fill(other)
+        before = broker.memory()
+        one = request("fetch t:0 0")
+        asked = one * (100 * MEGABYTE // len(one))
+        taken = slow.send_what_is_taken(asked)
+        holds(f"all of {len(asked)} bytes were taken", taken < len(asked))
+        works(other, 0, 10)
+        more = broker.memory() - before
+        holds(f"a client that sends and doesn't read costs {more} bytes of memory", more < 24 * MEGABYTE)
+        broker.rests("a client neither reads nor is read")
+        for number in range(5):
+            slow.gets(large_reply(), f"reply {number}")
+
+
+def largest_replies(program):
+    """The largest reply is that to an OffsetFetch: 33 MB, for a request of 33 kB. A client that asks for ten of them and reads none
+    costs little more than one; each is as it must be."""
+    count, metadata = 8_192, "m" * 4_096
+    entry = struct.pack(">iqh", 0, 5, len(metadata)) + metadata.encode() + bytes(2)
+    told = frames.response(frames.topics([(b"t", entry)] * count))
+    with Started(program) as broker, broker.client() as other, broker.client(room=4096) as slow:
+        other.ask(f"commit t:0 5 {metadata}", "committed t:0 0")
+        works(other, 0, 5)
+        before = broker.memory()
+        slow.send(request(f"offsets each {count} t:0") * 10)
+        slow.gets(told[:100])
+        works(other, 5, 20)
+        more = broker.memory() - before
+        holds(f"ten replies of {len(told)} bytes that nobody reads cost {more} bytes of memory", more < 3 * len(told))
+        slow.gets(told[100:], "the first reply")
+        slow.gets(told, "the next reply")
+
+
+@slow("the program's checks keep memory that is given back")
+def memory_comes_back(program):
+    """Connections that came and went, each with a large frame that was cut, leave no memory taken."""
+    with Started(program) as broker, broker.client() as other:
+        works(other, 0, 5)
+        data = announced(LARGEST_FRAME) + bytes(LARGE)
+        for number in range(60):
+            with broker.client() as client:
+                client.send(data)
+                client.stop()
+                client.gets_to_the_end(b"")
+            if number == 9:
+                before = broker.memory()
+        more = broker.memory() - before
+        holds(f"fifty connections that are gone cost {more} bytes of memory", more < 10 * MEGABYTE)
+
+
+# ---- time
+
+
+def idle(program):
+    """With two seconds allowed: a client that says nothing ends, one that sends a byte now and then of a frame that doesn't become
+    whole, one that asked once, and one that takes nothing of what it is owed; one that asks now and then stays."""
+    with Started(program, "--idle", "2") as broker, broker.client() as active:
+        fill(active)
+        began, offset = time.monotonic(), 0
+        silent, partial, once = broker.clients(3)
+        owed = broker.client(room=4096)
+        once.ask("versions", "versions 0")
+        owed.send(request("fetch t:0 0") * 20)
+        partial.send(announced(LARGEST_FRAME))
+        while len(told := list(broker.lines)) < 4 or time.monotonic() < began + 4:
+            since = time.monotonic() - began
+            holds(f"an end after {since:.1f} s: {told}", not told or since >= 2)
+            holds(f"the ends after {since:.1f} s: {told}", since < SECONDS)
+            works(active, offset)
+            offset += 1
+            with contextlib.suppress(ConnectionError):
+                partial.send(b"\0")
+            time.sleep(0.1)
+        for number, it in enumerate((silent, partial, once, owed), 1):
+            broker.tells(number, it, "idle for 2 s")
+        works(active, offset)
+        same("lines", len(broker.lines), 4)
+        for it in (silent, partial, once):
+            holds("a connection that is told to have ended stays", is_soon(lambda held=it: is_gone(held)))
+
+
+def idle_from_the_start(program):
+    """The second that is allowed begins when a connection is opened, and not when the broker began to wait for it."""
+    with Started(program, "--idle", "1") as broker:
+        time.sleep(0.8)
+        began = time.monotonic()
+        with broker.client() as client:
+            time.sleep(0.5)
+            if time.monotonic() < began + 0.9:  # (else the machine is too slow to tell)
+                client.ask("versions", "versions 0")
+                same("ends", broker.lines, [])
+
+
+def idle_beside_new_ones(program):
+    """A connection on which nothing moves ends though others come all along."""
+    with Started(program, "--idle", "1") as broker, broker.client() as silent, contextlib.ExitStack() as others:
+        began = time.monotonic()
+        while f"connection 0 {silent.address}: idle for 1 s" not in broker.lines:
+            holds(f"no end while others come: {broker.lines}", time.monotonic() < began + SECONDS)
+            others.enter_context(broker.client())
+            time.sleep(0.2)
+
+
+def patience(program):
+    """Of a longer time nothing is seen in two seconds, and connections that say nothing cost no processor time."""
+    with Started(program, "--idle", "60") as broker:
+        clients = broker.clients(50)
+        for it in clients:
+            it.ask("versions", "versions 0")
+        for _ in range(3):
+            broker.rests("fifty clients say nothing")
+        same("lines", broker.lines, [])
+        for it in clients:
+            it.ask("versions", "versions 0")
+
+
+def part_of_a_frame(program):
+    """Of a larger frame comes as much as one read takes, so that the read doesn't tell that no more is there; and then nothing."""
+    with Started(program) as broker, broker.client() as other, broker.client() as client:
+        client.ask("versions", "versions 0")
+        data = announced(LARGEST_FRAME) + bytes(ONE_READ - 4)
+        broker.process.send_signal(signal.SIGSTOP)
+        sent = client.send_what_is_taken(data)
+        broker.process.send_signal(signal.SIGCONT)
+        client.send(data[sent:])
+        works(other, 0, 5)
+        broker.rests("64 KiB of a larger frame came, and no more")
+        works(other, 5, 5)
+
+
+# ---- lines of ends
+
+
+def many_ends(program):
+    """Of 400 connections that end at once a hundred a second are told, and the rest counted; of ten that end later each is told
+    again."""
+    with Started(program) as broker:
+        clients = broker.clients(400)
+        for it in clients:
+            it.ask("versions", "versions 0")
+        began = time.monotonic()
+        for it in clients:
+            it.close()
+        holds("not all ends are counted", is_soon(lambda: broker.ends().count() >= 400))
+        seconds, ends = time.monotonic() - began, broker.ends(400)
+        same("ends that are told or counted", ends.count(), 400)
+        holds(f"{len(ends.told)} lines in {seconds:.1f} s", len(ends.told) <= 100 * (int(seconds) + 2))
+        holds(f"{ends.more} ends are counted alone", ends.more > 0 or seconds >= 2)
+        same("lines of other kinds", ends.others, [])
+        time.sleep(1.2)
+        later = broker.clients(10)
+        for it in later:
+            it.ask("versions", "versions 0")
+            it.close()
+        for number, it in enumerate(later, 400):
+            broker.tells(number, it, "end")
+
+
+def many_refusals(program):
+    """Likewise of refused frames, while one client is served."""
+    with Started(program) as broker, broker.client() as other:
+        for _ in range(4):
+            clients = broker.clients(60)
+            for it in clients:
+                it.send(frame(60, 0))
+            for it in clients:
+                it.gets_to_the_end(b"")
+            other.ask("versions", "versions 0")
+        ends = broker.ends(240)
+        same("ends that are told or counted", ends.count(), 240)
+        same("why they end", {why for _, _, why in ends.told}, {"frame 0: UnknownApi (key 60, version 0)"})
+
+
+CASES = [
+    ("more connections than allowed", most_connections),
+    ("connections that are reset while they wait", most_connections_reset),
+    ("few open files", few_files),
+    ("open files that are just enough", enough_files),
+    ("accepting that fails for lack of files", no_file_left),
+    ("more bytes held than allowed", most_held),
+    ("more bytes owed than allowed", most_owed),
+    ("sizes that are announced, and nothing behind them", announced_alone),
+    ("large replies that nobody reads", replies_unread),
+    ("requests without end of one that doesn't read", requests_unread),
+    ("the largest replies, that nobody reads", largest_replies),
+    ("memory of connections that are gone", memory_comes_back),
+    ("connections on which nothing moves", idle),
+    ("a connection that is opened after a while", idle_from_the_start),
+    ("a connection on which nothing moves, and new ones", idle_beside_new_ones),
+    ("fifty connections that say nothing", patience),
+    ("a part of a frame, and nothing behind it", part_of_a_frame),
+    ("400 ends at once", many_ends),
+    ("240 refused frames", many_refusals),
+]

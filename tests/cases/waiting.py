@@ -1,0 +1,342 @@
+"""Fetches that wait at a `kbroker start`: for what they wait, until when, and what that costs.
+
+No case needs a fast machine: what must come soon may take a minute, and what must not come yet is looked for a third of a second.
+"""
+import os
+import resource
+import signal
+import time
+
+from cases.many_clients import fill, large_reply
+from cases.started import SECONDS, Started, holds, reply, request, same
+
+LONG = 600_000  # milliseconds, which no case waits
+BRIEF = 0.3  # seconds in which nothing may come
+MANY = 1_000
+
+
+def fetch(entry, wait=LONG, least=1):
+    return request(f"fetch wait={wait} min={least} {entry}")
+
+
+def comes_to_wait(client, *frames):
+    """Sends frames, of which the first must wait, and returns once the broker has come to it."""
+    client.send(request("versions") + b"".join(frames))
+    client.gets(reply("versions 0"))
+
+
+def waits(client, *frames):
+    """Sends frames, of which the first must wait."""
+    comes_to_wait(client, *frames)
+    holds("a reply comes to what must wait", client.gets_nothing(BRIEF))
+
+
+def produce(client, place, base, form):
+    client.ask(f"produce {place} batch {form}", f"produced {place} 0 {base}")
+
+
+def is_woken_by_produce(program):
+    """What another produces comes long before the time is over; once more at the next offset."""
+    with Started(program) as broker, broker.client() as consumer, broker.client() as producer:
+        for number in range(3):
+            waits(consumer, fetch(f"t:0 {number}"))
+            produce(producer, "t:0", number, f"a={number}")
+            consumer.gets(reply(f"fetched t:0 0 {number + 1} batch base:{number} a={number}"))
+
+
+def time_runs_out(program):
+    """Without anything else the reply comes when the time is over, not before, and is empty."""
+    with Started(program) as broker, broker.client() as consumer:
+        for wait in (1, 400, 700):
+            began = time.monotonic()
+            consumer.send(fetch("t:0 0", wait))
+            consumer.gets(reply("fetched t:0 0 0"))
+            took = time.monotonic() - began
+            holds(f"{took} s of {wait} ms", took >= wait / 1000 - 0.002)
+
+
+def late_by(consumer, wait):
+    """How many seconds after its time a Fetch is answered that waits so many milliseconds for nothing."""
+    began = time.monotonic()
+    consumer.send(fetch("t:0 0", wait))
+    consumer.gets(reply("fetched t:0 0 0"))
+    late = time.monotonic() - began - wait / 1000
+    holds(f"a fetch that waits {wait} ms is answered {-late:.3f} s before its time", late >= -0.002)
+    return late
+
+
+def rests_meanwhile(program):
+    """A wait that isn't of whole seconds costs next to no processor time. Its reply never comes before its time, and comes soon
+    after it, if not at each of several tries."""
+    with Started(program) as broker, broker.client() as consumer:
+        consumer.ask("versions", "versions 0")
+        for wait in (600, 900):
+            late = []
+            broker.rests(f"a fetch waits {wait} ms", lambda wait=wait, late=late: late.append(late_by(consumer, wait)))
+            if min(late) >= BRIEF:
+                late += [late_by(consumer, wait) for _ in range(5)]
+            holds(f"a fetch that waits {wait} ms is answered {late} s after its time", min(late) < BRIEF)
+
+
+def times_in_their_order(program):
+    """Of two that wait the one whose time is over first is answered first, whoever asked first."""
+    with Started(program) as broker, broker.client() as late, broker.client() as early, broker.client() as producer:
+        comes_to_wait(late, fetch("t:0 0"))
+        early.send(fetch("t:0 0", 300))
+        early.gets(reply("fetched t:0 0 0"))
+        holds("the later one is answered too early", late.gets_nothing(BRIEF))
+        produce(producer, "t:0", 0, "a=1")
+        late.gets(reply("fetched t:0 0 1 batch a=1"))
+
+
+def least_bytes(program):
+    """It waits until the bytes of all partitions together are as many as it asks for, or as it takes."""
+    with Started(program) as broker, broker.client() as consumer, broker.client() as producer:
+        one = len(request("batch a=1"))
+        waits(consumer, fetch("t:0 0 | t:1 0", least=one + 1))
+        produce(producer, "t:0", 0, "a=1")
+        holds("a reply comes to too few bytes", consumer.gets_nothing(BRIEF))
+        produce(producer, "t:2", 0, "a=1")
+        holds("a reply comes to another partition's bytes", consumer.gets_nothing(BRIEF))
+        produce(producer, "t:1", 0, "b=2")
+        consumer.gets(reply("fetched t:0 0 1 batch a=1 | t:1 0 1 batch b=2"))
+        consumer.send(request(f"fetch max={one} wait={LONG} min={LONG} t:0 0"))
+        consumer.gets(reply("fetched t:0 0 1 batch a=1"))
+
+
+def trim_makes_due(program):
+    """A start that is moved above the offset that is asked for."""
+    with Started(program) as broker, broker.client() as consumer, broker.client() as other:
+        for number in range(3):
+            produce(other, "t:0", number, f"a={number}")
+        waits(consumer, fetch("t:0 1", least=LONG))
+        other.ask("trim t:0 1", "trimmed 0")
+        holds("a reply comes to a start that isn't above", consumer.gets_nothing(BRIEF))
+        other.ask("trim t:0 2", "trimmed 0")
+        consumer.gets(reply("fetched t:0 1 -1"))
+
+
+def commit_makes_due(program):
+    """The group topic's partition grows by a commit, and by a group that is forgotten."""
+    place = "__consumer_offsets:0"
+    with Started(program) as broker, broker.client() as consumer, broker.client() as other:
+        waits(consumer, fetch(f"{place} 0"))
+        other.ask("commit t:0 5", "committed t:0 0")
+        consumer.gets(reply(f"fetched {place} 0 1 positions g/t/0=5"))
+        waits(consumer, fetch(f"{place} 1"))
+        other.ask("forget g", "forgotten 0 1")
+        consumer.gets(reply(f"fetched {place} 0 2 positions base:1 g/t/0=null"))
+
+
+def import_makes_due(program):
+    """What an image brings to a partition that has nothing."""
+    with Started(program) as broker, broker.client() as consumer, broker.client() as other:
+        waits(consumer, fetch("t:0 0"))
+        other.ask("import t:0 image 0-0 batch base:0 a=1", "imported 0")
+        consumer.gets(reply("fetched t:0 0 1 batch base:0 a=1"))
+
+
+def without_acknowledgement(program):
+    """A produce that isn't answered wakes, too."""
+    with Started(program) as broker, broker.client() as consumer, broker.client() as producer:
+        waits(consumer, fetch("t:0 0"))
+        producer.send(request("produce acks=0 t:0 batch a=1"))
+        consumer.gets(reply("fetched t:0 0 1 batch a=1"))
+
+
+def behind_much(program):
+    """A client that is owed too much to be answered more has a Fetch that waits behind that."""
+    with Started(program) as broker, broker.client() as other, broker.client(room=4096) as client:
+        fill(other)
+        client.send(request("fetch t:0 0") * 12 + fetch("t:1 0"))
+        for number in range(12):
+            client.gets(large_reply(), f"reply {number}")
+        holds("a reply comes to what must wait", client.gets_nothing(BRIEF))
+        produce(other, "t:1", 0, "a=1")
+        client.gets(reply("fetched t:1 0 1 batch a=1"))
+
+
+def at_once(program):
+    """Where a partition has an error code, nothing is waited for, or too many entries are there."""
+    with Started(program) as broker, broker.client() as client:
+        none = "fetched t:0 0 0"
+        for wait, least, entry, wanted in (
+            (LONG, 1, "t:0 1", "fetched t:0 1 -1"),
+            (LONG, 1, "t:9 0", "fetched t:9 3 -1"),
+            (LONG, 1, "t:0 0 | u:0 0", "fetched t:0 0 0 | u:0 3 -1"),
+            (LONG, 0, "t:0 0", none),
+            (LONG, -1, "t:0 0", none),
+            (0, 1, "t:0 0", none),
+            (-1, 1, "t:0 0", none),
+        ):
+            client.send(fetch(entry, wait, least))
+            client.gets(reply(wanted), f"the reply to wait {wait}, min {least}, {entry}")
+        client.send(request(f"fetch max=0 wait={LONG} min=1 t:0 0"))
+        client.gets(reply(none))
+        client.send(fetch("each 4098 t:0 0"))
+        client.gets(reply("fetched each 4098 t:0 0 0"))
+        waits(client, fetch("each 4097 t:0 0"))
+    with Started(program, "--role", "follower") as broker, broker.client() as client:
+        client.send(fetch("t:0 0"))
+        client.gets(reply("fetched t:0 6 -1"))
+
+
+def frames_behind(program):
+    """Frames behind one that waits are answered behind it, and not before; so is a second that waits."""
+    with Started(program) as broker, broker.client() as consumer, broker.client() as producer:
+        waits(consumer, fetch("t:0 0"), request("versions"), fetch("t:0 1"), request("listoffsets t:0 -1"))
+        produce(producer, "t:0", 0, "a=1")
+        consumer.gets(reply("fetched t:0 0 1 batch a=1") + reply("versions 0"))
+        holds("the second doesn't wait", consumer.gets_nothing(BRIEF))
+        produce(producer, "t:0", 1, "b=2")
+        consumer.gets(reply("fetched t:0 0 2 batch base:1 b=2") + reply("listed t:0 0 -1 2"))
+
+
+def half_close(program):
+    """The end of the input makes it due, and what is behind it, too."""
+    with Started(program) as broker, broker.client() as consumer, broker.client() as other:
+        waits(consumer, fetch("t:0 0"), request("versions"), fetch("t:0 0"))
+        consumer.stop()
+        consumer.gets_to_the_end(reply("fetched t:0 0 0") + reply("versions 0") + reply("fetched t:0 0 0"))
+        other.ask("versions", "versions 0")
+        broker.tells(0, consumer, "end")
+
+
+def ends_with_the_frame(program):
+    """A client that asks and closes its side at once gets the reply at once."""
+    with Started(program) as broker, broker.client() as consumer:
+        consumer.send(fetch("t:0 0"))
+        consumer.stop()
+        consumer.gets_to_the_end(reply("fetched t:0 0 0"))
+
+
+def reset(program):
+    """A reset ends the connection at once, though the time is long, and what is behind the Fetch isn't done. Nothing of it is
+    left: another that came to wait behind it is woken."""
+    with Started(program) as broker, broker.client() as producer, broker.client() as stays:
+        gone = broker.clients(10)
+        for it in gone:
+            comes_to_wait(it, fetch("t:0 0"), request("produce t:1 batch a=1"))
+        comes_to_wait(stays, fetch("t:0 0"))
+        for it in gone:
+            it.reset()
+        broker.ends(10)
+        producer.ask("listoffsets t:1 -1", "listed t:1 0 -1 0")
+        broker.rests("all but two are gone")
+        produce(producer, "t:0", 0, "a=1")
+        stays.gets(reply("fetched t:0 0 1 batch a=1"))
+
+
+def reset_as_it_is_woken(program):
+    """Many are woken and reset at the same time, and one that came behind them is woken with them."""
+    with Started(program) as broker, broker.client() as producer, broker.client() as stays:
+        gone = broker.clients(10)
+        for it in gone:
+            comes_to_wait(it, fetch("t:0 0"))
+        comes_to_wait(stays, fetch("t:0 0"))
+        os.kill(broker.process.pid, signal.SIGSTOP)
+        producer.send(request("produce t:0 batch a=1"))
+        for it in gone:
+            it.reset()
+        os.kill(broker.process.pid, signal.SIGCONT)
+        producer.gets(reply("produced t:0 0 0"))
+        stays.gets(reply("fetched t:0 0 1 batch a=1"))
+
+
+def idle(program):
+    """The time of a wait doesn't count as idle; what follows does."""
+    with Started(program, "--idle", "2") as broker, broker.client() as consumer:
+        consumer.send(fetch("t:0 0", 4_500))
+        consumer.gets(reply("fetched t:0 0 0"))
+        consumer.gets_to_the_end(b"")
+        broker.tells(0, consumer, "idle for 2 s")
+
+
+def raise_files():
+    """Lets this process and its children have as many files as the system allows."""
+    most = resource.getrlimit(resource.RLIMIT_NOFILE)[1]
+    resource.setrlimit(resource.RLIMIT_NOFILE, (most, most))
+
+
+def has_nothing(client):
+    """Whether nothing has come, of a socket with any number."""
+    client.socket.setblocking(False)
+    try:
+        return not client.socket.recv(1)
+    except BlockingIOError:
+        return True
+    finally:
+        client.socket.settimeout(SECONDS)
+
+
+def produced_in(broker, producer, first):
+    """The processor time of 1,000 produces to a partition for which nobody waits, from this offset on."""
+    before = broker.processor_seconds()
+    for number in range(first, first + 1_000):
+        produce(producer, "t:3", number, "c=3")
+    return broker.processor_seconds() - before
+
+
+def a_thousand(program):
+    """A thousand wait at next to no cost, also while others produce to another partition. A produce wakes those that ask for its
+    partition, and no other."""
+    raise_files()
+    with Started(program) as broker, broker.client() as producer:
+        alone = produced_in(broker, producer, 0)
+        waiting = broker.clients(MANY)
+        for number, it in enumerate(waiting):
+            comes_to_wait(it, fetch("t:1 0 | t:2 0" if number % 100 == 0 else "t:2 0"))
+        before = broker.processor_seconds()
+        time.sleep(2)
+        taken = broker.processor_seconds() - before
+        holds(f"{MANY} that wait take {taken} s of processor time in 2 s", taken < 0.1)
+        beside = produced_in(broker, producer, 1_000)
+        holds(f"1,000 produces take {alone} s of processor time, beside {MANY} that wait {beside} s", beside < 2 * alone + 0.3)
+        produce(producer, "t:1", 0, "a=1")
+        for it in waiting[::100]:
+            it.gets(reply("fetched t:1 0 1 batch a=1 | t:2 0 0"))
+        others = [it for number, it in enumerate(waiting) if number % 100]
+        holds("one is answered for another partition", all(has_nothing(it) for it in others))
+        produce(producer, "t:2", 0, "b=2")
+        for it in others:
+            it.gets(reply("fetched t:2 0 1 batch b=2"))
+        for it in waiting:
+            it.close()
+
+
+def most_held(program):
+    """What is kept of frames that wait counts as held; where all hold too much the largest ends."""
+    with Started(program, "--most-held", "400000") as broker, broker.client() as producer:
+        waiting = broker.clients(3)
+        for entries, it in zip((1_000, 2_000), waiting):
+            comes_to_wait(it, fetch(f"each {entries} t:0 0"))
+        waiting[2].send(fetch("each 3000 t:0 0"))
+        same("what a client gets that holds too much", waiting[2].rest(), b"")
+        broker.tells(3, waiting[2], "most held")
+        produce(producer, "t:0", 0, "a=1")
+        for it in waiting[:2]:
+            it.receive(1)
+            it.close()
+
+
+CASES = [
+    ("a fetch waits for what another produces", is_woken_by_produce),
+    ("a fetch whose time runs out", time_runs_out),
+    ("a broker that rests while a fetch waits", rests_meanwhile),
+    ("fetches' times in their order", times_in_their_order),
+    ("the least bytes of a fetch", least_bytes),
+    ("a trim makes a fetch due", trim_makes_due),
+    ("a commit makes a fetch due", commit_makes_due),
+    ("an import makes a fetch due", import_makes_due),
+    ("a fetch and a produce without acknowledgement", without_acknowledgement),
+    ("a fetch that waits behind large replies", behind_much),
+    ("fetches that are answered at once", at_once),
+    ("frames behind a fetch that waits", frames_behind),
+    ("a half-close while a fetch waits", half_close),
+    ("a fetch and the end of input", ends_with_the_frame),
+    ("resets while fetches wait", reset),
+    ("resets as fetches are woken", reset_as_it_is_woken),
+    ("idle and waiting", idle),
+    ("a thousand fetches that wait", a_thousand),
+    ("more held than allowed, and waiting", most_held),
+]

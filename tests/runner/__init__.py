@@ -1,0 +1,1 @@
+"""What runs rows, cases, documents and the bytes in sources by their names."""

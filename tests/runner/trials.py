@@ -1,0 +1,107 @@
+"""What is run by name, one after the other or side by side: rows, cases of `kbroker start`, sessions, documents, bytes in sources.
+
+A trial is a name and what says the faults of a program. It may have a reason for which tests/quick leaves it out, and it may
+be one that is run with the first program alone.
+"""
+import os
+import sys
+import time
+
+from cases import kept_cases, start_cases, started
+from runner import documents, rows, runs, source_bytes
+
+CASES = "kbroker start: "  # what the name of each case begins with
+
+
+class Trial:
+    """Something that is run under a name."""
+
+    def __init__(self, name, faults_of, slow=None, once=False):
+        """Its faults are texts, none where all is as it must be. With `once` it is run with the first program alone."""
+        self.name, self.faults_of, self.slow, self.once = name, faults_of, slow, once
+        self.row = self.crate = None  # the row or the crate of tests that it is of
+
+
+class Outcome:
+    """What came of a trial: its faults, or why it can't be tried on this machine; and how long it took."""
+
+    def __init__(self, trial, program):
+        began = time.monotonic()
+        self.name, self.program, self.untried = trial.name, os.path.basename(program), None
+        try:
+            self.faults = trial.faults_of(program)
+        except started.CannotBeTried as why:
+            self.faults, self.untried = [], str(why)
+        except Exception as why:  # (also of a response that can't be read)
+            self.faults = [str(why) if isinstance(why, started.Fault) else f"{type(why).__name__}: {why}"]
+        self.seconds = time.monotonic() - began
+
+    def told(self):
+        """What is printed of it."""
+        if self.faults:
+            return "\n  ".join([f"FAILED {self.name} ({self.program}) {self.seconds:.1f} s", *self.faults])
+        said = f"left out, since {self.untried}:" if self.untried else "passed"
+        return f"{said} {self.name} ({self.program}) {self.seconds:.1f} s"
+
+
+def trial_of_row(row):
+    made = Trial(row.name, lambda program: runs.faults_of(program, row), row.slow or (started.LIMITED if row.memory is not None else None))
+    made.row = row
+    return made
+
+
+def trial_of_case(name, case):
+    """Cases of what is kept take minutes: they are run with the first program alone."""
+
+    def faults_of(program):
+        case(program)
+        return []
+
+    return Trial(CASES + name, faults_of, getattr(case, "slow", None), (name, case) in kept_cases.CASES)
+
+
+def all_trials():
+    """All that tests/program runs."""
+    return [
+        *(trial_of_case(name, case) for name, case in start_cases.CASES),
+        Trial("ten million batches", runs.faults_of_millions, "the greatest counts", once=True),
+        Trial("a session whose client waits for each reply", runs.faults_of_waiting),
+        *(trial_of_row(it) for it in rows.all_rows()),
+        *(Trial(name, faults_of, once=once) for name, faults_of, once in documents.COMPARED),
+        Trial("bytes in sources that Python made", lambda _: source_bytes.faults(), once=True),
+    ]
+
+
+def open_stdin():
+    """Has descriptor 0 open, so that no pipe of a row takes its number."""
+    try:
+        os.fstat(0)
+    except OSError:
+        os.open(os.devnull, os.O_RDONLY)
+
+
+def named(trials, names):
+    """The trials that have one of these in their names, all where none is given. Each must be in some."""
+    for name in names:
+        if not any(name in it.name for it in trials):
+            sys.exit(f"{name!r} is part of no name of a row or a case")
+    return [it for it in trials if not names or any(name in it.name for name in names)]
+
+
+def in_turn(tried):
+    """The outcomes of trials, each with a program."""
+    return (Outcome(trial, program) for trial, program in tried)
+
+
+def run_all(outcomes, tells_all):
+    """Prints what failed, or with `tells_all` what came of each; and returns how many passed, how many failed, and for each reason
+    how many were left out."""
+    passed, failed, untried = 0, 0, {}
+    for it in outcomes:
+        if it.faults or tells_all:
+            print(it.told(), flush=True)
+        if it.untried:
+            untried[it.untried] = untried.get(it.untried, 0) + 1
+        else:
+            passed, failed = passed + (not it.faults), failed + bool(it.faults)
+    return passed, failed, untried
