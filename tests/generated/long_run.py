@@ -428,7 +428,7 @@ DRAWS = {
 }
 
 
-NAMES = ["long script", "long session of a leader", "long session of a follower"]
+ROWS = ["long script", "long session of a leader", "long session of a follower"]
 
 
 def runs():

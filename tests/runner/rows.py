@@ -153,7 +153,7 @@ GENERATORS = [
     ([f"generated script {it}" for it in range(scripts.SCRIPTS)], fields_of_scripts),
     ([f"generated session {it}" for it in range(exchanges.SESSIONS)], fields_of_sessions),
     ([f"small delta {it}, with each byte changed" for it in range(exchanges.DELTAS)], fields_of_lies),
-    (long_run.NAMES, fields_of_long_runs),
+    (long_run.ROWS, fields_of_long_runs),
     ([f"many batches, {it}" for it in orders.NAMES], fields_of_orders),
     (cleanings.NAMES, fields_of_cleanings),
 ]
