@@ -32,7 +32,7 @@ from cases.kept_runs import (
     write,
 )
 from cases.many_clients import frame
-from cases.started import holds, request, same
+from cases.started import holds, request, same, slow
 from encoders import batches, copies, frames, kept
 from models import kept_files
 from models.kept_files import never
@@ -357,6 +357,7 @@ def group_of_zeros(sizes):
     return crc + covered + b"".join(front + bytes(zeros) for front, zeros in parts)
 
 
+@slow("the largest frames take long")
 def largest_group(program):
     """A group of the most bytes is read, and one of a byte more is none."""
     half = kept_files.MOST // 2
