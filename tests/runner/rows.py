@@ -160,6 +160,7 @@ GENERATORS = [
 # why tests/quick leaves out some of these rows
 SLOW = {f"generated script {it}": "scripts with large values take long" for it in scripts.LARGE}
 SLOW |= {f"many batches, {it}": counts.GREATEST for it in orders.NAMES}
+SLOW |= {long_run.ROWS[0]: "a script of all that can happen takes long"}
 
 
 @functools.cache
