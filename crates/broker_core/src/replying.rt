@@ -36,7 +36,10 @@ fn answer_next<S: BatchStore, W: Write, A: Allocator + Copy>(
         // None may wait.
         Ok(Next::Waits(_)) => return Ok(false),
         Err(NextError::Frame(why)) => return Err(SessionError::Frame { index, why }),
-        Err(NextError::OutOfMemory) => return Err(SessionError::OutOfMemory),
+        // None is put off.
+        Err(NextError::OutOfMemory | NextError::PutOff(_)) => {
+            return Err(SessionError::OutOfMemory);
+        }
     }
     let Ok(()) = sink.send(out) else {
         return Err(SessionError::Write);

@@ -1,10 +1,10 @@
 -- What a request may change of a broker, and in which partitions. Kafka's documentation, "Protocol Guide", section "The
 -- Messages".
-use Rattle.std.specs.Prelude.{ℕ, ℤ, pos, Bool, ◌&&◌, List, [], ◌∷◌, map, bytes_eq}
+use Rattle.std.specs.Prelude.{ℕ, ℤ, pos, Bool, true, false, ◌&&◌, List, [], ◌∷◌, map, bytes_eq}
 use Rattle.std.specs.List.{flat_map, list_any}
 use Rattle.std.specs.Ordering.{int_eq}
 use Rattle.frame_fields.specs.Types.{TopicOf}
-use Rattle.request_frames.specs.Requests.BodyValue.{produce, offset_commit, init_producer_id, deliver, clean, import, import_delta, forget_group, trim}
+use Rattle.request_frames.specs.Requests.BodyValue.{produce, list_offsets, offset_commit, offset_fetch, init_producer_id, deliver, clean, export, export_delta, import, import_delta, get, forget_group, trim}
 use Rattle.request_frames.specs.Requests.{BodyValue}
 use Rattle.request_frames.specs.Produce.{ProducePartitionValue}
 use Rattle.broker_state.specs.State.{group_topic}
@@ -44,6 +44,17 @@ effect (clean q) = cleans (record { topic = q.topic; partition = q.partition })
 effect (trim q) = trims (record { topic = q.topic; partition = q.partition })
 effect _ = reads
 
+-- ---- requests that may change something
+
+abbrev pub is_change : Effect → Bool
+is_change reads = false
+is_change _ = true
+
+abbrev pub may_change : BodyValue → Bool
+may_change body = is_change (effect body)
+
+-- ---- where it may change it
+
 -- the partitions that may change
 abbrev pub places : Effect → List TopicPartition
 places reads = []
@@ -56,3 +67,18 @@ places (trims p) = p ∷ []
 -- one of these is the partition
 abbrev pub is_among : List TopicPartition → (topic : List ℕ) → (partition : ℤ) → Bool
 is_among ps topic partition = list_any (λ p. bytes_eq p.topic topic && int_eq p.partition partition) ps
+
+-- ---- requests that take long
+
+-- Where a partition has much, these may take long: they look through its log, make an image of it, or take one in.
+abbrev pub is_dear : BodyValue → Bool
+is_dear (list_offsets topics) = true
+is_dear (offset_fetch q) = true
+is_dear (clean q) = true
+is_dear (export q) = true
+is_dear (export_delta q) = true
+is_dear (import q) = true
+is_dear (import_delta q) = true
+is_dear (get q) = true
+is_dear (forget_group group) = true
+is_dear _ = false

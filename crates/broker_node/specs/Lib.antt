@@ -2,6 +2,7 @@
 pub mod Ways
 pub mod Kinds
 pub mod Effects
+pub mod Changes
 pub mod Replies
 pub mod Fitting
 pub mod Streams

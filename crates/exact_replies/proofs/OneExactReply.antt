@@ -5,7 +5,8 @@ use Rattle.broker_state.specs.State.{State}
 use Rattle.broker_node.specs.Replies.{IsReply}
 use Rattle.broker_node.proofs.PlannedReplies.{one_reply}
 use Rattle.exact_replies.specs.declared.memory.Memory.TheVariants.{Sufficed}
-use Rattle.exact_replies.specs.Exact.{may_change, HandlesExactly}
+use Rattle.broker_node.specs.Effects.{may_change}
+use Rattle.exact_replies.specs.Exact.{HandlesExactly}
 
 pub same_reply : (s after after' : State) (q : RequestValue) (out out' : Option (List ℕ)) → IsReply s q out after → IsReply s q out' after' → (out ≡ out') × (after ≡ after')
 same_reply s after after' q out out' is is_too =

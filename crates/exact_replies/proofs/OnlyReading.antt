@@ -6,7 +6,7 @@ use Rattle.broker_node.specs.Kinds.{kind}
 use Rattle.broker_node.specs.Replies.{MayReply}
 use Rattle.broker_node.proofs.KeptStates.{Keeps, way_keeps}
 use Rattle.exact_replies.specs.Looking.{shows_storage_error}
-use Rattle.exact_replies.specs.Exact.{may_change}
+use Rattle.broker_node.specs.Effects.{may_change}
 
 only_reads : (s : State) (n : ℤ) (body : BodyValue) → may_change body ≡ false → Keeps (λ m. m ≡ s) ((kind body).way s n)
 only_reads s n body is = grind (arith, is)

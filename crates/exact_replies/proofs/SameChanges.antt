@@ -44,7 +44,7 @@ use Rattle.broker_node.specs.Below.{given_delta, delta_faults, import_delta_work
 use Rattle.broker_node.specs.Below.{trim_faults, trim_work, trim_sent}
 use Rattle.broker_node.specs.Replies.{IsReply, reply, reply_to}
 use Rattle.broker_node.proofs.PlannedReplies.{one_reply}
-use Rattle.exact_replies.specs.Exact.{may_change}
+use Rattle.broker_node.specs.Effects.{may_change}
 use Rattle.exact_replies.specs.SameHeld.{HoldTheSame}
 use Rattle.exact_replies.proofs.SameContents.{content_same, with_both, given_both}
 

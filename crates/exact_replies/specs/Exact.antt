@@ -1,8 +1,8 @@
 -- Requests handled so that it is told whether memory sufficed. Where it did, the reply and the state after are those that the
 -- state and the request make. Kafka's documentation, "Protocol Guide", section "The Messages".
-use Rattle.std.specs.Prelude.{◌≡◌, ◌⊎◌, ℕ, Bool, true, false, List, ◌∷◌, ◌++◌, Option}
+use Rattle.std.specs.Prelude.{◌≡◌, ◌⊎◌, ℕ, true, false, List, ◌∷◌, ◌++◌, Option}
 use Rattle.frame_fields.specs.Types.{TopicOf}
-use Rattle.request_frames.specs.Requests.{BodyValue, RequestValue}
+use Rattle.request_frames.specs.Requests.{RequestValue}
 use Rattle.answering.specs.Work.{IsOutOfMemory, MayAnswer}
 use Rattle.answering.specs.Plans.{Plan, RepliesBy}
 use Rattle.answering.specs.Once.{RepliesOnce}
@@ -11,20 +11,10 @@ use Rattle.broker_state.specs.State.{State}
 use Rattle.broker_node.specs.Ways.Way.{planned, once, fixed}
 use Rattle.broker_node.specs.Ways.{Way}
 use Rattle.broker_node.specs.Kinds.{kind}
-use Rattle.broker_node.specs.Effects.Effect.{reads}
-use Rattle.broker_node.specs.Effects.{Effect, effect}
+use Rattle.broker_node.specs.Effects.{may_change}
 use Rattle.broker_node.specs.Replies.{IsReply, MayReply}
 use Rattle.exact_replies.specs.declared.memory.Memory.{Memory}
 use Rattle.exact_replies.specs.declared.memory.Memory.TheVariants.{Sufficed, Lacked}
-
--- ---- requests that may change something
-
-abbrev pub is_change : Effect → Bool
-is_change reads = false
-is_change _ = true
-
-abbrev pub may_change : BodyValue → Bool
-may_change body = is_change (effect body)
 
 -- ---- replies that lack memory
 

@@ -5,7 +5,8 @@ ghost use Rattle.request_frames.specs.Requests.{RequestValue};
 ghost use Rattle.broker_state.specs.State.{ConfigValue, State, new_state};
 ghost use Rattle.broker_node.specs.Replies.{IsReply, MayReply};
 ghost use Rattle.exact_replies.specs.declared.memory.Memory.TheVariants.{Sufficed};
-ghost use Rattle.exact_replies.specs.Exact.{may_change, HandlesExactly};
+ghost use Rattle.broker_node.specs.Effects.{may_change};
+ghost use Rattle.exact_replies.specs.Exact.{HandlesExactly};
 ghost use Rattle.exact_replies.specs.SameHeld.{AskForTheSame, HoldTheSame};
 
 /// In one state a request has one exact reply, and one state comes of it.

@@ -9,7 +9,7 @@
 //! and the request make; and handled exactly once more in that state, the request leaves the same state, or
 //! it is told that memory lacked ([`handled_again_it_leaves_the_same`]).
 //!
-//! A journal keeps the requests that [`may_change`] names: the others leave the broker as it is, wherever
+//! A journal keeps the requests that `broker_node::may_change` names: the others leave the broker as it is, wherever
 //! memory lacks ([`reading_changes_nothing`]).
 //!
 //! ```
@@ -20,13 +20,11 @@
 //! ```
 #![tactic(auto)]
 
-mod changes;
 mod handling;
 mod laws;
 mod looking;
 mod memory;
 
-pub use changes::may_change;
 pub use handling::handle_exactly;
 pub use laws::{
     exact_replies_are_one, handled_again_it_leaves_the_same, reading_changes_nothing,

@@ -1,6 +1,6 @@
 -- Partitions that are barred, and those that a request may change.
-use Rattle.std.proofs.Common.{◌≡◌, ◌⊎◌, inl, inr, ℕ, zero, suc, ◌+◌, ◌<◌, Bool, true, false, List, [], ◌∷◌, ◌++◌, length, Option, Some, None, Result, Ok, Err, refl, sym, ap, subst, ◌∙◌, append_assoc, drop, arith}
-use Rattle.std.specs.Prelude.{IfSome, OnOk, map, is_some, slice_get, get_or, not, ◌&&◌, ◌||◌, nat_lt}
+use Rattle.std.proofs.Common.{◌≡◌, inl, inr, ℕ, zero, suc, ◌+◌, ◌<◌, Bool, true, false, List, [], ◌∷◌, ◌++◌, length, Option, Some, None, Result, Ok, Err, refl, sym, ap, subst, ◌∙◌, append_assoc, drop, arith}
+use Rattle.std.specs.Prelude.{OnOk, map, is_some, slice_get, get_or, not, ◌&&◌, ◌||◌, nat_lt}
 use Rattle.std.specs.List.{filter}
 use Rattle.std.specs.Option.{option_and_then, option_map}
 use Rattle.std.proofs.Math.Numerals.{add-one}
@@ -18,9 +18,8 @@ use Rattle.broker_state.specs.declared.place.Place.{Place}
 use Rattle.broker_state.specs.State.{State, Topic}
 use Rattle.broker_state.specs.Parts.{TopicParts, topic_contents}
 use Rattle.broker_node.specs.Effects.Effect.{reads, gives_id, appends, takes, cleans, trims}
-use Rattle.broker_node.specs.Effects.{Effect, TopicPartition, effect, places, produced_to}
-use Rattle.exact_replies.specs.Exact.{is_change, may_change}
-use Rattle.kept_sessions.specs.Barring.{AreFree, AvoidsBarred, IsAmong, IsBarredAmong, MeetsBarred, all_places, content_at_place, entries_to, is_barred, is_same_place, places_from, topic_places}
+use Rattle.broker_node.specs.Effects.{Effect, TopicPartition, effect, is_change, may_change, places, produced_to}
+use Rattle.kept_sessions.specs.Barring.{AreFree, AvoidsBarred, IsAmong, IsBarredAmong, all_places, content_at_place, entries_to, is_barred, is_same_place, places_from, topic_places}
 
 -- ---- all places, one after the other
 
@@ -109,13 +108,6 @@ reads_free barred s (trims p) only_reads = absurd (true≢false only_reads)
 
 pub reading_avoids : (barred : List Place) (s : State) (body : BodyValue) → may_change body ≡ false → AvoidsBarred barred s body
 reading_avoids barred s body only_reads = reads_free barred s (effect body) only_reads
-
--- ---- the partition that is told
-
--- where none was put off, what was told before
-pub told_before : (barred : List Place) (s : State) (body : BodyValue) (told : Option Place) → IfSome told (λ place. (told ≡ Some place) ⊎ MeetsBarred barred s body place)
-told_before barred s body None = tt
-told_before barred s body (Some place) = inl refl
 
 -- ---- what is left of a request's partitions
 

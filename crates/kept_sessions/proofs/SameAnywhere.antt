@@ -1,5 +1,5 @@
 -- Frames that are handled again in two brokers that hold the same lead to two that hold the same.
-use Rattle.std.proofs.Common.{◌≡◌, ℕ, List, [], ◌∷◌, refl, subst}
+use Rattle.std.proofs.Common.{ℕ, List, [], ◌∷◌, refl, subst}
 use Rattle.broker_state.specs.State.{ConfigValue, State, new_state}
 use Rattle.exact_replies.specs.SameHeld.{AskForTheSame, HoldTheSame}
 use Rattle.exact_replies.proofs.SameChanges.{changed_alike}

@@ -6,15 +6,15 @@ use Rattle.broker_state.specs.declared.place.Place.{Place}
 use Rattle.broker_state.specs.State.{State}
 use Rattle.sessions.specs.Turns.{Exchange, InTurn, replied}
 use Rattle.sessions.specs.declared.visiting.Seat.{Seat}
+use Rattle.sessions.specs.declared.visiting.Flushed.{Flushed}
 use Rattle.sessions.specs.declared.visiting.Why.{Why}
 use Rattle.kept_sessions.specs.declared.keeper.Sent.{Sent}
 use Rattle.kept_sessions.specs.declared.keeper.Sent.TheVariants.{Bytes, HeldBack, Failed}
-use Rattle.sessions.specs.declared.visiting.Visit.{Visit}
 use Rattle.kept_sessions.specs.declared.keeper.CommitError.{CommitError}
 use Rattle.kept_sessions.specs.declared.keeper.CommitError.TheVariants.{OutOfMemory, Journal as InJournal}
 use Rattle.std.specs.Io.KnownBytes.{append_known}
 use Rattle.journal.specs.Disks.{LeavesAll}
-use Rattle.sessions.specs.Orders.{Event, SendsAt, VisitsAt, World, Run, new_world, sent_to, one_list, own}
+use Rattle.sessions.specs.Orders.{Event, SendsAt, World, Run, new_world, sent_to, one_list, own}
 use Rattle.journal.specs.declared.layout.TheConstants.{HEAD_SIZE}
 use Rattle.journal.specs.Files.{Group, IsGroup, AreGroups, IsRead, groups_bytes}
 use Rattle.journal.specs.Crashes.{HasStranger}
@@ -70,21 +70,6 @@ pub record IsKept {D : Type 0} (seen : D → Option (List ℕ)) (first start : S
   pub holds : IfSome (seen k.journal.disk) (λ file. HoldsFrames k.journal.key file frames)
   pub noted : Notes no_notes mid.state k.notes k.world.state
 
--- ---- what is answered
-
--- the seat while nothing may leave
-abbrev pub held_back : Seat → Seat
-held_back seat = record seat { may_write = false }
-
--- A session is visited, over a connection to which nothing may be written: nothing is sent, and whether it may be written
--- to stays as it was. The writer is none that anybody reads.
-pub record AnswersAt (who clock : ℕ) (seat : Seat) (old : World) (seat' : Seat) (new : World) (left left' : Option (List ℕ)) (visit : Visit) : Type 0 where
-  pub taken : Option (List ℕ)
-  pub taken' : Option (List ℕ)
-  pub visits : VisitsAt who clock (held_back seat) old (held_back seat') new left left' taken taken' visit
-  pub sends_nothing : visits.moved.sent ≡ []
-  pub may_write : seat'.may_write ≡ seat.may_write
-
 -- ---- what is put into the journal
 
 -- the journal's file has grown by the group of these frames, and a crash leaves all of it
@@ -115,14 +100,14 @@ StopsCommit has_failed old new (InJournal why) =
 -- ---- what is sent
 
 -- what came of it, by what the sessions say
-abbrev pub sent_of : Option (Result ℕ Why) → Option Sent
+abbrev pub sent_of : Option (Result Flushed Why) → Option Sent
 sent_of None = None
-sent_of (Some (Ok count)) = Some (Bytes count)
+sent_of (Some (Ok flushed)) = Some (Bytes flushed)
 sent_of (Some (Err why)) = Some (Failed why)
 
 -- A front of what was owed left, or a write failed. While frames are noted nothing leaves, and nothing changes.
 abbrev pub Sends : (who : ℕ) (seat : Seat) (notes : NotesValue) (old : World) (seat' : Seat) (new : World) (taken taken' : Option (List ℕ)) → Sent → Type 0
-Sends who seat notes old seat' new taken taken' (Bytes count) = SendsAt who seat old seat' new taken taken' (Ok count)
+Sends who seat notes old seat' new taken taken' (Bytes flushed) = SendsAt who seat old seat' new taken taken' (Ok flushed)
 Sends who seat notes old seat' new taken taken' (Failed why) = SendsAt who seat old seat' new taken taken' (Err why)
 Sends who seat notes old seat' new taken taken' HeldBack = HasNotes notes × (new ≡ old) × (seat' ≡ seat) × (taken' ≡ taken)
 

@@ -6,7 +6,7 @@ use Rattle.frame_fields.specs.Frames.{IsFrames, IsFirstFrame, IsIncomplete}
 use Rattle.broker_state.specs.State.{State}
 use Rattle.sessions.specs.Below.{RefusesNext}
 use Rattle.sessions.specs.Below.{IsReply}
-use Rattle.exact_replies.specs.Exact.{may_change}
+use Rattle.broker_node.specs.Effects.{may_change}
 use Rattle.kept_sessions.specs.declared.replaying.ReplayError.{ReplayError}
 use Rattle.kept_sessions.specs.declared.replaying.ReplayError.TheVariants as replay
 

@@ -1,6 +1,6 @@
 //! Partitions that may not change yet.
 
-ghost use Rattle.std.specs.Prelude.{◌≡◌, ◌++◌, true, not, [], is_some, map, slice_get, IfNone, IfSome, OnErr, OnOk};
+ghost use Rattle.std.specs.Prelude.{◌≡◌, ◌++◌, true, not, [], is_some, map, IfNone, IfSome, OnErr, OnOk};
 ghost use Rattle.std.specs.List.{filter};
 ghost use Rattle.frame_fields.specs.Arrays.{values};
 ghost use Rattle.frame_fields.specs.Types.{topic, topic_request};
@@ -10,9 +10,10 @@ ghost use Rattle.broker_state.specs.Places.{IsPlaceOf};
 ghost use Rattle.broker_node.specs.Effects.{produced_to};
 ghost use Rattle.kept_sessions.specs.Barring.{AreFree, AvoidsBarred, IsBarredAmong, IsFree, MeetsBarred, all_places, content_at_place, entries_to, is_barred, is_same_place, topic_places};
 
-use broker_state::{BrokerState, GROUP_TOPIC, Place};
+use broker_node::{MayChange, what_may_change};
+use broker_state::{BrokerState, Place};
 use frame_fields::{Array, Topic, Topics};
-use request_frames::{ProducePartition, Request, RequestBody};
+use request_frames::{ProducePartition, RequestBody};
 use segment::BatchStore;
 use std::alloc::{AllocError, Allocator};
 use std::marker::Model;
@@ -110,13 +111,6 @@ impl<A: Allocator + Copy> Barrier<A> {
         self.places.clear();
     }
 
-    /// The first partition that is barred, in the order of topics and partitions.
-    pub(crate) fn first(&self) -> Option<Place>
-        ensures { result ≡ slice_get self.now 0 }
-    {
-        self.places.first().copied()
-    }
-
     /// Whether a partition is barred.
     fn bars(&self, place: Place) -> bool
         ensures { result ≡ is_barred self.now place }
@@ -186,22 +180,15 @@ impl<A: Allocator + Copy> Barrier<A> {
     pub(crate) fn stops<S: BatchStore>(
         &self,
         state: &BrokerState<S>,
-        request: &Request<'_>,
+        body: &RequestBody<'_>,
     ) -> Option<Place>
-        ensures stops { IfSome result (MeetsBarred self.now state.now (request_body request.now.body)) }
-        ensures passes { IfNone result (AvoidsBarred self.now state.now (request_body request.now.body)) }
+        ensures stops { IfSome result (MeetsBarred self.now state.now (request_body body.now)) }
+        ensures passes { IfNone result (AvoidsBarred self.now state.now (request_body body.now)) }
     {
-        match &request.body {
-            RequestBody::Produce(asked) => self.stops_produce(state, &asked.topics),
-            RequestBody::OffsetCommit(_) | RequestBody::ForgetGroup(_) => {
-                self.stops_at(state, GROUP_TOPIC, 0)
-            }
-            RequestBody::Deliver(asked) => self.stops_at(state, asked.topic, asked.partition),
-            RequestBody::Import(asked) => self.stops_at(state, asked.topic, asked.partition),
-            RequestBody::ImportDelta(asked) => self.stops_at(state, asked.topic, asked.partition),
-            RequestBody::Clean(asked) => self.stops_at(state, asked.topic, asked.partition),
-            RequestBody::Trim(asked) => self.stops_at(state, asked.topic, asked.partition),
-            _ => None,
+        match what_may_change(body) {
+            MayChange::Nothing | MayChange::NextId => None,
+            MayChange::One(topic, partition) => self.stops_at(state, topic, partition),
+            MayChange::Produced(topics) => self.stops_produce(state, topics),
         }
     }
 }

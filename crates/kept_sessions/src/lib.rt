@@ -6,8 +6,8 @@
 //!
 //! While what the broker holds is written elsewhere, partition by partition, the frames go to another journal
 //! ([`Keeper::switch`]), and the partitions that aren't written yet are barred ([`Keeper::raise_barrier`]): a frame that may
-//! change one is put off ([`Keeper::take_put_off`]) until that one is written and [lifted](Keeper::lift). Until then a barred
-//! partition holds what it held.
+//! change one is put off until that one is written and [lifted](Keeper::lift). Until then a barred partition holds what it
+//! held.
 #![tactic(auto)]
 
 mod barrier;

@@ -4,8 +4,8 @@ use crate::ending::{Ended, Ending, ending_of};
 use crate::incoming::Incoming;
 use crate::serving_sessions::{ServedSessions, Unkept};
 use indexmap::IndexMap;
-use kept_starts::Missed;
-use kept_starts::sessions::{MOST_OWED, Seat, Session, Then, Visit, Why};
+use kept_starts::sessions::{Flushed, Seat, Then, Why};
+use kept_starts::{Missed, Place, Sent};
 use mio::event::Event;
 use mio::net::TcpStream;
 use mio::{Interest, Registry, Token};
@@ -30,6 +30,8 @@ struct Connection {
     is_ready: bool,
     /// Whether it stands among those to which something is sent at the end of the round.
     is_outgoing: bool,
+    /// Whether its last visit ended at a frame that is put off.
+    is_put_off: bool,
     /// Whether an event said that it has failed.
     is_failed: bool,
     /// How many bytes it holds and is owed, and what is kept of a frame that waits.
@@ -47,6 +49,7 @@ impl Connection {
             seat: Seat::new(),
             is_ready: false,
             is_outgoing: false,
+            is_put_off: false,
             is_failed: false,
             held: 0,
             moved: now,
@@ -65,12 +68,6 @@ pub(crate) struct Connections<B: ServedSessions> {
     outgoing: VecDeque<u64>,
     /// How many bytes all hold and are owed.
     held: u64,
-}
-
-/// Whether a visit that read all that was there left nothing to do. So much that answering stopped was not
-/// owed: all that was owed left, and that was less.
-fn is_done(visit: &Visit, session: &Session<Global>) -> bool {
-    session.owed() == 0 && visit.sent < MOST_OWED
 }
 
 /// Has a connection visited, where there is room for its number.
@@ -209,7 +206,8 @@ impl<B: ServedSessions> Connections<B> {
         }
     }
 
-    /// Has those connections visited whose frame waited and may be due. `clock` counts milliseconds.
+    /// Has those connections visited whose frame waited and may be due, or was put off and may be handled now. `clock` counts
+    /// milliseconds.
     pub(crate) fn wake(&mut self, clock: u64) {
         for _ in 0..u64::MAX {
             let Some(number) = self.sessions.next_woken(clock) else {
@@ -226,15 +224,17 @@ impl<B: ServedSessions> Connections<B> {
         self.sessions.next_due()
     }
 
-    /// Visits the connection that was ready first. Gives its end, if that was its last visit.
+    /// Visits the connection that was ready first, and sends what it is owed, unless that is to be kept before. Gives its
+    /// end, if that was its last visit.
     pub(crate) fn visit_next(&mut self, now: Instant, clock: u64) -> Option<Ended> {
         let number = self.ready.pop_front()?;
         if let Some(why) = self.failure(number) {
             return self.end(number, why);
         }
-        let why = self.visit(number, now, clock)?;
-        let why = ending_of(self.sessions.session(number)?, why);
-        self.end(number, why)
+        match self.visit(number, now, clock) {
+            Some(why) => self.end_over(number, why),
+            None => self.send(number, now),
+        }
     }
 
     /// Why a connection has failed whose frame waits: nothing that is held behind it is answered.
@@ -251,19 +251,19 @@ impl<B: ServedSessions> Connections<B> {
     fn visit(&mut self, number: u64, now: Instant, clock: u64) -> Option<Why> {
         let connection = self.by_number.get_mut(&number)?;
         connection.is_ready = false;
-        let (mut from, mut to) = (Incoming::new(&connection.stream), &connection.stream);
+        connection.is_put_off = false;
+        let mut from = Incoming::new(&connection.stream);
         let visit = self
             .sessions
-            .visit(number, clock, &mut connection.seat, &mut from, &mut to)?;
+            .visit(number, clock, &mut connection.seat, &mut from)?;
         let is_drained = from.is_drained() && !connection.seat.is_closing;
         if is_drained {
             connection.seat.may_read = false;
         }
-        if visit.answered > 0 || visit.sent > 0 {
+        if visit.answered > 0 {
             connection.moved = now;
         }
-        self.count_held(number);
-        self.go_on(number, visit, is_drained)
+        self.go_on(number, visit.then, is_drained)
     }
 
     /// Counts anew what a connection holds and is owed.
@@ -282,23 +282,29 @@ impl<B: ServedSessions> Connections<B> {
         None
     }
 
-    /// Has a connection visited again, or something sent to it, where a visit left that to do. Gives why it is over, if it
-    /// is.
-    fn go_on(&mut self, number: u64, visit: Visit, is_drained: bool) -> Option<Why> {
-        let session = self.sessions.session(number)?;
-        let connection = self.by_number.get_mut(&number)?;
-        if !B::SENDS_AT_ONCE && session.owed() > 0 && connection.seat.may_write {
-            make_outgoing(&mut self.outgoing, number, connection);
-        }
-        let is_quiet = is_drained && (!B::SENDS_AT_ONCE || is_done(&visit, session));
-        match visit.then {
-            Then::Again if is_quiet => None,
-            Then::Again => {
+    /// Has a connection visited again where a visit left something to do: a read, unless all was read that was there. Gives
+    /// why it is over, if it is.
+    fn go_on(&mut self, number: u64, then: Then, is_drained: bool) -> Option<Why> {
+        match then {
+            Then::Again if !is_drained => {
+                let connection = self.by_number.get_mut(&number)?;
                 make_ready(&mut self.ready, number, connection);
                 None
             }
-            Then::Idle => None,
+            Then::Again | Then::Idle => None,
+            Then::PutOff(place) => self.put_off(number, place),
             Then::Over(why) => Some(why),
+        }
+    }
+
+    /// Has a connection visited again whose first frame was put off, once the partition at this place may change. Gives why
+    /// it is over, if there is no memory to note that.
+    fn put_off(&mut self, number: u64, place: Place) -> Option<Why> {
+        let connection = self.by_number.get_mut(&number)?;
+        connection.is_put_off = true;
+        match self.sessions.put_off(number, place) {
+            Ok(()) => None,
+            Err(_) => Some(Why::OutOfMemory),
         }
     }
 
@@ -312,36 +318,56 @@ impl<B: ServedSessions> Connections<B> {
         let number = self.outgoing.pop_front()?;
         let connection = self.by_number.get_mut(&number)?;
         connection.is_outgoing = false;
+        self.send(number, now)
+    }
+
+    /// Sends a connection what it is owed, if a write may be made. Gives its end, if one failed.
+    fn send(&mut self, number: u64, now: Instant) -> Option<Ended> {
+        let failed = self.send_some(number, now);
+        self.count_held(number);
+        self.end_over(number, failed?)
+    }
+
+    /// Sends a connection what it is owed, if a write may be made, or has that sent once it is kept. Gives why the connection
+    /// is over, if a write failed.
+    fn send_some(&mut self, number: u64, now: Instant) -> Option<Why> {
+        let owed = self.sessions.session(number)?.owed();
+        let connection = self.by_number.get_mut(&number)?;
+        if owed == 0 || !connection.seat.may_write {
+            return None;
+        }
         let mut to = &connection.stream;
         match self.sessions.send(number, &mut connection.seat, &mut to)? {
-            Ok(sent) => {
-                if sent > 0 {
-                    connection.moved = now;
-                }
-                self.count_held(number);
-                self.go_on_sent(number);
+            Sent::Bytes(flushed) => {
+                self.go_on_sent(number, now, flushed);
                 None
             }
-            Err(why) => {
-                let why = ending_of(self.sessions.session(number)?, why);
-                self.end(number, why)
+            Sent::HeldBack => {
+                make_outgoing(&mut self.outgoing, number, connection);
+                None
             }
+            Sent::Failed(why) => Some(why),
         }
     }
 
-    /// Has a connection visited again to which something was sent, where that may have left something to do: a frame that
-    /// is held, a read or an end that waited, or more to send.
-    fn go_on_sent(&mut self, number: u64) -> Option<()> {
-        let session = self.sessions.session(number)?;
+    /// Has a connection visited again to which something was sent, where a visit has something to do then, or more can be
+    /// sent.
+    fn go_on_sent(&mut self, number: u64, now: Instant, flushed: Flushed) -> Option<()> {
+        let owed = self.sessions.session(number)?.owed();
         let connection = self.by_number.get_mut(&number)?;
-        let owed = session.owed();
-        let seat = &connection.seat;
-        let may_answer = owed < MOST_OWED
-            && (session.held() > 0 || seat.may_read || seat.at_end || seat.is_closing);
-        if may_answer || (owed > 0 && connection.seat.may_write) {
+        if flushed.bytes > 0 {
+            connection.moved = now;
+        }
+        if flushed.is_ready || (owed > 0 && connection.seat.may_write) {
             make_ready(&mut self.ready, number, connection);
         }
         None
+    }
+
+    /// Ends a connection whose session is over.
+    fn end_over(&mut self, number: u64, why: Why) -> Option<Ended> {
+        let why = ending_of(self.sessions.session(number)?, why);
+        self.end(number, why)
     }
 
     /// Ends a connection.
@@ -370,15 +396,15 @@ impl<B: ServedSessions> Connections<B> {
     }
 
     /// Ends the connection with this index among those that are open, if nothing moved on it for so
-    /// many seconds. The last one comes in its place. One whose frame waits counts as moved until now, and is
-    /// visited: so it is found to be due at last, should memory have lacked to wake it.
+    /// many seconds. The last one comes in its place. One whose frame waits, or is put off, counts as moved until
+    /// now, and is visited: so it is found to be due at last, should memory have lacked to wake it.
     pub(crate) fn end_if_idle(&mut self, index: usize, now: Instant, idle: u64) -> Option<Ended> {
         let (number, connection) = self.by_number.get_index(index)?;
         if now.duration_since(connection.moved) < Duration::from_secs(idle) {
             return None;
         }
         let number = *number;
-        if self.sessions.awaited(number) > 0 {
+        if connection.is_put_off || self.sessions.awaited(number) > 0 {
             let waiting = self.by_number.get_mut(&number)?;
             waiting.moved = now;
             make_ready(&mut self.ready, number, waiting);

@@ -3,7 +3,7 @@
 
 use crate::options::SyncWay;
 use crate::reports::is_over;
-use kept_starts::sessions::{Plainly, Seat, Session, Sessions, Then, Visit, Why};
+use kept_starts::sessions::{Plainly, Seat, Session, Sessions, Visit};
 use kept_starts::{
     CommitError, Directory, JournalError, Keeper, Missed, Name, Place, Rotation, RotationFault,
     Sent, Started,
@@ -33,26 +33,21 @@ pub(crate) enum Unkept {
 
 /// The sessions of a broker. What the calls do that `Sessions` has too is said there.
 pub(crate) trait ServedSessions {
-    /// Whether a visit sends what is owed. Else it leaves by `send`, once it is settled.
-    const SENDS_AT_ONCE: bool;
-
     fn open(&mut self) -> Result<u64, AllocError>;
 
-    fn visit<R: Read, W: Write>(
+    fn visit<R: Read>(
         &mut self,
         number: u64,
         clock: u64,
         seat: &mut Seat,
         from: &mut R,
-        to: &mut W,
     ) -> Option<Visit>;
 
-    fn send<W: Write>(
-        &mut self,
-        number: u64,
-        seat: &mut Seat,
-        to: &mut W,
-    ) -> Option<Result<usize, Why>>;
+    /// Has a session visited again whose first frame was put off, once the partition at this place may change.
+    fn put_off(&mut self, number: u64, place: Place) -> Result<(), AllocError>;
+
+    /// Sends a session what it is owed, unless that is to be kept before.
+    fn send<W: Write>(&mut self, number: u64, seat: &mut Seat, to: &mut W) -> Option<Sent>;
 
     fn close(&mut self, number: u64) -> bool;
 
@@ -81,30 +76,30 @@ pub(crate) trait ServedSessions {
 }
 
 impl<S: BatchStore> ServedSessions for Sessions<S, Global> {
-    const SENDS_AT_ONCE: bool = true;
-
     fn open(&mut self) -> Result<u64, AllocError> {
         self.open()
     }
 
-    fn visit<R: Read, W: Write>(
+    fn visit<R: Read>(
         &mut self,
         number: u64,
         clock: u64,
         seat: &mut Seat,
         from: &mut R,
-        to: &mut W,
     ) -> Option<Visit> {
-        self.visit(number, clock, &mut Plainly, seat, from, to)
+        self.visit(number, clock, &mut Plainly, seat, from)
     }
 
-    fn send<W: Write>(
-        &mut self,
-        number: u64,
-        seat: &mut Seat,
-        to: &mut W,
-    ) -> Option<Result<usize, Why>> {
-        self.send(number, seat, to)
+    fn put_off(&mut self, _number: u64, _place: Place) -> Result<(), AllocError> {
+        // Each partition may change at any time.
+        Err(AllocError)
+    }
+
+    fn send<W: Write>(&mut self, number: u64, seat: &mut Seat, to: &mut W) -> Option<Sent> {
+        match self.send(number, seat, to)? {
+            Ok(flushed) => Some(Sent::Bytes(flushed)),
+            Err(why) => Some(Sent::Failed(why)),
+        }
     }
 
     fn close(&mut self, number: u64) -> bool {
@@ -193,16 +188,6 @@ impl<S: BatchStore + Drop, D: Directory + Drop> Kept<S, D> {
         Name::Journal(self.rotation.files().last)
     }
 
-    /// What is to be done with a session whose first frame was put off: it is visited again behind the next image. Without
-    /// memory to note that it is over.
-    fn after_put_off(&mut self, number: u64, place: Place) -> Then {
-        self.wanted = Some(place);
-        match self.put_off.push_back(number) {
-            Ok(_) => Then::Idle,
-            Err(_) => Then::Over(Why::OutOfMemory),
-        }
-    }
-
     /// Appends what was noted, and syncs where it is time to, or much isn't synced.
     fn append_and_sync(&mut self, now: Instant, patience: u32) -> Result<(), Unkept> {
         why_unkept(self.journal(), self.keeper.append())?;
@@ -236,41 +221,31 @@ fn why_unkept(journal: Name, committed: Result<(), CommitError>) -> Result<(), U
 }
 
 impl<S: BatchStore + Drop, D: Directory + Drop> ServedSessions for Kept<S, D> {
-    const SENDS_AT_ONCE: bool = false;
-
     fn open(&mut self) -> Result<u64, AllocError> {
         self.keeper.open()
     }
 
-    fn visit<R: Read, W: Write>(
+    fn visit<R: Read>(
         &mut self,
         number: u64,
         clock: u64,
         seat: &mut Seat,
         from: &mut R,
-        _to: &mut W,
     ) -> Option<Visit> {
-        let visit = self.keeper.answer(number, clock, seat, from)?;
-        match self.keeper.take_put_off() {
-            Some(place) => Some(Visit {
-                then: self.after_put_off(number, place),
-                ..visit
-            }),
-            None => Some(visit),
+        self.keeper.answer(number, clock, seat, from)
+    }
+
+    fn put_off(&mut self, number: u64, place: Place) -> Result<(), AllocError> {
+        // It is visited again behind the next image.
+        self.wanted = Some(place);
+        match self.put_off.push_back(number) {
+            Ok(_) => Ok(()),
+            Err(_) => Err(AllocError),
         }
     }
 
-    fn send<W: Write>(
-        &mut self,
-        number: u64,
-        seat: &mut Seat,
-        to: &mut W,
-    ) -> Option<Result<usize, Why>> {
-        match self.keeper.send(number, seat, to)? {
-            Sent::Bytes(count) => Some(Ok(count)),
-            Sent::HeldBack => Some(Ok(0)),
-            Sent::Failed(why) => Some(Err(why)),
-        }
+    fn send<W: Write>(&mut self, number: u64, seat: &mut Seat, to: &mut W) -> Option<Sent> {
+        self.keeper.send(number, seat, to)
     }
 
     fn close(&mut self, number: u64) -> bool {

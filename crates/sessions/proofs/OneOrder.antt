@@ -203,10 +203,10 @@ reached_close who s next es es' (Some st) r was gone others same =
     (record { before = st; was = sym was; is = gone; only = (refl, others); next = refl })
 
 -- a session that is visited
-pub reached_visit : (who clock : ℕ) (old new : World) (seat seat' : Seat) (before after : SessionState) (left left' taken taken' : Option (List ℕ)) (visit : Visit)
+pub reached_visit : (who clock : ℕ) (old new : World) (seat seat' : Seat) (before after : SessionState) (left left' : Option (List ℕ)) (visit : Visit)
     → IsReached old → session_at old who ≡ Some before → session_at new who ≡ Some after → OthersStay who old new → new.next ≡ old.next
-    → VisitsSession clock old.state seat before new.state seat' after left left' taken taken' visit → IsReached new
-reached_visit who clock old new seat seat' before after left left' taken taken' visit r found is others next v =
+    → VisitsSession clock old.state seat before new.state seat' after left left' visit → IsReached new
+reached_visit who clock old new seat seat' before after left left' visit r found is others next v =
     reached_then old new (Visits who v.moved) r (record { before = before; after = after; was = found; is = is; moves = v.moves; others = others; next = next })
 
 pub in_order : (now : World) → IsReached now → IsInOrder now
@@ -220,11 +220,11 @@ differs a b not = by (nat_eq a b) refl where
   by true is = absurd (not (sym (eqb-true a b is)))
   by false is = is
 
-pub visited_in : (who clock : ℕ) (old was new : World) (seat seat' : Seat) (before after : SessionState) (left left' taken taken' : Option (List ℕ)) (visit : Visit)
+pub visited_in : (who clock : ℕ) (old was new : World) (seat seat' : Seat) (before after : SessionState) (left left' : Option (List ℕ)) (visit : Visit)
     → was ≡ old → session_at was who ≡ Some before → session_at new who ≡ Some after → OthersStay who was new → new.next ≡ was.next
-    → VisitsSession clock was.state seat before new.state seat' after left left' taken taken' visit → VisitsAt who clock seat old seat' new left left' taken taken' visit
-visited_in who clock old was new seat seat' before after left left' taken taken' visit same found is others next v =
-    subst (λ (w : World). VisitsAt who clock seat w seat' new left left' taken taken' visit) same (record {
+    → VisitsSession clock was.state seat before new.state seat' after left left' visit → VisitsAt who clock seat old seat' new left left' visit
+visited_in who clock old was new seat seat' before after left left' visit same found is others next v =
+    subst (λ (w : World). VisitsAt who clock seat w seat' new left left' visit) same (record {
       moved = v.moved;
       visited = record { before = before; after = after; was = found; is = is; moves = v.moves; others = others; next = next };
       made = v.made;

@@ -1,6 +1,6 @@
 -- Turns of a session: none, one frame, and one turn after another.
 use Rattle.std.proofs.Common.{◌≡◌, ℕ, ◌+◌, ◌<◌, arith, Bool, true, false, inl, inr, Option, Some, None, List, [], ◌∷◌, ◌++◌, length, sym, ap, subst, refl, ◌∙◌, append_assoc, append-nil}
-use Rattle.std.specs.Prelude.{◌⊎◌, ◌&&◌, not}
+use Rattle.std.specs.Prelude.{◌⊎◌, ◌&&◌, not, IfSome}
 use Rattle.std.specs.Option.{unwrap_or}
 use Rattle.std.proofs.lemmas.Bool.{true≢false}
 use Rattle.std.proofs.lemmas.Option.{none-some}
@@ -9,6 +9,7 @@ use Rattle.std.proofs.lemmas.List.{length-append}
 use Rattle.frame_fields.specs.Frames.{IsFrames, IsFirstFrame}
 use Rattle.request_frames.specs.Requests.{RequestValue, IsRequest}
 use Rattle.answering.specs.Responding.{sent}
+use Rattle.broker_state.specs.declared.place.Place.{Place}
 use Rattle.broker_state.specs.State.{State}
 use Rattle.broker_node.specs.Answers.{RespondsTo}
 use Rattle.fetch_waits.specs.Waiting.{body_waits}
@@ -16,7 +17,7 @@ use Rattle.sessions.specs.declared.replying.NextError.TheVariants as next
 use Rattle.sessions.specs.declared.session.Stop.{Stop}
 use Rattle.sessions.specs.declared.session.Stop.TheVariants.{Waits as Waiting, Over as Stopped}
 use Rattle.sessions.specs.Turns.{Exchange, SessionState, InTurn, InTime, IsOwedBelow, AnswersFirst, StopsFirst, Times, WaitsFirst, frames_of, is_over, replied}
-use Rattle.sessions.specs.Steps.{Turn, TurnsUntil, StopsTurn, AnswersFrame, AnswersNext, FrameWaits, WaitsNext, waiting_for}
+use Rattle.sessions.specs.Steps.{Turn, TurnsUntil, StopsTurn, AnswersFrame, AnswersNext, FrameWaits, WaitsNext, stop_place, waiting_for}
 use Rattle.sessions.proofs.Frames.{no_frames, one_cut, cut_append, cut_length}
 
 -- ---- one frame
@@ -265,3 +266,8 @@ turn_ends most_owed clock most ended s mid_state after old mid new stop t less w
     subst (TurnsUntil most_owed clock ended s old after new) (sym is) (turn_waiting most_owed clock most ended s mid_state after old mid new t less w)
 turn_ends most_owed clock most ended s mid_state after old mid new stop t less w (inr is) =
     subst (TurnsUntil most_owed clock ended s old after new) (sym is) (turn_lacks_memory most_owed clock most ended s mid_state after old mid new t less w)
+
+-- one that waits, or for which memory lacks, isn't put off
+pub not_put_off : (P : Place → Type 0) (stop : Stop) → (stop ≡ Waiting) ⊎ (stop ≡ Stopped next.OutOfMemory) → IfSome (stop_place stop) P
+not_put_off P stop (inl is) = subst (λ (s : Stop). IfSome (stop_place s) P) (sym is) tt
+not_put_off P stop (inr is) = subst (λ (s : Stop). IfSome (stop_place s) P) (sym is) tt

@@ -8,6 +8,7 @@ use Rattle.frame_fields.specs.Frames.{IsFrames}
 use Rattle.broker_state.specs.State.{State}
 use Rattle.sessions.specs.Turns.{Exchange, SessionState, new_session, frames_of, replied, InTurn}
 use Rattle.sessions.specs.declared.visiting.Visit.{Visit}
+use Rattle.sessions.specs.declared.visiting.Flushed.{Flushed}
 use Rattle.sessions.specs.declared.visiting.Seat.{Seat}
 use Rattle.sessions.specs.declared.visiting.Why.{Why}
 use Rattle.sessions.specs.Visits.{Moved, Moves, SendsTo, IsMade}
@@ -36,7 +37,7 @@ OthersStay who old new = (k : ℕ) → k ≢ who → session_at new k ≡ sessio
 pub data Event : Type 0 where
   -- a session with this number is opened
   Opens : ℕ → Event
-  -- the session with this number is visited
+  -- the session with this number is visited, or sent some of what it is owed
   Visits : ℕ → Moved → Event
   -- the session with this number is closed, with what it held and owed
   Closes : ℕ → Event
@@ -76,14 +77,14 @@ Step old (Opens who) new = IsOpened who old new
 Step old (Visits who moved) new = IsVisited who moved old new
 Step old (Closes who) new = IsClosed who old new
 
--- the session with a number was visited, over this connection, at this clock value
-pub record VisitsAt (who clock : ℕ) (seat : Seat) (old : World) (seat' : Seat) (new : World) (left left' taken taken' : Option (List ℕ)) (visit : Visit) : Type 0 where
+-- the session with a number was visited, over this connection, at this clock value; nothing was sent
+pub record VisitsAt (who clock : ℕ) (seat : Seat) (old : World) (seat' : Seat) (new : World) (left left' : Option (List ℕ)) (visit : Visit) : Type 0 where
   pub moved : Moved
   pub visited : IsVisited who moved old new
-  pub made : IsMade clock old.state seat seat' visited.before moved new.state visited.after left left' taken taken' visit
+  pub made : IsMade clock old.state seat seat' visited.before moved new.state visited.after left left' visit
 
 -- the session with a number was sent a front of what it was owed: a visit that moved that alone
-pub record SendsAt (who : ℕ) (seat : Seat) (old : World) (seat' : Seat) (new : World) (taken taken' : Option (List ℕ)) (result : Result ℕ Why) : Type 0 where
+pub record SendsAt (who : ℕ) (seat : Seat) (old : World) (seat' : Seat) (new : World) (taken taken' : Option (List ℕ)) (result : Result Flushed Why) : Type 0 where
   pub before : SessionState
   pub after : SessionState
   pub sends : SendsTo seat before seat' after taken taken' result

@@ -1,6 +1,6 @@
 -- A visit step by step. Words of private clauses.
 use Rattle.std.specs.Option.{unwrap_or}
-use Rattle.std.specs.Prelude.{◌≡◌, ◌⊎◌, ℕ, ◌+◌, ◌<◌, ◌≤◌, ⊤, Bool, true, false, List, [], ◌∷◌, ◌++◌, length, Option, Some, None}
+use Rattle.std.specs.Prelude.{◌≡◌, ◌⊎◌, ℕ, ◌+◌, ◌<◌, ◌≤◌, nat_lt, nat_le, nat_eq, ⊤, Bool, ◌&&◌, ◌||◌, true, false, List, [], ◌∷◌, ◌++◌, length, Option, Some, None}
 use Rattle.std.specs.Io.KnownBytes.{Consumes, Keeps, Appends, IsAtEnd}
 use Rattle.std_io.specs.declared.io.kind.ErrorKind.{ErrorKind}
 use Rattle.std_io.specs.declared.io.kind.ErrorKind.TheVariants as kind
@@ -9,6 +9,7 @@ use Rattle.request_frames.specs.Fetch.{FetchValue}
 use Rattle.request_frames.specs.Requests.{BodyValue, RequestValue, IsRequest, IsRefused}
 use Rattle.request_frames.specs.Requests.BodyValue.{fetch}
 use Rattle.fetch_waits.specs.Waiting.{fetch_waits, body_waits, wait_of}
+use Rattle.broker_state.specs.declared.place.Place.{Place}
 use Rattle.broker_state.specs.State.{State}
 use Rattle.broker_node.specs.Streams.{IsAnswered}
 use Rattle.sessions.specs.declared.replying.NextError.{NextError}
@@ -26,8 +27,8 @@ use Rattle.sessions.specs.declared.visiting.Then.TheVariants.{Over}
 use Rattle.sessions.specs.declared.visiting.Visit.{Visit}
 use Rattle.sessions.specs.declared.visiting.Why.{Why}
 use Rattle.sessions.specs.declared.visiting.Why.TheVariants.{Read, Write, OutOfMemory}
-use Rattle.sessions.specs.Turns.{Exchange, SessionState, StopsNext, IsOwedBelow, IsWaiting, WaitsFirst, InTurn, InTime, Times, frames_of, is_over, replied}
-use Rattle.sessions.specs.Visits.{Moment, Moved, Moves, WantsMore, IsFault, IsMade, Waits}
+use Rattle.sessions.specs.Turns.{Exchange, SessionState, StopsNext, IsOwedBelow, IsWaiting, WaitsFirst, InTurn, InTime, Times, frames_of, is_over, next_place, replied}
+use Rattle.sessions.specs.Visits.{Moved, Moves, WantsMore, IsFault, IsMade}
 
 -- ---- one frame
 
@@ -50,6 +51,7 @@ FrameWaits s frame most = (request : RequestValue) × IsRequest frame request ×
 abbrev pub StopsAnswer : List ℕ → NextError → Type 0
 StopsAnswer frame (next.Frame why) = IsRefused why frame
 StopsAnswer frame next.OutOfMemory = (request : RequestValue) × IsRequest frame request
+StopsAnswer frame (next.PutOff place) = (request : RequestValue) × IsRequest frame request
 
 -- ---- a turn
 
@@ -96,12 +98,12 @@ pub record TurnsUntil (most clock : ℕ) (ended : Bool) (s : State) (old : Sessi
   pub times : Times clock most old exchanges after new.owed new
   pub stops : StopsTurn most clock ended after new stop
 
--- what a turn that stopped so left: it stays where some of what was owed then is sent
-abbrev pub HasStopped : Moment → Seat → SessionState → Stop → Type 0
-HasStopped at seat now Short = IsIncomplete now.held
-HasStopped at seat now Full = MOST_OWED ≤ length at.owing
-HasStopped at seat now Waiting = Waits at seat now
-HasStopped at seat now (Stopped why) = StopsNext now why
+-- for which partition's place the frame is put off at which a turn stopped, if it is
+abbrev pub stop_place : Stop → Option Place
+stop_place Short = None
+stop_place Full = None
+stop_place Waiting = None
+stop_place (Stopped why) = next_place why
 
 -- ---- reads and writes
 
@@ -156,16 +158,16 @@ abbrev pub WriteFault : SessionState → Why → Type 0
 WriteFault now (Write why) = IsFault why × (0 < length now.owed)
 WriteFault now _ = ⊥
 
--- a write failed that might be made
-abbrev pub FailsToWrite : Seat → SessionState → Why → Type 0
-FailsToWrite seat now why = WriteFault now why × (seat.may_write ≡ true)
-
 -- So much was sent, or nothing, and what became of whether a write may be made.
 pub record Writes (may may' : Bool) (old new : SessionState) (taken taken' : Option (List ℕ)) : Type 0 where
   pub goes : GoesOut old new taken taken'
   pub only : 0 < goes.0 → may ≡ true
   pub writes : may' ≡ true → may ≡ true
   pub waits : may' ≡ false → (may ≡ false) ⊎ (0 < length new.owed)
+
+-- of so much that was owed so much is left: it was as much as may be, or something, and is less, or nothing
+abbrev pub frees : (owing owed : ℕ) → Bool
+frees owing owed = (nat_le MOST_OWED owing && nat_lt owed MOST_OWED) || (nat_lt 0 owing && nat_eq owed 0)
 
 -- what is to be done for a failed call: it is made again, or would have waited, or else it is a fault
 abbrev pub IsFailure : ErrorKind → Failure → Type 0
@@ -179,7 +181,7 @@ IsNoRead (Over (Read why)) = ⊥
 IsNoRead _ = ⊤
 
 -- a visit moved these bytes and frames, and no others
-pub record VisitsSession (clock : ℕ) (s : State) (seat : Seat) (old : SessionState) (after : State) (seat' : Seat) (new : SessionState) (left left' taken taken' : Option (List ℕ)) (visit : Visit) : Type 0 where
+pub record VisitsSession (clock : ℕ) (s : State) (seat : Seat) (old : SessionState) (after : State) (seat' : Seat) (new : SessionState) (left left' : Option (List ℕ)) (visit : Visit) : Type 0 where
   pub moved : Moved
   pub moves : Moves s old moved after new
-  pub made : IsMade clock s seat seat' old moved after new left left' taken taken' visit
+  pub made : IsMade clock s seat seat' old moved after new left left' visit

@@ -8,12 +8,15 @@ use Rattle.request_frames.specs.Fetch.{FetchValue}
 use Rattle.request_frames.specs.Requests.{RequestValue, IsRequest}
 use Rattle.request_frames.specs.Requests.BodyValue.{fetch}
 use Rattle.fetch_waits.specs.Waiting.{fetch_waits, body_waits, wait_of}
+use Rattle.broker_state.specs.declared.place.Place.{Place}
 use Rattle.broker_state.specs.State.{State}
 use Rattle.broker_node.specs.Streams.{IsAnswered, RefusesNext}
 use Rattle.sessions.specs.declared.replying.Next.{Next}
 use Rattle.sessions.specs.declared.replying.Next.TheVariants.{Answered, Short, Waits}
 use Rattle.sessions.specs.declared.replying.NextError.{NextError}
-use Rattle.sessions.specs.declared.replying.NextError.TheVariants.{Frame, OutOfMemory}
+use Rattle.sessions.specs.declared.replying.NextError.TheVariants.{Frame, OutOfMemory, PutOff}
+use Rattle.sessions.specs.declared.handler.Unhandled.{Unhandled}
+use Rattle.sessions.specs.declared.handler.Unhandled.TheVariants as unhandled
 
 -- a frame, and the bytes that were replied to it: none where it is not answered
 pub record Exchange : Type 0 where
@@ -76,11 +79,27 @@ MatchNext (Waits most) A S W = W most
 abbrev pub HasFirst : List ℕ → Type 0
 HasFirst held = ((frame rest : List ℕ) × IsFirstFrame frame held rest) ⊎ ((e : FrameError) × SizeFault e held)
 
--- why the first frame that is held isn't answered: it is refused, or it is a request, and memory lacks for the response
+-- the first frame that is held is a request
+abbrev pub HasRequest : List ℕ → Type 0
+HasRequest held = (frame rest : List ℕ) × (request : RequestValue) × IsFirstFrame frame held rest × IsRequest frame request
+
+-- why the first frame that is held isn't answered: it is refused, or it is a request, and memory lacks for the response, or it is
+-- put off
 abbrev pub StopsFirst : List ℕ → NextError → Type 0
 StopsFirst held (Frame why) = RefusesNext why held
-StopsFirst held OutOfMemory =
-    (frame rest : List ℕ) × (request : RequestValue) × IsFirstFrame frame held rest × IsRequest frame request
+StopsFirst held OutOfMemory = HasRequest held
+StopsFirst held (PutOff place) = HasRequest held
+
+-- for which partition's place a request is put off, if it is
+abbrev pub unhandled_place : Unhandled → Option Place
+unhandled_place unhandled.OutOfMemory = None
+unhandled_place (unhandled.PutOff place) = Some place
+
+-- for which one the first frame is
+abbrev pub next_place : NextError → Option Place
+next_place (Frame why) = None
+next_place OutOfMemory = None
+next_place (PutOff place) = Some place
 
 -- ---- a session
 
@@ -106,6 +125,7 @@ IsOwedBelow most owed (e ∷ es) = (length owed < most) × IsOwedBelow most (owe
 abbrev pub StopsNext : SessionState → NextError → Type 0
 StopsNext now (Frame why) = StopsFirst now.held (Frame why)
 StopsNext now OutOfMemory = StopsFirst now.held OutOfMemory ⊎ (now.answered ≡ 2 ^ 64 - 1)
+StopsNext now (PutOff place) = StopsFirst now.held (PutOff place)
 
 -- ---- a frame that waits
 

@@ -1,24 +1,26 @@
--- What a visit of a session does, and what is to be done with the session then. Of a reader it is known what it has left
--- to give, and of a writer what it has taken, where that is known.
-use Rattle.std.specs.Prelude.{◌≡◌, ◌≢◌, ◌⊎◌, ℕ, ◌+◌, ◌<◌, ◌≤◌, Bool, ◌||◌, true, false, List, [], ◌++◌, length, Option, Result, Ok, Err}
+-- What a visit of a session and a send do, and what is to be done with the session then. Of a reader it is known what it has
+-- left to give, and of a writer what it has taken, where that is known.
+use Rattle.std.specs.Prelude.{◌≡◌, ◌≢◌, ◌⊎◌, ℕ, ◌+◌, ◌<◌, ◌≤◌, Bool, ◌||◌, true, false, List, [], ◌++◌, length, Option, Some, None, Result, Ok, Err, MatchBool}
 use Rattle.std.specs.Io.KnownBytes.{Consumes, Keeps, Appends, IsAtEnd}
 use Rattle.std_io.specs.declared.io.kind.ErrorKind.{ErrorKind}
 use Rattle.std_io.specs.declared.io.kind.ErrorKind.TheVariants as kind
 use Rattle.frame_fields.specs.Frames.{IsFrames, IsIncomplete}
+use Rattle.broker_state.specs.declared.place.Place.{Place}
 use Rattle.broker_state.specs.State.{State}
 use Rattle.broker_node.specs.Streams.{RefusesNext}
 use Rattle.sessions.specs.Turns.{Exchange, SessionState, HasFirst, StopsNext, IsOwedBelow, IsWaiting, InTurn, InTime, Times, frames_of, is_over, replied}
 use Rattle.sessions.specs.declared.replying.NextError.{NextError}
-use Rattle.sessions.specs.declared.replying.NextError.TheVariants.{OutOfMemory as NoMemory}
+use Rattle.sessions.specs.declared.replying.NextError.TheVariants.{OutOfMemory as NoMemory, PutOff as NotYet}
 use Rattle.sessions.specs.declared.visiting.TheConstants.{MOST_OWED, READ_PIECE}
 use Rattle.sessions.specs.declared.visiting.Seat.{Seat}
 use Rattle.sessions.specs.declared.visiting.Visit.{Visit}
+use Rattle.sessions.specs.declared.visiting.Flushed.{Flushed}
 use Rattle.sessions.specs.declared.visiting.Why.{Why}
 use Rattle.sessions.specs.declared.visiting.Why.TheVariants.{End, Read, Write, Frame, OutOfMemory}
 use Rattle.sessions.specs.declared.visiting.Then.{Then}
-use Rattle.sessions.specs.declared.visiting.Then.TheVariants.{Again, Idle, Over}
+use Rattle.sessions.specs.declared.visiting.Then.TheVariants.{Again, Idle, PutOff, Over}
 
--- what a visit moved: the bytes that came, the frames that were answered with their replies, the bytes that were sent
+-- what a visit or a send moved: the bytes that came, the frames that were answered with their replies, the bytes that were sent
 pub record Moved : Type 0 where
   pub came : List ℕ
   pub exchanges : List Exchange
@@ -38,19 +40,17 @@ pub record Moves (s : State) (old : SessionState) (moved : Moved) (after : State
 abbrev pub WantsMore : SessionState → Type 0
 WantsMore st = IsIncomplete st.held × (length st.owed < MOST_OWED)
 
--- One piece comes at the most, and only where more is wanted and may be read; each frame is answered while less is owed
--- than may be; and bytes leave only where they may be written.
+-- One piece comes at the most, and only where more is wanted and may be read; and each frame is answered while less is owed
+-- than may be.
 pub record IsBounded (seat : Seat) (old : SessionState) (moved : Moved) : Type 0 where
   pub piece : length moved.came ≤ READ_PIECE
   pub comes : 0 < length moved.came → WantsMore old × (seat.may_read ≡ true) × (seat.at_end ≡ false)
   pub answers : IsOwedBelow MOST_OWED old.owed moved.exchanges
-  pub goes : 0 < length moved.sent → seat.may_write ≡ true
 
--- When a visit stopped answering: what the broker is then, the clock, and what was owed.
+-- When a visit stopped answering: what the broker is then, and the clock.
 pub record Moment : Type 0 where
   pub state : State
   pub clock : ℕ
-  pub owing : List ℕ
 
 -- the input has ended, or the client is known to send nothing more
 abbrev pub has_ended : Seat → Bool
@@ -66,12 +66,11 @@ HasStop now = (why : NextError) × StopsNext now why
 
 -- frames were answered until none was complete, the first one couldn't be, or waits, or so much was owed
 abbrev pub IsDone : Moment → Seat → SessionState → Type 0
-IsDone at seat new = IsIncomplete new.held ⊎ (HasStop new ⊎ (Waits at seat new ⊎ (MOST_OWED ≤ length at.owing)))
+IsDone at seat new = IsIncomplete new.held ⊎ (HasStop new ⊎ (Waits at seat new ⊎ (MOST_OWED ≤ length new.owed)))
 
 -- nothing was moved, and the session is as it was
 abbrev pub MovesNothing : (old : SessionState) (moved : Moved) (new : SessionState) → Type 0
-MovesNothing old moved new =
-    (new ≡ old) × (moved.came ≡ []) × (moved.exchanges ≡ []) × (moved.sent ≡ [])
+MovesNothing old moved new = (new ≡ old) × (moved.came ≡ []) × (moved.exchanges ≡ [])
 
 -- what came left a reader, and all was answered that could be
 abbrev pub IsServed : Moment → Seat → (moved : Moved) (new : SessionState) (left left' : Option (List ℕ)) → Type 0
@@ -85,27 +84,98 @@ Serves at seat old moved new left left' (Over OutOfMemory) =
     (MovesNothing old moved new × ((lost : List ℕ) × Consumes left left' lost)) ⊎ IsServed at seat moved new left left'
 Serves at seat old moved new left left' _ = IsServed at seat moved new left left'
 
--- what was sent a writer took, and the visit counts the frames and the bytes sent
-pub record Passes (moved : Moved) (taken taken' : Option (List ℕ)) (visit : Visit) : Type 0 where
-  pub takes : Appends taken taken' moved.sent
-  pub answered : visit.answered ≡ length moved.exchanges
-  pub sent : visit.sent ≡ length moved.sent
+-- ---- what a visit learns of a connection
 
--- ---- writes alone
+-- A read is marked as one that may not be made only where it gave nothing; none is marked as one that may. The input has
+-- ended where it had, or where nothing came and the reader is at its end.
+pub record Learns (old new : Seat) (moved : Moved) (left' : Option (List ℕ)) : Type 0 where
+  pub reads : new.may_read ≡ true → old.may_read ≡ true
+  pub read_waits : new.may_read ≡ false → (old.may_read ≡ false) ⊎ (moved.came ≡ [])
+  pub writes : new.may_write ≡ old.may_write
+  pub ended : old.at_end ≡ true → new.at_end ≡ true
+  pub ends : new.at_end ≡ true → (old.at_end ≡ true) ⊎ (moved.came ≡ []) × IsAtEnd left'
+  pub closing : new.is_closing ≡ old.is_closing
+
+-- ---- how it goes on
 
 -- a call of the system failed: it isn't one that would have waited, or that is to be made again
 abbrev pub IsFault : ErrorKind → Type 0
 IsFault why = (why ≢ kind.WouldBlock) × (why ≢ kind.Interrupted)
 
--- so many bytes left, or a write failed that might be made, and something is owed still
-abbrev pub TellsSent : Seat → (sent : List ℕ) → SessionState → Result ℕ Why → Type 0
-TellsSent seat sent now (Ok count) = count ≡ length sent
-TellsSent seat sent now (Err (Write why)) = IsFault why × (seat.may_write ≡ true) × (0 < length now.owed)
-TellsSent seat sent now (Err _) = ⊥
+-- Why a session is over: at the end of its input, where no complete frame is held; where the first frame that is held is
+-- refused, or memory lacks for its response; in these all that was owed has left. Else a read failed, or memory lacked for
+-- what it brought, where more was wanted. For a failed write it is over behind a send alone.
+abbrev pub IsOver : Seat → SessionState → Why → Type 0
+IsOver seat now End = (seat.at_end ≡ true) × IsIncomplete now.held × (now.owed ≡ [])
+IsOver seat now (Frame why) = RefusesNext why now.held × (now.owed ≡ [])
+IsOver seat now (Read why) = IsFault why × (seat.may_read ≡ true) × WantsMore now
+IsOver seat now (Write why) = ⊥
+IsOver seat now OutOfMemory = WantsMore now ⊎ StopsNext now NoMemory × (now.owed ≡ [])
+
+-- no complete frame is held, and more may be read
+abbrev pub CanRead : Seat → SessionState → Type 0
+CanRead seat now = IsIncomplete now.held × (seat.may_read ≡ true) × (seat.at_end ≡ false)
+
+-- less is owed than may be, and more can be read
+abbrev pub HasMore : Seat → SessionState → Type 0
+HasMore seat now = (length now.owed < MOST_OWED) × CanRead seat now
+
+-- A visit can do nothing for a session before more of what is owed has left, its connection changes, or the frame that waits is
+-- due: no frame can be answered, for want of bytes, or because so much is owed, or because the first one that is held isn't
+-- answered, or waits; nothing can be read; and it isn't over.
+pub record IsIdle (at : Moment) (seat : Seat) (now : SessionState) : Type 0 where
+  pub no_answer : length now.owed < MOST_OWED → IsIncomplete now.held ⊎ (HasStop now ⊎ Waits at seat now)
+  pub no_read : length now.owed < MOST_OWED → IsIncomplete now.held
+      → (seat.may_read ≡ false) ⊎ ((seat.at_end ≡ true) ⊎ HasStop now)
+  pub not_over : now.owed ≡ [] → (seat.at_end ≡ false) × (IsIncomplete now.held ⊎ Waits at seat now)
+
+-- what is to be done is what a visit says
+abbrev pub GoesOn : Moment → Seat → SessionState → Then → Type 0
+GoesOn at seat now Again = HasMore seat now
+GoesOn at seat now Idle = IsIdle at seat now
+GoesOn at seat now (PutOff place) = StopsNext now (NotYet place)
+GoesOn at seat now (Over why) = IsOver seat now why
+
+-- for which partition's place the first frame is put off, if it is
+abbrev pub then_place : Then → Option Place
+then_place (PutOff place) = Some place
+then_place _ = None
+
+-- All that a visit is, beside what it moved. It tells how many frames were answered, and sends nothing.
+pub record IsMade (clock : ℕ) (s : State) (seat seat' : Seat) (old : SessionState) (moved : Moved) (after : State) (new : SessionState) (left left' : Option (List ℕ)) (visit : Visit) : Type 0 where
+  pub counts : visit.answered ≡ length moved.exchanges
+  pub sends_nothing : moved.sent ≡ []
+  pub bounded : IsBounded seat old moved
+  pub in_time : InTime (has_ended seat') (is_over clock old.due) s moved.exchanges after
+  pub times : Times clock MOST_OWED old moved.exchanges after new.owed new
+  pub serves : Serves (record { state = after; clock = clock }) seat' old moved new left left' visit.then
+  pub learns : Learns seat seat' moved left'
+  pub goes_on : GoesOn (record { state = after; clock = clock }) seat' new visit.then
+
+-- ---- sends
+
+-- What was owed kept a visit from something, and does so no more: as much was owed as may be, or something was, and now it is
+-- less, or nothing. And a visit may have something to do: a frame is there, the input has ended, or more may be read.
+abbrev pub IsReady : (old : SessionState) → Seat → SessionState → Type 0
+IsReady old seat now =
+    ((MOST_OWED ≤ length old.owed) × (length now.owed < MOST_OWED) ⊎ (0 < length old.owed) × (now.owed ≡ []))
+    × (HasFirst now.held ⊎ ((seat.at_end ≡ true) ⊎ (seat.may_read ≡ true)))
+
+-- where a visit could do nothing before, it can't now
+abbrev pub StaysIdle : (old : SessionState) → Seat → SessionState → Type 0
+StaysIdle old seat now = (at : Moment) → IsIdle at seat old → IsIdle at seat now
+
+-- so many bytes left, and it is told whether a visit may have something to do; or a write failed that might be made, and
+-- something is owed still
+abbrev pub TellsSent : (old : SessionState) → Seat → (sent : List ℕ) → SessionState → Result Flushed Why → Type 0
+TellsSent old seat sent now (Ok flushed) =
+    (flushed.bytes ≡ length sent) × MatchBool flushed.is_ready (IsReady old seat now) (StaysIdle old seat now)
+TellsSent old seat sent now (Err (Write why)) = IsFault why × (seat.may_write ≡ true) × (0 < length now.owed)
+TellsSent old seat sent now (Err _) = ⊥
 
 -- A front of what was owed was sent, where it might be written, and nothing else became of the session, nor of what is known
 -- of its connection but whether a write may be made.
-pub record SendsTo (seat : Seat) (old : SessionState) (seat' : Seat) (new : SessionState) (taken taken' : Option (List ℕ)) (result : Result ℕ Why) : Type 0 where
+pub record SendsTo (seat : Seat) (old : SessionState) (seat' : Seat) (new : SessionState) (taken taken' : Option (List ℕ)) (result : Result Flushed Why) : Type 0 where
   pub sent : List ℕ
   pub takes : Appends taken taken' sent
   pub owes : old.owed ≡ sent ++ new.owed
@@ -114,73 +184,4 @@ pub record SendsTo (seat : Seat) (old : SessionState) (seat' : Seat) (new : Sess
   pub seat_stays : seat' ≡ record seat { may_write = seat'.may_write }
   pub writes : seat'.may_write ≡ true → seat.may_write ≡ true
   pub write_waits : seat'.may_write ≡ false → (seat.may_write ≡ false) ⊎ (0 < length new.owed)
-  pub tells : TellsSent seat' sent new result
-
--- ---- what a visit learns of a connection
-
--- A read or a write is marked as one that may not be made only where it gave or took nothing; none is marked as one that
--- may. The input has ended where it had, or where nothing came and the reader is at its end.
-pub record Learns (old new : Seat) (moved : Moved) (now : SessionState) (left' : Option (List ℕ)) : Type 0 where
-  pub reads : new.may_read ≡ true → old.may_read ≡ true
-  pub read_waits : new.may_read ≡ false → (old.may_read ≡ false) ⊎ (moved.came ≡ [])
-  pub writes : new.may_write ≡ true → old.may_write ≡ true
-  pub write_waits : new.may_write ≡ false → (old.may_write ≡ false) ⊎ (0 < length now.owed)
-  pub ended : old.at_end ≡ true → new.at_end ≡ true
-  pub ends : new.at_end ≡ true → (old.at_end ≡ true) ⊎ (moved.came ≡ []) × IsAtEnd left'
-  pub closing : new.is_closing ≡ old.is_closing
-
--- ---- how it goes on
-
--- Why a session is over: at the end of its input, where no complete frame is held; where the first frame that is held is
--- refused, or memory lacks for its response; in these all that was owed has left. Else a read failed, or memory lacked for
--- what it brought, where more was wanted, or a write, where something was owed.
-abbrev pub IsOver : Seat → SessionState → Why → Type 0
-IsOver seat now End = (seat.at_end ≡ true) × IsIncomplete now.held × (now.owed ≡ [])
-IsOver seat now (Frame why) = RefusesNext why now.held × (now.owed ≡ [])
-IsOver seat now (Read why) = IsFault why × (seat.may_read ≡ true) × WantsMore now
-IsOver seat now (Write why) = IsFault why × (seat.may_write ≡ true) × (0 < length now.owed)
-IsOver seat now OutOfMemory = WantsMore now ⊎ StopsNext now NoMemory × (now.owed ≡ [])
-
--- nothing is owed, or no write may be made
-abbrev pub CannotWrite : Seat → SessionState → Type 0
-CannotWrite seat now = 0 < length now.owed → seat.may_write ≡ false
-
--- no complete frame is held, and more may be read
-abbrev pub CanRead : Seat → SessionState → Type 0
-CanRead seat now = IsIncomplete now.held × (seat.may_read ≡ true) × (seat.at_end ≡ false)
-
--- There is more to do: what is owed can be written; or less is owed than may be, and more can be read, or a frame is
--- there that wasn't answered since so much was owed before some of it was sent.
-abbrev pub HasMore : Moment → Seat → SessionState → Type 0
-HasMore at seat now = ((0 < length now.owed) × (seat.may_write ≡ true))
-    ⊎ ((length now.owed < MOST_OWED) × (CanRead seat now ⊎ HasFirst now.held × (MOST_OWED ≤ length at.owing)))
-
--- Nothing can be done for a session before its connection changes, or the frame that waits is due: what is owed can't be
--- written; no frame can be answered, for want of bytes, or because so much is owed, or because the first one that is held
--- isn't answered, or waits; nothing can be read; and it isn't over.
-pub record IsIdle (at : Moment) (seat : Seat) (now : SessionState) : Type 0 where
-  pub no_write : CannotWrite seat now
-  pub no_answer : length now.owed < MOST_OWED → IsIncomplete now.held ⊎ (HasStop now ⊎ Waits at seat now)
-  pub no_read : length now.owed < MOST_OWED → IsIncomplete now.held
-      → (seat.may_read ≡ false) ⊎ ((seat.at_end ≡ true) ⊎ HasStop now)
-  pub not_over : now.owed ≡ [] → (seat.at_end ≡ false) × (IsIncomplete now.held ⊎ Waits at seat now)
-
--- what is to be done is what a visit says
-abbrev pub GoesOn : Moment → Seat → SessionState → Then → Type 0
-GoesOn at seat now Again = HasMore at seat now
-GoesOn at seat now Idle = IsIdle at seat now
-GoesOn at seat now (Over why) = IsOver seat now why
-
--- when a visit that moved so much stopped answering
-abbrev pub stopped_at : (clock : ℕ) → State → SessionState → Moved → Moment
-stopped_at clock after old moved = record { state = after; clock = clock; owing = old.owed ++ replied moved.exchanges }
-
--- all that a visit is, beside what it moved
-pub record IsMade (clock : ℕ) (s : State) (seat seat' : Seat) (old : SessionState) (moved : Moved) (after : State) (new : SessionState) (left left' taken taken' : Option (List ℕ)) (visit : Visit) : Type 0 where
-  pub bounded : IsBounded seat old moved
-  pub in_time : InTime (has_ended seat') (is_over clock old.due) s moved.exchanges after
-  pub times : Times clock MOST_OWED old moved.exchanges after (old.owed ++ replied moved.exchanges) new
-  pub serves : Serves (stopped_at clock after old moved) seat' old moved new left left' visit.then
-  pub passes : Passes moved taken taken' visit
-  pub learns : Learns seat seat' moved new left'
-  pub goes_on : GoesOn (stopped_at clock after old moved) seat' new visit.then
+  pub tells : TellsSent old seat' sent new result

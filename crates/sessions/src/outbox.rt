@@ -1,9 +1,9 @@
 //! The bytes that are owed to a client.
 
-ghost use Rattle.std.specs.Prelude.{◌≡◌, ◌<◌, ◌≤◌, true, [], length, take, drop, IfOk, IfErr, OnErr};
+ghost use Rattle.std.specs.Prelude.{◌≡◌, ◌<◌, ◌≤◌, true, [], length, take, drop, IfOk, IfErr, IfSome, OnErr};
 ghost use Rattle.std.specs.Io.KnownBytes.{Appends, Keeps};
 ghost use Rattle.frame_fields.specs.Frames.{IsIncomplete};
-ghost use Rattle.sessions.specs.Turns.{AnswersFirst, MatchNext, StopsFirst, WaitsFirst};
+ghost use Rattle.sessions.specs.Turns.{AnswersFirst, MatchNext, StopsFirst, WaitsFirst, next_place};
 
 use crate::handler::Handler;
 use crate::replying::{Next, NextError, answer_first};
@@ -77,6 +77,7 @@ impl<A: Allocator + Copy> Outbox<A> {
         ensures stops { IfErr result (StopsFirst held.old.items) }
         ensures unchanged_on_error { OnErr result ((node.new ≡ node.old)
             × (held.new ≡ held.old) × (self.new ≡ self.old)) }
+        ensures puts_off { IfErr result (λ why. IfSome (next_place why) (H.puts_off handler.new)) }
         ensures keeps { H.keeps handler.old node.old handler.new node.new }
     {
         answer_first(node, handler, held, &mut self.behind, may_wait)

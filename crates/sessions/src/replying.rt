@@ -3,12 +3,13 @@
 ghost use Rattle.std.specs.Prelude.{◌≡◌, ◌<◌, true, false, pos, length, IfOk, IfErr, IfNone, IfSome, OnErr};
 ghost use Rattle.frame_fields.specs.Frames.{IsIncomplete, IsWithinLimit};
 ghost use Rattle.request_frames.specs.Views.{request_value};
-ghost use Rattle.sessions.specs.Turns.{AnswersFirst, MatchNext, StopsFirst, WaitsFirst};
+ghost use Rattle.sessions.specs.Turns.{AnswersFirst, MatchNext, StopsFirst, WaitsFirst, next_place};
 ghost use Rattle.fetch_waits.specs.Waiting.{body_waits};
 ghost use Rattle.sessions.specs.Steps.{AnswersFrame, BodyWaits, FrameWaits, StopsAnswer};
 
-use crate::handler::Handler;
+use crate::handler::{Handler, Unhandled};
 use broker_node::Node;
+use broker_state::Place;
 use bytes::BytesMut;
 use fetch_waits::fetch_waits;
 use frame_fields::{FrameError, SIZE_BYTES, first_frame};
@@ -34,6 +35,8 @@ pub enum NextError {
     Frame(FrameError),
     /// There is no memory for its response.
     OutOfMemory,
+    /// It is put off: it may change the partition at this place, which may not change yet.
+    PutOff(Place),
 }
 
 /// Handles the first frame that is held, if it is complete: it leaves what is held, and its reply, if it
@@ -42,8 +45,8 @@ pub enum NextError {
 ///
 /// # Errors
 ///
-/// The frame is refused, or there is no memory for its response. Then nothing was done: the broker, what
-/// is held and the output are as before.
+/// The frame is refused, there is no memory for its response, or the handler puts it off. Then nothing was
+/// done: the broker, what is held and the output are as before.
 #[tactic(auto, using(crate::proofs::Turning::first_waits))]
 pub fn answer_first<S: BatchStore, H: Handler<S>, A: Allocator + Copy, B: Allocator + Copy>(
     node: &mut Node<S>,
@@ -62,6 +65,7 @@ pub fn answer_first<S: BatchStore, H: Handler<S>, A: Allocator + Copy, B: Alloca
     ensures stops { IfErr result (StopsFirst held.old.items) }
     ensures unchanged_on_error { OnErr result ((node.new ≡ node.old) × (held.new ≡ held.old)
         × (out.new.items ≡ out.old.items)) }
+    ensures puts_off { IfErr result (λ why. IfSome (next_place why) (H.puts_off handler.new)) }
     ensures keeps { H.keeps handler.old node.old handler.new node.new }
 {
     let frame = match first_frame(held.as_slice()) {
@@ -109,6 +113,7 @@ fn answer<S: BatchStore, H: Handler<S>, B: Allocator + Copy>(
     ensures stops { IfErr result (StopsAnswer frame.now) }
     ensures unchanged_on_error { OnErr result
         ((node.new ≡ node.old) × (out.new.items ≡ out.old.items)) }
+    ensures puts_off { IfErr result (λ why. IfSome (next_place why) (H.puts_off handler.new)) }
     ensures keeps { IsWithinLimit (pos (length frame.now))
         → H.keeps handler.old node.old handler.new node.new }
 {
@@ -121,6 +126,7 @@ fn answer<S: BatchStore, H: Handler<S>, B: Allocator + Copy>(
     }
     match handler.handle(node, frame, &request, out) {
         Ok(_) => Ok(None),
-        Err(_) => Err(NextError::OutOfMemory),
+        Err(Unhandled::OutOfMemory) => Err(NextError::OutOfMemory),
+        Err(Unhandled::PutOff(place)) => Err(NextError::PutOff(place)),
     }
 }

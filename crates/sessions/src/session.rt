@@ -1,11 +1,11 @@
 //! The session of one client.
 
-ghost use Rattle.std.specs.Prelude.{◌≡◌, ◌⊎◌, ◌<◌, ◌≤◌, ◌&&◌, length, not, drop, MatchBool, MatchOption, IfOk, IfErr, OnErr};
+ghost use Rattle.std.specs.Prelude.{◌≡◌, ◌⊎◌, ◌<◌, ◌≤◌, ◌&&◌, length, not, drop, MatchBool, MatchOption, IfOk, IfErr, IfSome, OnErr};
 ghost use Rattle.std.specs.Io.KnownBytes.{Keeps, IsAtEnd};
 ghost use Rattle.frame_fields.specs.Frames.{IsIncomplete};
 ghost use Rattle.request_frames.specs.Requests.{key_of, version_of};
-ghost use Rattle.sessions.specs.Turns.{HasFirst, MatchNext, StopsNext, is_over, new_session};
-ghost use Rattle.sessions.specs.Steps.{AnswersNext, FailsToReceive, Receives, Sends, TurnsUntil, WaitsNext};
+ghost use Rattle.sessions.specs.Turns.{HasFirst, MatchNext, StopsNext, is_over, new_session, next_place};
+ghost use Rattle.sessions.specs.Steps.{AnswersNext, FailsToReceive, Receives, Sends, TurnsUntil, WaitsNext, stop_place};
 
 use crate::handler::Handler;
 use crate::outbox::Outbox;
@@ -182,7 +182,7 @@ impl<A: Allocator + Copy> Session<A> {
 
     /// Answers complete frames in order, until none is left, the first one waits, or so many bytes are
     /// owed.
-    #[tactic(auto, using(crate::proofs::Turning::turning_none, crate::proofs::Turning::turning_then, crate::proofs::Turning::turn_stops, crate::proofs::Turning::less_is_held))]
+    #[tactic(auto, using(crate::proofs::Turning::turning_none, crate::proofs::Turning::turning_then, crate::proofs::Turning::turn_stops, crate::proofs::Turning::less_is_held, crate::proofs::Turning::not_put_off))]
     pub(crate) fn turn<S: BatchStore, H: Handler<S>>(
         &mut self,
         node: &mut Node<S>,
@@ -193,6 +193,7 @@ impl<A: Allocator + Copy> Session<A> {
     ) -> Stop
         ensures turns { TurnsUntil most_owed now.clock now.has_ended node.old self.old node.new
             self.new result }
+        ensures puts_off { IfSome (stop_place result) (H.puts_off handler.new) }
         ensures keeps { H.keeps handler.old node.old handler.new node.new }
     {
         while self.owed.len() < most_owed {
@@ -234,6 +235,7 @@ impl<A: Allocator + Copy> Session<A> {
         ensures stops { IfErr result (StopsNext self.old) }
         ensures unchanged_on_error { OnErr result
             ((node.new ≡ node.old) × (self.new ≡ self.old)) }
+        ensures puts_off { IfErr result (λ why. IfSome (next_place why) (H.puts_off handler.new)) }
         ensures keeps { H.keeps handler.old node.old handler.new node.new }
     {
         let Some(answered) = self.answered.checked_add(1) else {

@@ -4,10 +4,11 @@ ghost use Rattle.std.specs.Prelude.{◌≡◌, None, IfNone, IfOk, IfSome, Match
 ghost use Rattle.std.specs.Option.{option_copied};
 ghost use Rattle.sessions.specs.Orders.{IsInOrder, SendsAt, Step, VisitsAt, new_world, session_at};
 ghost use Rattle.sessions.specs.Orders.Event.{Closes, Opens};
+ghost use Rattle.sessions.specs.Visits.{then_place};
 
 use crate::handler::Handler;
 use crate::session::Session;
-use crate::visiting::{READ_PIECE, Seat, Visit, Why, send_session, visit_session};
+use crate::visiting::{Flushed, READ_PIECE, Seat, Visit, Why, send_session, visit_session};
 use crate::waiting::Waiting;
 use broker_node::Node;
 use indexmap::IndexMap;
@@ -23,9 +24,9 @@ use std::marker::Model;
 /// let mut sessions = Sessions::new(alloc, node)?;
 /// let number = sessions.open()?;
 /// let mut seat = Seat::new();
-/// match sessions.visit(number, clock, &mut Plainly, &mut seat, &mut reader, &mut writer) {
+/// match sessions.visit(number, clock, &mut Plainly, &mut seat, &mut reader) {
 ///     Some(Visit { then: Then::Over(_), .. }) => sessions.close(number),
-///     _ => true, // another visit, at once or once something can be read or written
+///     _ => sessions.send(number, &mut seat, &mut writer).is_some(),
 /// }
 /// ```
 #[derive(Drop)]
@@ -93,27 +94,26 @@ impl<S: BatchStore, A: Allocator + Copy> Sessions<S, A> {
     }
 
     /// Visits the session with this number: makes at most one read, where a read may be made and no
-    /// complete frame is held; answers complete frames in order, until 256 KiB or more are owed; makes at
-    /// most four writes. `None` if there is no such session. `clock` is what the caller's clock says, in
+    /// complete frame is held, and answers complete frames in order, until 256 KiB or more are owed. It sends
+    /// nothing. `None` if there is no such session. `clock` is what the caller's clock says, in
     /// milliseconds: a Fetch that waits is answered once it says so much more than it did at the visit
     /// that first came to that frame, or once what it waits for is there, or the input has ended. The
-    /// handler is asked for each request that is handled.
-    pub fn visit<H: Handler<S>, R: Read, W: Write>(
+    /// handler is asked for each request that is handled; a frame that it puts off stays the first one.
+    pub fn visit<H: Handler<S>, R: Read>(
         &mut self,
         number: u64,
         clock: u64,
         handler: &mut H,
         seat: &mut Seat,
         from: &mut R,
-        to: &mut W,
     ) -> Option<Visit>
         ensures visits { IfSome result (VisitsAt number clock seat.old self.old seat.new self.new
-            (R.remaining from.old) (R.remaining from.new)
-            (W.contents to.old) (W.contents to.new)) }
+            (R.remaining from.old) (R.remaining from.new)) }
+        ensures puts_off { IfSome result (λ visit. IfSome (then_place visit.then) (H.puts_off handler.new)) }
         ensures keeps { H.keeps handler.old self.old.state handler.new self.new.state }
         ensures none_is_absent { IfNone result (session_at self.old number ≡ None) }
         ensures none_changes_nothing { IfNone result ((self.new ≡ self.old)
-            × (seat.new ≡ seat.old) × (from.new ≡ from.old) × (to.new ≡ to.old)) }
+            × (seat.new ≡ seat.old) × (from.new ≡ from.old)) }
     {
         match self.sessions.get_mut(&number) {
             Some(session) => Some(visit_session(
@@ -125,7 +125,6 @@ impl<S: BatchStore, A: Allocator + Copy> Sessions<S, A> {
                 session,
                 seat,
                 from,
-                to,
                 &mut self.piece,
             )),
             None => None,
@@ -133,8 +132,8 @@ impl<S: BatchStore, A: Allocator + Copy> Sessions<S, A> {
     }
 
     /// Sends the session with this number what it is owed, by at most four writes, where they may be made; it
-    /// reads and answers nothing. Gives how many bytes left, or why the session is over. `None` if there is
-    /// no such session.
+    /// reads and answers nothing. Gives how many bytes left and whether a visit may have something to do then,
+    /// or why the session is over. `None` if there is no such session.
     ///
     /// # Errors
     ///
@@ -144,7 +143,7 @@ impl<S: BatchStore, A: Allocator + Copy> Sessions<S, A> {
         number: u64,
         seat: &mut Seat,
         to: &mut W,
-    ) -> Option<Result<usize, Why>>
+    ) -> Option<Result<Flushed, Why>>
         ensures sends { IfSome result (SendsAt number seat.old self.old seat.new self.new
             (W.contents to.old) (W.contents to.new)) }
         ensures none_is_absent { IfNone result (session_at self.old number ≡ None) }

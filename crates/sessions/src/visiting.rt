@@ -1,16 +1,17 @@
-//! A visit of a session: what may be read is read, what is complete is answered, and what is owed is sent.
+//! A visit of a session: what may be read is read, and what is complete is answered. What is owed is sent by a call of its own.
 
-ghost use Rattle.std.specs.Prelude.{◌≡◌, ◌⊎◌, ◌<◌, ◌≤◌, true, false, length, IfErr, MatchBool, OnErr, OnOk};
+ghost use Rattle.std.specs.Prelude.{◌≡◌, ◌⊎◌, ◌<◌, ◌≤◌, true, false, length, None, IfErr, IfSome, MatchBool, OnErr, OnOk};
 ghost use Rattle.frame_fields.specs.Frames.{IsIncomplete};
-ghost use Rattle.sessions.specs.Turns.{StopsNext};
-ghost use Rattle.sessions.specs.Visits.{CannotWrite, GoesOn, Moment, SendsTo, WantsMore, has_ended};
-ghost use Rattle.sessions.specs.Steps.{ComesIn, FailsToRead, FailsToWrite, GoesOut, HasStopped, IsFailure, IsNoRead, VisitsSession, WriteFault, Writes};
+ghost use Rattle.sessions.specs.Turns.{SessionState, StopsNext, next_place};
+ghost use Rattle.sessions.specs.Visits.{GoesOn, IsReady, Moment, SendsTo, StaysIdle, WantsMore, has_ended, then_place};
+ghost use Rattle.sessions.specs.Steps.{ComesIn, FailsToRead, GoesOut, IsFailure, IsNoRead, StopsTurn, VisitsSession, WriteFault, Writes, frees, stop_place};
 
 use crate::handler::Handler;
 use crate::replying::NextError;
 use crate::session::{Now, ReceiveError, Session, Stop};
 use crate::waiting::Waiting;
 use broker_node::Node;
+use broker_state::Place;
 use frame_fields::FrameError;
 use segment::BatchStore;
 use std::alloc::Allocator;
@@ -22,7 +23,7 @@ pub const READ_PIECE: usize = 65_536;
 /// A visit answers no further frame where so many bytes are owed.
 pub const MOST_OWED: usize = 262_144;
 
-/// The most writes of a visit.
+/// The most writes of a send.
 const MOST_WRITES: u32 = 4;
 
 /// What is known of a connection beside its session.
@@ -44,8 +45,6 @@ pub struct Seat {
 pub struct Visit {
     /// How many frames were answered.
     pub answered: u64,
-    /// How many bytes left.
-    pub sent: usize,
     /// What is to be done with the session.
     pub then: Then,
 }
@@ -53,12 +52,25 @@ pub struct Visit {
 /// What is to be done with a session after a visit.
 #[derive(Drop)]
 pub enum Then {
-    /// There is more to do: another visit, after the others.
+    /// More can be read: another visit, after the others.
     Again,
-    /// There is nothing to do until a read or a write may be made again, or a frame that waits is due.
+    /// There is nothing to do until a read may be made again, some of what is owed has left, or a frame that
+    /// waits is due.
     Idle,
+    /// The first frame that is held is put off: it may change the partition at this place, which may not
+    /// change yet. There is nothing to do until it may.
+    PutOff(Place),
     /// It is over, and can be closed.
     Over(Why),
+}
+
+/// What came of sending a session what it is owed.
+#[derive(Clone, Copy, PartialEq, Eq)]
+pub struct Flushed {
+    /// How many bytes left.
+    pub bytes: usize,
+    /// Whether a visit may have something to do now, which it couldn't do while so much was owed.
+    pub is_ready: bool,
 }
 
 /// Why a session is over.
@@ -119,19 +131,12 @@ fn failure_of(kind: ErrorKind) -> Failure
 
 // ---- how a session goes on
 
-/// Whether something is owed and may be written.
-fn can_write<A: Allocator + Copy>(seat: &Seat, session: &Session<A>) -> bool
-    ensures { MatchBool result ((0 < length session.now.owed) × (seat.now.may_write ≡ true))
-        (CannotWrite seat.now session.now) }
-{
-    session.owed() > 0 && seat.may_write
-}
-
-/// What is to be done with a session that holds no complete frame, where nothing can be written.
+/// What is to be done with a session that holds no complete frame.
 fn after_short<A: Allocator + Copy>(seat: &Seat, session: &Session<A>) -> Then
     ensures goes_on { (at : Moment) → IsIncomplete session.now.held
-        → CannotWrite seat.now session.now → GoesOn at seat.now session.now result }
+        → GoesOn at seat.now session.now result }
     ensures reads_nothing { IsNoRead result }
+    ensures puts_off { then_place result ≡ None }
 {
     if seat.at_end {
         return if session.owed() == 0 {
@@ -146,61 +151,45 @@ fn after_short<A: Allocator + Copy>(seat: &Seat, session: &Session<A>) -> Then
     Then::Idle
 }
 
-/// What is to be done with a session to which so much was owed, where nothing can be written.
-fn after_full<A: Allocator + Copy>(seat: &Seat, session: &Session<A>) -> Then
-    ensures goes_on { (at : Moment) → MOST_OWED ≤ length at.owing
-        → CannotWrite seat.now session.now → GoesOn at seat.now session.now result }
+/// What is to be done with a session whose first frame isn't answered.
+fn after_stop<A: Allocator + Copy>(why: NextError, session: &Session<A>) -> Then
+    ensures goes_on { (at : Moment) → (seat : Seat) → StopsNext session.now why
+        → GoesOn at seat session.now result }
     ensures reads_nothing { IsNoRead result }
+    ensures puts_off { then_place result ≡ next_place why }
 {
-    if session.owed() >= MOST_OWED {
-        return Then::Idle;
-    }
-    if session.is_short() {
-        return after_short(seat, session);
-    }
-    Then::Again
-}
-
-/// What is to be done with a session whose first frame isn't answered, where nothing can be written.
-fn after_stop<A: Allocator + Copy>(why: NextError, seat: &Seat, session: &Session<A>) -> Then
-    ensures goes_on { (at : Moment) → StopsNext session.now why
-        → CannotWrite seat.now session.now → GoesOn at seat.now session.now result }
-    ensures reads_nothing { IsNoRead result }
-{
-    if session.owed() > 0 {
-        return Then::Idle;
-    }
     match why {
-        NextError::Frame(why) => Then::Over(Why::Frame(why)),
-        NextError::OutOfMemory => Then::Over(Why::OutOfMemory),
+        NextError::PutOff(place) => Then::PutOff(place),
+        NextError::Frame(why) => {
+            if session.owed() > 0 {
+                Then::Idle
+            } else {
+                Then::Over(Why::Frame(why))
+            }
+        }
+        NextError::OutOfMemory => {
+            if session.owed() > 0 {
+                Then::Idle
+            } else {
+                Then::Over(Why::OutOfMemory)
+            }
+        }
     }
 }
 
-/// What is to be done with a session whose turn stopped so, if that came of its writes.
-fn what_then<A: Allocator + Copy>(
-    seat: &Seat,
-    session: &Session<A>,
-    stop: Stop,
-    written: Result<(), Why>,
-) -> Then
-    ensures goes_on { (at : Moment) → HasStopped at seat.now session.now stop
-        → IfErr written (FailsToWrite seat.now session.now)
+/// What is to be done with a session whose turn stopped so.
+fn what_then<A: Allocator + Copy>(seat: &Seat, session: &Session<A>, stop: Stop) -> Then
+    ensures goes_on { (at : Moment)
+        → StopsTurn MOST_OWED at.clock (has_ended seat.now) at.state session.now stop
         → GoesOn at seat.now session.now result }
-    ensures fault_ends { IfErr written (λ why. result ≡ Then.Over why) }
-    ensures reads_nothing { IfErr written (FailsToWrite seat.now session.now) → IsNoRead result }
+    ensures reads_nothing { IsNoRead result }
+    ensures puts_off { then_place result ≡ stop_place stop }
 {
-    match written {
-        Ok(()) => {}
-        Err(why) => return Then::Over(why),
-    }
-    if can_write(seat, session) {
-        return Then::Again;
-    }
     match stop {
-        Stop::Full => after_full(seat, session),
+        Stop::Full => Then::Idle,
         Stop::Short => after_short(seat, session),
         Stop::Waits => Then::Idle,
-        Stop::Over(why) => after_stop(why, seat, session),
+        Stop::Over(why) => after_stop(why, session),
     }
 }
 
@@ -310,28 +299,50 @@ fn write_some<A: Allocator + Copy, W: Write>(
     Ok(())
 }
 
+/// Whether what was owed kept a visit from something, and what is owed does so no more.
+fn frees(owing: usize, owed: usize) -> bool
+    ensures { result ≡ frees owing owed }
+{
+    (owing >= MOST_OWED && owed < MOST_OWED) || (owing > 0 && owed == 0)
+}
+
+/// Whether a visit may have something to do, where so many bytes were owed before some of them left.
+#[tactic(auto, using(crate::proofs::Going::stays_idle, crate::proofs::Going::quiet_idle, crate::proofs::Going::ready))]
+fn is_ready<A: Allocator + Copy>(seat: &Seat, session: &Session<A>, owing: usize) -> bool
+    ensures { (old : SessionState) → length old.owed ≡ owing
+        → session.now ≡ record old { owed = session.now.owed }
+        → MatchBool result (IsReady old seat.now session.now) (StaysIdle old seat.now session.now) }
+{
+    if !frees(owing, session.owed()) {
+        return false;
+    }
+    if seat.at_end || seat.may_read {
+        return true;
+    }
+    !session.is_short()
+}
+
 /// Sends a session what it is owed, by at most four writes; nothing is read or answered.
 #[tactic(auto, using(crate::proofs::Sending::sent_to))]
 pub(crate) fn send_session<A: Allocator + Copy, W: Write>(
     session: &mut Session<A>,
     seat: &mut Seat,
     to: &mut W,
-) -> Result<usize, Why>
+) -> Result<Flushed, Why>
     ensures { SendsTo seat.old session.old seat.new session.new
         (W.contents to.old) (W.contents to.new) result }
 {
     let owing = session.owed();
-    let written = write_some(session, &mut seat.may_write, to);
+    write_some(session, &mut seat.may_write, to)?;
     session.release();
-    match written {
-        Ok(()) => Ok(owing - session.owed()),
-        Err(why) => Err(why),
-    }
+    Ok(Flushed {
+        bytes: owing - session.owed(),
+        is_ready: is_ready(seat, session, owing),
+    })
 }
 
-/// Visits the session with a number, when the clock says so many milliseconds: reads once, answers, and
-/// writes.
-pub(crate) fn visit_session<S: BatchStore, H: Handler<S>, A: Allocator + Copy, R: Read, W: Write>(
+/// Visits the session with a number, when the clock says so many milliseconds: reads once, and answers.
+pub(crate) fn visit_session<S: BatchStore, H: Handler<S>, A: Allocator + Copy, R: Read>(
     node: &mut Node<S>,
     handler: &mut H,
     waiting: &mut Waiting<A>,
@@ -340,13 +351,12 @@ pub(crate) fn visit_session<S: BatchStore, H: Handler<S>, A: Allocator + Copy, R
     session: &mut Session<A>,
     seat: &mut Seat,
     from: &mut R,
-    to: &mut W,
     piece: &mut [u8],
 ) -> Visit
     ensures visits { length piece.old ≡ READ_PIECE
         → VisitsSession clock node.old seat.old session.old node.new seat.new session.new
-        (R.remaining from.old) (R.remaining from.new) (W.contents to.old) (W.contents to.new)
-        result }
+        (R.remaining from.old) (R.remaining from.new) result }
+    ensures puts_off { IfSome (then_place result.then) (H.puts_off handler.new) }
     ensures keeps { H.keeps handler.old node.old handler.new node.new }
 {
     match read_once(session, seat, from, piece) {
@@ -354,7 +364,6 @@ pub(crate) fn visit_session<S: BatchStore, H: Handler<S>, A: Allocator + Copy, R
         Err(why) => {
             return Visit {
                 answered: 0,
-                sent: 0,
                 then: Then::Over(why),
             };
         }
@@ -366,13 +375,9 @@ pub(crate) fn visit_session<S: BatchStore, H: Handler<S>, A: Allocator + Copy, R
         has_ended: has_ended(seat),
     };
     let stop = session.turn(node, handler, waiting, now, MOST_OWED);
-    let answered = session.answered() - before;
-    let owing = session.owed();
-    let written = write_some(session, &mut seat.may_write, to);
     session.release();
     Visit {
-        answered,
-        sent: owing - session.owed(),
-        then: what_then(seat, session, stop, written),
+        answered: session.answered() - before,
+        then: what_then(seat, session, stop),
     }
 }

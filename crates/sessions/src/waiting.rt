@@ -1,8 +1,8 @@
 //! The sessions whose first frame waits: by partition, and by time. No clause depends on them: they say
 //! which session may be due, and a visit finds whether it is.
 
-use broker_node::Node;
-use broker_state::{BrokerState, GROUP_TOPIC, MAX_PARTITIONS};
+use broker_node::{MayChange, Node, what_may_change};
+use broker_state::{BrokerState, MAX_PARTITIONS};
 use frame_fields::{Topic, Topics, first_frame};
 use indexmap::{IndexMap, IndexSet};
 use request_frames::{FetchPartition, ProducePartition, Request, RequestBody, parse};
@@ -217,24 +217,16 @@ impl<A: Allocator + Copy> Waiting<A> {
         }
     }
 
-    /// Has those visited that wait for a partition that a request may change: by appending, by taking
-    /// something in, by moving its start, or by cleaning it.
+    /// Has those visited that wait for a partition that a request may change.
     fn look_at<S: BatchStore>(&mut self, state: &BrokerState<S>, body: &RequestBody<'_>) {
-        match body {
-            RequestBody::Produce(asked) => {
-                for topic in Topics::of(&asked.topics) {
+        match what_may_change(body) {
+            MayChange::Nothing | MayChange::NextId => {}
+            MayChange::One(topic, partition) => self.wake(state, topic, partition),
+            MayChange::Produced(topics) => {
+                for topic in Topics::of(topics) {
                     self.wake_topic(state, topic);
                 }
             }
-            RequestBody::OffsetCommit(_) | RequestBody::ForgetGroup(_) => {
-                self.wake(state, GROUP_TOPIC, 0);
-            }
-            RequestBody::Deliver(asked) => self.wake(state, asked.topic, asked.partition),
-            RequestBody::Import(asked) => self.wake(state, asked.topic, asked.partition),
-            RequestBody::ImportDelta(asked) => self.wake(state, asked.topic, asked.partition),
-            RequestBody::Trim(asked) => self.wake(state, asked.topic, asked.partition),
-            RequestBody::Clean(asked) => self.wake(state, asked.topic, asked.partition),
-            _ => {}
         }
     }
 

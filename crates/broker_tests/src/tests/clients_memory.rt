@@ -59,17 +59,30 @@ fn came_of(visit: &Visit, written: &[u8]) -> Came {
     }
 }
 
+/// Visits a session to which these bytes came, if any, when the clock says so many milliseconds, and sends what it is owed.
+fn visited<S: BatchStore, A: Allocator + Copy, B: Allocator + Copy>(
+    sessions: &mut Sessions<S, A>,
+    number: u64,
+    clock: u64,
+    came: &[u8],
+    to: &mut Vec<u8, B>,
+) -> Option<Visit> {
+    let mut seat = Seat::new();
+    seat.may_read = !came.is_empty();
+    let mut from = came;
+    let visit = sessions.visit(number, clock, &mut Plainly, &mut seat, &mut from)?;
+    let _ = sessions.send(number, &mut seat, to);
+    Some(visit)
+}
+
 /// Visits a session to which a request came.
 fn visits<S: BatchStore, A: Allocator + Copy, B: Allocator + Copy>(
     sessions: &mut Sessions<S, A>,
     alloc: B,
     number: u64,
 ) -> Came {
-    let mut seat = Seat::new();
-    seat.may_read = true;
-    let mut from = LIST;
     let mut to = Vec::new(alloc);
-    match sessions.visit(number, 0, &mut Plainly, &mut seat, &mut from, &mut to) {
+    match visited(sessions, number, 0, LIST, &mut to) {
         Some(visit) => came_of(&visit, &to),
         None => Came::Wrong,
     }
@@ -85,26 +98,13 @@ fn serves<S: BatchStore, A: Allocator + Copy, B: Allocator + Copy>(
     both(opened, visited)
 }
 
-/// Visits a session when the clock says 5, to which these bytes came, if any.
-fn visited<S: BatchStore, A: Allocator + Copy, B: Allocator + Copy>(
-    sessions: &mut Sessions<S, A>,
-    number: u64,
-    came: &[u8],
-    to: &mut Vec<u8, B>,
-) -> Option<Visit> {
-    let mut seat = Seat::new();
-    seat.may_read = !came.is_empty();
-    let mut from = came;
-    sessions.visit(number, 5, &mut Plainly, &mut seat, &mut from, to)
-}
-
 /// Visits session 0, to which a Fetch came that waits for one partition, until the clock says 1,005.
 fn waits<S: BatchStore, A: Allocator + Copy, B: Allocator + Copy>(
     sessions: &mut Sessions<S, A>,
     alloc: B,
 ) -> Came {
     let mut to = Vec::new(alloc);
-    let visit = visited(sessions, 0, WAITING, &mut to);
+    let visit = visited(sessions, 0, 5, WAITING, &mut to);
     let due = sessions.next_due();
     match (visit, sessions.awaited(0)) {
         (
@@ -112,7 +112,6 @@ fn waits<S: BatchStore, A: Allocator + Copy, B: Allocator + Copy>(
                 Visit {
                     answered: 0,
                     then: Then::Idle,
-                    ..
                 },
             ),
             1,
@@ -122,7 +121,6 @@ fn waits<S: BatchStore, A: Allocator + Copy, B: Allocator + Copy>(
                 Visit {
                     answered: 0,
                     then: Then::Over(Why::OutOfMemory),
-                    ..
                 },
             ),
             0,
@@ -140,14 +138,13 @@ fn answers<S: BatchStore, A: Allocator + Copy, B: Allocator + Copy>(
     wanted: &[u8],
 ) -> Came {
     let mut to = Vec::new(alloc);
-    match visited(sessions, number, came, &mut to) {
+    match visited(sessions, number, 5, came, &mut to) {
         Some(Visit { answered: 1, .. }) if to.as_slice() == wanted => Came::Done,
         Some(Visit { answered: 1, .. }) if to.as_slice() == NOT_STORED => Came::Lacked,
         Some(
             Visit {
                 answered: 0,
                 then: Then::Over(Why::OutOfMemory),
-                ..
             },
         ) => Came::Lacked,
         _ => Came::Wrong,

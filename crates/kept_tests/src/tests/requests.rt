@@ -1,8 +1,8 @@
 //! Requests handled so that it is told whether memory sufficed: as they are handled without, and with each allocation
 //! failing in turn.
 
-use broker_node::{Answer, GROUP_TOPIC, Node, Role};
-use exact_replies::{Memory, handle_exactly, may_change};
+use broker_node::{Answer, GROUP_TOPIC, Node, Role, may_change};
+use exact_replies::{Memory, handle_exactly};
 use refusing_alloc::Refusing;
 use sample_brokers::brokers::{answers_of, has_answers};
 use sample_brokers::exchanges::{

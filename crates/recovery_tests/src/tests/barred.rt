@@ -2,7 +2,7 @@
 //! none is handled.
 
 use crate::tests::lives::UNTURNED;
-use kept_starts::sessions::Seat;
+use kept_starts::sessions::{Seat, Then, Visit};
 use kept_starts::{Disk, Keeper, Place, Role, start};
 use memory_directories::{MemoryDirectory, Store};
 use sample_brokers::exchanges::{
@@ -42,13 +42,15 @@ fn visited<S: BatchStore, A: Allocator + Copy, D: Disk>(
     let mut seat = Seat::new();
     seat.may_read = true;
     let mut from = frames;
-    let answered = match keeper.answer(number, 0, &mut seat, &mut from) {
-        Some(visit) => visit.answered,
-        None => 0,
-    };
-    match keeper.take_put_off() {
-        Some(place) => (answered, Some((place.topic, place.partition))),
-        None => (answered, None),
+    match keeper.answer(number, 0, &mut seat, &mut from) {
+        Some(
+            Visit {
+                answered,
+                then: Then::PutOff(place),
+            },
+        ) => (answered, Some((place.topic, place.partition))),
+        Some(visit) => (visit.answered, None),
+        None => (0, None),
     }
 }
 
@@ -74,14 +76,10 @@ fn is_put_off<S: BatchStore, A: Allocator + Copy, D: Disk>(
     let first = visited(keeper, number, request);
     lift_others(keeper, place);
     let again = visited(keeper, number, b"");
-    let is_first = match keeper.first_barred() {
-        Some(barred) => (barred.topic, barred.partition) == place,
-        None => false,
-    };
     let (topic, partition) = place;
     keeper.lift(Place { topic, partition });
     let then = visited(keeper, number, b"");
-    first == (0, Some(place)) && again == (0, Some(place)) && is_first && then == (1, None)
+    first == (0, Some(place)) && again == (0, Some(place)) && then == (1, None)
 }
 
 /// Whether a request is right that comes to a broker all of whose partitions are barred.
