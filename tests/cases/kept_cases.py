@@ -671,6 +671,7 @@ AS_WITHOUT = [
     ("a trim makes a fetch due", waiting.trim_makes_due),
     ("a commit makes a fetch due", waiting.commit_makes_due),
     ("an import makes a fetch due", waiting.import_makes_due),
+    ("a cleaning makes a fetch due", waiting.clean_makes_due),
     ("a fetch and a produce without acknowledgement", waiting.without_acknowledgement),
     ("large replies that nobody reads", limits.replies_unread),
     ("a client that stops behind more than a read", many_clients.half_close_behind_many_reads),

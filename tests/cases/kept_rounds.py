@@ -1,7 +1,9 @@
-"""What a `kbroker start --data` does round after round, and what it needs at its start beside sound files: when it syncs while others go
-on to send, a sync that fails, connections to which what they are owed leaves late, and the largest configuration.
+"""What a `kbroker start --data` does round after round, and what it needs at its start beside sound files: when it syncs while
+others go on to send, a sync that fails, connections to which what they are owed leaves late, frames that are put off for long, and
+the largest configuration.
 
-What must come is worked by hand. That a sync fails is said by strace, where it is there and may look; else that case can't be tried.
+What must come is worked by hand. That a sync fails or takes long is said by strace, where it is there and may look; else those
+cases can't be tried.
 """
 import os
 import shutil
@@ -14,6 +16,7 @@ from cases.kept_calls import where_it_can_be_seen
 from cases.kept_runs import (
     ANOTHER,
     FAILED,
+    IN_THE_MAKING,
     JOURNAL,
     SNAPSHOT,
     Kept,
@@ -24,7 +27,7 @@ from cases.kept_runs import (
     recovered,
     refusal,
 )
-from cases.started import holds, is_soon, reply, request, same
+from cases.started import CannotBeTried, holds, is_soon, reply, request, same
 from encoders import frames
 from models import kept_files
 
@@ -266,6 +269,51 @@ def slow_reader_is_not_idle(program):
         slow.ask("versions", "versions 0")
 
 
+# ---- frames that are put off
+
+IDLE, OF_AN_IMAGE = 1, 2  # seconds that a client may be idle, and that the sync of each image takes
+
+
+class Slowed(Kept):
+    """A program of which each sync of a snapshot that it writes takes so many seconds."""
+
+    def __init__(self, program, folder, seconds, *arguments, **ways):
+        super().__init__(shutil.which("strace"), folder, *arguments, **ways)
+        delayed = f"inject=fsync,fdatasync:delay_enter={seconds * 1_000_000}"
+        told = ["-D", "-f", "-o", "/dev/null", "-P", f"{folder}/{IN_THE_MAKING}", "-e", "trace=fsync,fdatasync", "-e", delayed]
+        self.command = ["strace", *told, program, *self.command[1:]]
+
+
+def asks_while_images_are_written(program, folder):
+    """A client asks for what begins a snapshot, and then at once for what waits for two images. Whether it came to that before it
+    was idle; a slow machine may not let it."""
+    bounds = ("--snapshot-after", "1500", "--idle", str(IDLE))
+    with Slowed(program, folder, OF_AN_IMAGE, *bounds) as broker, broker.client() as client:
+        began = time.monotonic()
+        client.ask("produce t:0 batch k={a*1600}", "produced t:0 0 0")
+        client.send(request("produce t:0 batch b=1 | t:1 batch c=1"))
+        if time.monotonic() - began >= IDLE:
+            return False
+        client.gets(reply("produced t:0 0 1 | t:1 0 0"), "the reply to what is put off")
+        took = time.monotonic() - began
+        holds(f"it came after {took:.1f} s, and wasn't put off for long", took > 2 * IDLE)
+        client.gets_to_the_end(b"")
+        broker.tells(0, client, f"idle for {IDLE} s")
+    return True
+
+
+def put_off_is_not_idle(program):
+    """A frame that is put off while images are written, each for longer than a client may be idle, is answered, and its connection
+    stays; once nothing is put off any more it ends."""
+    for _ in range(5):
+        with new_folder() as folder:
+            with Kept(program, folder):
+                pass
+            if asks_while_images_are_written(program, folder):
+                return
+    raise CannotBeTried("the machine is too slow to ask again before a second is over")
+
+
 # ---- the start
 
 LARGEST = tuple(f"{number:03}{'t' * 240}:64" for number in range(64))
@@ -326,6 +374,7 @@ CASES = [
     ("a client that never stops to change something", beside_one_that_never_stops),
     ("what was sent isn't held, with a directory", sent_is_not_held),
     ("a slow reader isn't idle, with a directory", slow_reader_is_not_idle),
+    ("idle and put off", where_it_can_be_seen(put_off_is_not_idle)),
     ("the largest configuration", largest_configuration),
     ("keys of new journals", keys_differ),
     ("a directory by its name alone", name_alone),

@@ -136,6 +136,25 @@ def import_makes_due(program):
         consumer.gets(reply("fetched t:0 0 1 batch base:0 a=1"))
 
 
+def clean_makes_due(program):
+    """What a cleaning takes from a batch makes room in the response for another batch: of another partition, within the bytes that
+    all may have, and of the same one, within its own. A cleaning that takes nothing doesn't."""
+    whole, thinned, behind = "a={x*400} a=1", "batch last:1 a=1;delta:1", "b={y*600}"
+    room = len(request(f"{thinned} && batch {behind}"))  # more than the whole batch, and less than that and the other one
+    for partition, base, entries, wanted in (
+        (1, 0, f"max={room} wait={LONG} min={room} t:0 0 | t:1 0", f"t:0 0 2 {thinned} | t:1 0 1 batch {behind}"),
+        (0, 2, f"wait={LONG} min={room} t:0 0 {room}", f"t:0 0 3 {thinned} + batch base:2 {behind}"),
+    ):
+        with Started(program) as broker, broker.client() as consumer, broker.client() as other:
+            produce(other, "t:0", 0, whole)
+            produce(other, f"t:{partition}", base, behind)
+            waits(consumer, request(f"fetch {entries}"))
+            other.ask("clean t:0 1 0", "cleaned 0 0 0 0")
+            holds("a reply comes to a cleaning that takes nothing", consumer.gets_nothing(BRIEF))
+            other.ask("clean t:0 2 0", "cleaned 0 1 0 0")
+            consumer.gets(reply(f"fetched {wanted}"))
+
+
 def without_acknowledgement(program):
     """A produce that isn't answered wakes, too."""
     with Started(program) as broker, broker.client() as consumer, broker.client() as producer:
@@ -328,6 +347,7 @@ CASES = [
     ("a trim makes a fetch due", trim_makes_due),
     ("a commit makes a fetch due", commit_makes_due),
     ("an import makes a fetch due", import_makes_due),
+    ("a cleaning makes a fetch due", clean_makes_due),
     ("a fetch and a produce without acknowledgement", without_acknowledgement),
     ("a fetch that waits behind large replies", behind_much),
     ("fetches that are answered at once", at_once),

@@ -1,4 +1,4 @@
-"""What is run by name, one after the other or side by side: rows, cases of `kbroker start`, sessions, documents, bytes in sources.
+"""What is run by name, one after the other or side by side: rows, cases of `kbroker start`, sessions, documents, sources.
 
 A trial is a name and what says the faults of a program. It may have a reason for which tests/quick leaves it out, and it may
 be one that is run with the first program alone.
@@ -8,7 +8,7 @@ import sys
 import time
 
 from cases import kept_cases, start_cases, started
-from runner import documents, rows, runs, source_bytes
+from runner import documents, kinds, rows, runs, source_bytes
 
 CASES = "kbroker start: "  # what the name of each case begins with
 
@@ -69,6 +69,7 @@ def all_trials():
         *(trial_of_row(it) for it in rows.all_rows()),
         *(Trial(name, faults_of, once=once) for name, faults_of, once in documents.COMPARED),
         Trial("bytes in sources that Python made", lambda _: source_bytes.faults(), once=True),
+        Trial("kinds of requests that sources match on", lambda _: kinds.faults(), once=True),
     ]
 
 
