@@ -20,7 +20,6 @@ FUNCTIONS = {
     ("request_frames/src/api.rt", "of_key"): "the table of keys, looked up",
     ("request_frames/src/api.rt", "in_other_version"): "the table of keys: those that have two versions",
     ("request_frames/src/parsing.rt", "body_at"): "the readers: each kind goes to the one that reads its fields",
-    ("exact_replies/src/looking.rt", "shows_storage_error"): "where the response to each kind has its codes",
 }
 ENUMS = ["RequestBody", "Api"]  # those that have a constructor for each kind
 

@@ -3,3 +3,5 @@ pub mod Begun
 pub mod SoFar
 pub mod Planned
 pub mod Checks
+pub mod Told
+pub mod ToldPlans

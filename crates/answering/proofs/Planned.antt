@@ -26,7 +26,7 @@ module _ {M S V E R : Type 0} (A : M → List ℕ → V → R → M → Type 0) 
   entries_along name m (v ∷ vs) [] end all = all
   entries_along name m (v ∷ vs) (r ∷ rs) end all = (g all.0, along m name v r all.0 all.1, entries_along name all.0 vs rs end all.2)
 
-  topics_along : (m : M) (ts : List (TopicOf V)) (us : List (TopicOf E)) (rs : List (TopicOf R)) (end : M) → map (λ t. record { name = t.name; entries = map f t.entries }) ts ≡ us
+  pub topics_along : (m : M) (ts : List (TopicOf V)) (us : List (TopicOf E)) (rs : List (TopicOf R)) (end : M) → map (λ t. record { name = t.name; entries = map f t.entries }) ts ≡ us
       → AnswersTopics A m ts rs end → AnswersTopics B (g m) us rs (g end)
   topics_along m ts us rs end is all = subst (λ xs. AnswersTopics B (g m) xs rs (g end)) is (by m ts rs end all)
     where
@@ -39,7 +39,7 @@ module _ {M S V E R : Type 0} (A : M → List ℕ → V → R → M → Type 0) 
           (g all.0, (all.1.0, entries_along t.name m t.entries r.entries all.0 all.1.1), by all.0 ts rs end all.2)
 
 -- the topics of a request, from what their fields say
-topics_of_request : {X : Type 0} (d : Fields) (f : Value d → X) (ts : List (Value (topic d)))
+pub topics_of_request : {X : Type 0} (d : Fields) (f : Value d → X) (ts : List (Value (topic d)))
     → map (λ t. record { name = t.name; entries = map f t.entries }) (map (topic_said d) ts) ≡ map (topic_request d f) ts
 topics_of_request d f [] = refl
 topics_of_request d f (t ∷ ts) = ap (λ us. topic_request d f t ∷ us) (topics_of_request d f ts)

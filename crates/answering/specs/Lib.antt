@@ -7,4 +7,6 @@ pub mod Responding
 pub mod Once
 pub mod Writing
 pub mod WritingParts
+pub mod Refusals
+pub mod Telling
 pub mod Doing

@@ -1,5 +1,6 @@
 //! How an entry of a request is answered.
 
+use crate::memory::Memory;
 use std::alloc::{AllocError, Allocator};
 
 /// A request whose entries `E` are answered one by one, and what answers them. `S` is what the
@@ -11,6 +12,7 @@ use std::alloc::{AllocError, Allocator};
 pub trait Answers<E, S>: Sized {
     ghost use Rattle.std.specs.Prelude.{◌≡◌, ◌≤◌, ◌+◌, ℕ, List, Option, Some, IsOk, OnOk, OnErr};
     ghost use Rattle.std.specs.Vec.{vec_len, vec_capacity};
+    ghost use Rattle.answering.specs.declared.memory.Memory.{Memory};
     ghost use Rattle.answering.specs.Writing.{Begins, Writes};
 
     /// What is answered to an entry.
@@ -19,14 +21,16 @@ pub trait Answers<E, S>: Sized {
     /// Its encoding.
     ghost bytes: { Answered → List ℕ };
 
-    /// How an entry of a topic of this name may be answered, and the state after it.
-    ghost answers: { Self → S → List ℕ → E → Answered → S → Type 0 };
+    /// How an entry of a topic of this name may be answered, from the state and what was told of memory
+    /// before it to those after it.
+    ghost answers: { Self → S × Memory → List ℕ → E → Answered → S × Memory → Type 0 };
 
     /// How many bytes each answer has, where all have as many; then the room for a response can be
     /// taken before any work is done.
     ghost size: { Option ℕ };
 
-    /// Does what an entry asks for, and appends the answer.
+    /// Does what an entry asks for, and appends the answer. Where the entry's work lacks memory, that is
+    /// noted.
     ///
     /// # Errors
     ///
@@ -36,12 +40,13 @@ pub trait Answers<E, S>: Sized {
     fn put<A: Allocator + Copy>(
         &self,
         state: &mut S,
+        memory: &mut Memory,
         topic: &[u8],
         entry: E,
         out: &mut Vec<u8, A>,
     ) -> Result<(), AllocError>
-        ensures writes { OnOk result (Writes (answers self.now) bytes state.old topic.now entry
-            out.old.items out.new.items state.new) }
+        ensures writes { OnOk result (Writes (answers self.now) bytes (state.old, memory.old) topic.now entry
+            out.old.items out.new.items (state.new, memory.new)) }
         ensures begins { OnErr result (Begins out.old.items out.new.items) }
         ensures len { (n : ℕ) → size ≡ Some n → OnOk result (vec_len out.new ≡ vec_len out.old + n) }
         ensures succeeds { (n : ℕ) → size ≡ Some n

@@ -13,31 +13,46 @@
 //!
 //! - **It only reads.** `Answers` is implemented by a struct that borrows the broker, for the state `S`
 //!   that entries share, or `()`; `size` is `None`, since answers need not be of one size. Where memory
-//!   runs out, `respond` cuts the output back, and nothing else has changed.
+//!   runs out, `respond` cuts the output back, and nothing else has changed. Nothing is told of memory:
+//!   `respond` gets one that is thrown away.
 //! - **It changes something.** `S` is what the broker holds, and `size` is `Some` of the bytes of an
-//!   answer. The room is taken before any work is done, so that want of memory can't come between:
+//!   answer. The room is taken before any work is done, so that want of memory can't come between. An
+//!   entry's work tells whether it lacked memory, and `put` notes it:
 //!
 //! ```
 //! let Some(room) = response_room(ANSWER_BYTES, AROUND_BYTES, &request.topics) else {
 //!     return Err(AllocError);
 //! };
 //! out.reserve(room)?;
-//! let Ok(()) = respond(&asked, state, correlation, &[], &request.topics, &AFTER, out) else {
+//! let mut memory = Memory::Sufficed;
+//! let Ok(()) = respond(
+//!     &asked,
+//!     state,
+//!     &mut memory,
+//!     correlation,
+//!     &[],
+//!     &request.topics,
+//!     &AFTER,
+//!     out,
+//! ) else {
 //!     unreachable!()
 //! };
+//! Ok(memory)
 //! ```
 //!
 //! Its proof is three facts: the way in which `put` answers is one that the entry's work allows
-//! (`MayAnswer`); the bytes around the topics and the topics' own are the encoding of the response; and
-//! what `respond` ensures makes a reply that the plan allows, by `plan_responded` of `proofs/Planned`,
-//! along the entries' values and the states.
+//! (`MayAnswer`, or `TellsNext` where memory is told of); the bytes around the topics and the topics' own are the encoding of the response; and
+//! what `respond` ensures makes a reply that the plan allows, by `plan_responded` of `proofs/Planned`, or
+//! `plan_responded_told` of `proofs/ToldPlans`, along the entries' values and the states.
 //!
 //! # A request of one entry
 //!
 //! Its definitions are its `Work` and the bytes of the response to a result; `reply_once` and
-//! `RepliesOnce` are what is replied, `WritesOnce` what its function ensures. A function does the work,
-//! another gives the bytes of a result, and the response is appended by `respond_once`: where the work
-//! changes something, behind `out.reserve(RESPONSE_HEAD_BYTES + ..)?`, after which it can't fail. A
+//! `RepliesOnce` are what is replied, `WritesOnce` what its function ensures, or `WritesTold` where the
+//! work changes something: then its function tells whether memory sufficed. A function does the work, and
+//! says by `Refused` whether a check failed or memory lacked; another gives the bytes of a result, and the
+//! response is appended by `respond_once`: where the work changes something, behind
+//! `out.reserve(RESPONSE_HEAD_BYTES + ..)?`, after which it can't fail. A
 //! result with bytes of its own, as a partition's, is a head, these bytes and what follows them; a
 //! response in many parts implements `Body`, and is appended by `respond_with`. The proof is
 //! `once_written`, and `once_answered` above it.
@@ -45,12 +60,14 @@
 
 mod codes;
 mod entries;
+mod memory;
 mod once;
 mod responding;
 mod room;
 
 pub use codes::ErrorCode;
 pub use entries::Answers;
+pub use memory::{Memory, Refused};
 pub use once::{Body, respond_once, respond_with};
 pub use responding::respond;
 pub use room::response_room;

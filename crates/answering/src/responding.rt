@@ -9,6 +9,7 @@ ghost use Rattle.answering.specs.Writing.{Begins, Said, topics_said, Responds, t
 ghost use Rattle.answering.specs.WritingParts.{WritesTopic, WritesTopics, WritesResponse};
 
 use crate::entries::Answers;
+use crate::memory::Memory;
 use frame_fields::{Array, Element, Topic, Topics};
 use responses::{
     COUNT_BYTES, RESPONSE_HEAD_BYTES, append_fixed, begin_response, begin_topic, count_bytes,
@@ -20,12 +21,13 @@ use std::alloc::{AllocError, Allocator};
 fn put_topic<'a, E: Element<'a> + Drop, S, Q: Answers<E, S>, A: Allocator + Copy>(
     asked: &Q,
     state: &mut S,
+    memory: &mut Memory,
     topic: Topic<'a, E>,
     out: &mut Vec<u8, A>,
 ) -> Result<(), AllocError>
-    ensures writes { OnOk result (WritesTopic (Said E.value (Q.answers asked.now)) Q.bytes state.old
+    ensures writes { OnOk result (WritesTopic (Said E.value (Q.answers asked.now)) Q.bytes (state.old, memory.old)
         (record { name = topic.entry.name.now; entries = values E.fields topic.entry.partitions })
-        out.old.items out.new.items state.new) }
+        out.old.items out.new.items (state.new, memory.new)) }
     ensures begins { OnErr result (Begins out.old.items out.new.items) }
     ensures len { (n : ℕ) → Q.size ≡ Some n → OnOk result (vec_len out.new ≡ vec_len out.old
         + topic_room n topic.entry.name.now (length (values E.fields topic.entry.partitions))) }
@@ -36,7 +38,7 @@ fn put_topic<'a, E: Element<'a> + Drop, S, Q: Answers<E, S>, A: Allocator + Copy
 {
     begin_topic(out, topic.name, topic.partitions.len())?;
     for entry in topic.partitions {
-        asked.put(state, topic.name, entry, out)?;
+        asked.put(state, memory, topic.name, entry, out)?;
     }
     Ok(())
 }
@@ -45,11 +47,12 @@ fn put_topic<'a, E: Element<'a> + Drop, S, Q: Answers<E, S>, A: Allocator + Copy
 fn put_topics<'a, E: Element<'a> + Drop, S, Q: Answers<E, S>, A: Allocator + Copy>(
     asked: &Q,
     state: &mut S,
+    memory: &mut Memory,
     topics: Topics<'a, E>,
     out: &mut Vec<u8, A>,
 ) -> Result<(), AllocError>
-    ensures writes { OnOk result (WritesTopics (Said E.value (Q.answers asked.now)) Q.bytes state.old
-        (topics_said E.fields topics.entry) out.old.items out.new.items state.new) }
+    ensures writes { OnOk result (WritesTopics (Said E.value (Q.answers asked.now)) Q.bytes (state.old, memory.old)
+        (topics_said E.fields topics.entry) out.old.items out.new.items (state.new, memory.new)) }
     ensures begins { OnErr result (Begins out.old.items out.new.items) }
     ensures len { (n : ℕ) → Q.size ≡ Some n → OnOk result (vec_len out.new
         ≡ vec_len out.old + topics_room n (topics_said E.fields topics.entry)) }
@@ -59,7 +62,7 @@ fn put_topics<'a, E: Element<'a> + Drop, S, Q: Answers<E, S>, A: Allocator + Cop
     ensures keeps_capacity { (n : ℕ) → Q.size ≡ Some n → vec_capacity out.old ≤ vec_capacity out.new }
 {
     for topic in topics {
-        put_topic(asked, state, topic, out)?;
+        put_topic(asked, state, memory, topic, out)?;
     }
     Ok(())
 }
@@ -90,6 +93,7 @@ fn put_head<A: Allocator + Copy>(
 fn put_response<'a, E: Element<'a> + Drop, S, Q: Answers<E, S>, A: Allocator + Copy>(
     asked: &Q,
     state: &mut S,
+    memory: &mut Memory,
     correlation: i32,
     before: &[u8],
     topics: Topics<'a, E>,
@@ -97,23 +101,23 @@ fn put_response<'a, E: Element<'a> + Drop, S, Q: Answers<E, S>, A: Allocator + C
     out: &mut Vec<u8, A>,
 ) -> Result<(), AllocError>
     ensures writes { OnOk result (WritesResponse (Said E.value (Q.answers asked.now)) Q.bytes
-        correlation before.now state.old (topics_said E.fields topics.entry) after.now
-        out.old.items out.new.items state.new) }
+        correlation before.now (state.old, memory.old) (topics_said E.fields topics.entry) after.now
+        out.old.items out.new.items (state.new, memory.new)) }
     ensures begins { OnErr result (Begins out.old.items out.new.items) }
     ensures succeeds { (n : ℕ) → Q.size ≡ Some n → vec_len out.old
         + response_room n (length before.now + length after.now)
         (topics_said E.fields topics.entry) ≤ vec_capacity out.old → IsOk result }
 {
     put_head(correlation, before, topics.len(), out)?;
-    put_topics(asked, state, topics, out)?;
+    put_topics(asked, state, memory, topics, out)?;
     out.extend_from_slice(after)
 }
 
 /// Answers the entries of a request one after the other, and appends the response: `before`, the
 /// topics with their answers, and `after`, behind the size and the correlation id. All or nothing.
 ///
-/// Where answers have a size and there is room for the response, it is `Ok`; `response_room` says
-/// how much that is.
+/// What is told of memory is noted; a request whose entries change nothing passes it by. Where answers
+/// have a size and there is room for the response, it is `Ok`; `response_room` says how much that is.
 ///
 /// # Errors
 ///
@@ -122,6 +126,7 @@ fn put_response<'a, E: Element<'a> + Drop, S, Q: Answers<E, S>, A: Allocator + C
 pub fn respond<'a, E: Element<'a> + Drop, S, Q: Answers<E, S>, A: Allocator + Copy>(
     asked: &Q,
     state: &mut S,
+    memory: &mut Memory,
     correlation: i32,
     before: &[u8],
     topics: &Array<'a, Topic<'a, E>>,
@@ -129,8 +134,8 @@ pub fn respond<'a, E: Element<'a> + Drop, S, Q: Answers<E, S>, A: Allocator + Co
     out: &mut Vec<u8, A>,
 ) -> Result<(), AllocError>
     ensures responds { OnOk result (Responds (Said E.value (Q.answers asked.now)) Q.bytes correlation
-        before.now state.old (topics_said E.fields topics.now) after.now
-        out.old.items out.new.items state.new) }
+        before.now (state.old, memory.old) (topics_said E.fields topics.now) after.now
+        out.old.items out.new.items (state.new, memory.new)) }
     ensures unchanged_on_error { OnErr result (out.new.items ≡ out.old.items) }
     ensures succeeds { (n : ℕ) → Q.size ≡ Some n → vec_len out.old
         + response_room n (length before.now + length after.now)
@@ -140,6 +145,7 @@ pub fn respond<'a, E: Element<'a> + Drop, S, Q: Answers<E, S>, A: Allocator + Co
     match put_response(
         asked,
         state,
+        memory,
         correlation,
         before,
         Topics::of(topics),

@@ -39,6 +39,13 @@ responds_by p s after request body held held' is arm r = record {
   appends = r.appends;
 }
 
+-- of a request of entries, where it was written
+pub plan_responds : {T X E R S : Type 0} (p : Plan E R S State) (r : Result T X) (s after : State) (request : Request) (body : RequestBody) (held held' : List ℕ) → request.body ≡ body
+    → ((response : Option (List ℕ)) → RepliesBy (λ R S w. MayAnswer w) p response after → RepliesTo (λ R S w. MayAnswer w) s request.correlation (request_body body) response after)
+    → OnOk r (RespondsBy p held held' after) → OnOk r (RespondsTo s (request_value request) held held' after)
+plan_responds p (Err e) s after request body held held' is arm responds = tt
+plan_responds p (Ok x) s after request body held held' is arm responds = responds_by p s after request body held held' is arm responds
+
 -- of a request of one entry
 pub responds_once : {R : Type 0} (sent : ℤ → R → List ℕ) (w : Work R State) (s after : State) (request : Request) (body : RequestBody) (n : ℤ) (held held' : List ℕ) → n ≡ request.correlation → request.body ≡ body
     → ((response : Option (List ℕ)) → RepliesOnce (λ R S w. MayAnswer w) (sent request.correlation) w s response after → RepliesTo (λ R S w. MayAnswer w) s request.correlation (request_body body) response after)

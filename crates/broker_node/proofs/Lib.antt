@@ -1,3 +1,4 @@
 pub mod PlannedReplies
 pub mod KeptStates
 pub mod HandledReplies
+pub mod ToldReplies

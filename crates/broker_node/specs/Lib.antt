@@ -8,4 +8,5 @@ pub mod Fitting
 pub mod Streams
 pub mod Handling
 pub mod Answers
+pub mod Exactly
 pub mod Below

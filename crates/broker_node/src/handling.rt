@@ -1,12 +1,14 @@
 //! One request, answered.
 
-ghost use Rattle.std.specs.Prelude.{◌≡◌, IfOk, OnOk, OnErr};
+ghost use Rattle.std.specs.Prelude.{◌≡◌, IfOk, OnErr};
 ghost use Rattle.request_frames.specs.Views.{request_body, request_value};
 ghost use Rattle.broker_state.specs.Sound.{IsSound};
 ghost use Rattle.broker_node.specs.Handling.{Handles};
-ghost use Rattle.broker_node.specs.Answers.{RespondsTo, answer_to};
+ghost use Rattle.broker_node.specs.Answers.{answer_to};
+ghost use Rattle.broker_node.specs.Exactly.{HandlesExactly, told_sufficed};
 
 use crate::node::Node;
+use answering::Memory;
 use broker_state::BrokerState;
 use copy_requests::{
     index_asked_key, reply_to_clean, reply_to_cover, reply_to_deliver, reply_to_export,
@@ -55,41 +57,73 @@ fn complete_indexes<S: BatchStore>(state: &mut BrokerState<S>, body: &RequestBod
     }
 }
 
-/// Does what a request asks for, and appends its response, if it is answered.
-#[tactic(auto, using(crate::proofs::HandledReplies::responds_by))]
+/// What comes of a request that only reads: it is always told that memory sufficed.
+fn only_reads(replied: Result<(), AllocError>) -> Result<Memory, AllocError>
+    ensures { result ≡ told_sufficed replied }
+{
+    match replied {
+        Ok(()) => Ok(Memory::Sufficed),
+        Err(refused) => Err(refused),
+    }
+}
+
+/// Does what a request asks for, appends its response, if it is answered, and tells whether memory sufficed.
+#[tactic(auto, using(crate::proofs::ToldReplies::reads_fail))]
 fn reply_to<S: BatchStore, A: Allocator + Copy>(
     state: &mut BrokerState<S>,
     request: &Request<'_>,
     out: &mut Vec<u8, A>,
-) -> Result<(), AllocError>
-    ensures responds { OnOk result (RespondsTo state.old (request_value request.now)
-        out.old.items out.new.items state.new) }
+) -> Result<Memory, AllocError>
+    ensures handles { IfOk result (λ memory. HandlesExactly state.old (request_value request.now)
+        out.old.items out.new.items memory state.new) }
     ensures unchanged_on_error { OnErr result
         ((state.new ≡ state.old) × (out.new.items ≡ out.old.items)) }
 {
     let correlation = request.correlation;
     match &request.body {
         RequestBody::Produce(asked) => reply_to_produce(state, correlation, asked, out),
-        RequestBody::Fetch(asked) => reply_to_fetch(state, correlation, asked, out),
-        RequestBody::ListOffsets(asked) => reply_to_list_offsets(state, correlation, asked, out),
-        RequestBody::Metadata(asked) => reply_to_metadata(state, correlation, asked, out),
+        RequestBody::Fetch(asked) => only_reads(reply_to_fetch(state, correlation, asked, out)),
+        RequestBody::ListOffsets(asked) => only_reads(reply_to_list_offsets(
+            state,
+            correlation,
+            asked,
+            out,
+        )),
+        RequestBody::Metadata(asked) => only_reads(reply_to_metadata(
+            state,
+            correlation,
+            asked,
+            out,
+        )),
         RequestBody::OffsetCommit(asked) => reply_to_offset_commit(state, correlation, asked, out),
-        RequestBody::OffsetFetch(asked) => reply_to_offset_fetch(state, correlation, asked, out),
+        RequestBody::OffsetFetch(asked) => only_reads(reply_to_offset_fetch(
+            state,
+            correlation,
+            asked,
+            out,
+        )),
         RequestBody::FindCoordinator(asked) => {
-            reply_to_find_coordinator(state, correlation, asked, out)
+            only_reads(reply_to_find_coordinator(state, correlation, asked, out))
         }
-        RequestBody::ApiVersions(asked) => reply_to_api_versions(correlation, asked, out),
+        RequestBody::ApiVersions(asked) => {
+            only_reads(reply_to_api_versions(correlation, asked, out))
+        }
         RequestBody::InitProducerId(asked) => {
             reply_to_init_producer_id(state, correlation, asked, out)
         }
         RequestBody::Deliver(asked) => reply_to_deliver(state, correlation, asked, out),
         RequestBody::Clean(asked) => reply_to_clean(state, correlation, asked, out),
-        RequestBody::Export(asked) => reply_to_export(state, correlation, asked, out),
-        RequestBody::ExportDelta(asked) => reply_to_export_delta(state, correlation, asked, out),
+        RequestBody::Export(asked) => only_reads(reply_to_export(state, correlation, asked, out)),
+        RequestBody::ExportDelta(asked) => only_reads(reply_to_export_delta(
+            state,
+            correlation,
+            asked,
+            out,
+        )),
         RequestBody::Import(asked) => reply_to_import(state, correlation, asked, out),
         RequestBody::ImportDelta(asked) => reply_to_import_delta(state, correlation, asked, out),
-        RequestBody::Get(asked) => reply_to_get(state, correlation, asked, out),
-        RequestBody::Cover(asked) => reply_to_cover(state, correlation, asked, out),
+        RequestBody::Get(asked) => only_reads(reply_to_get(state, correlation, asked, out)),
+        RequestBody::Cover(asked) => only_reads(reply_to_cover(state, correlation, asked, out)),
         RequestBody::ForgetGroup(asked) => reply_to_forget_group(state, correlation, asked, out),
         RequestBody::Trim(asked) => reply_to_trim(state, correlation, asked, out),
     }
@@ -107,6 +141,7 @@ impl<S: BatchStore> Node<S> {
     ///
     /// `AllocError` where there is no memory for the response. Then nothing was done, and the output
     /// is as before.
+    #[tactic(auto, using(crate::proofs::ToldReplies::exactly_handled))]
     pub fn handle<A: Allocator + Copy>(
         &mut self,
         request: &Request<'_>,
@@ -118,11 +153,35 @@ impl<S: BatchStore> Node<S> {
             ((self.new ≡ self.old) × (out.new.items ≡ out.old.items)) }
         ensures is_sound { IsSound self.new }
     {
+        self.handle_exactly(request, out)?;
+        Ok(answer_to(&request.body))
+    }
+
+    /// Handles a request as `handle` does, and tells whether memory sufficed for it, where it may change
+    /// something: then the reply and the state after are those that the state and the request make. Of a
+    /// request that only reads it is always told that memory sufficed.
+    ///
+    /// Of a Produce request with acks 0 it is told too, though no client sees it.
+    ///
+    /// # Errors
+    ///
+    /// `AllocError` where there is no memory for the response. Then nothing was done, and the output is as
+    /// before.
+    pub fn handle_exactly<A: Allocator + Copy>(
+        &mut self,
+        request: &Request<'_>,
+        out: &mut Vec<u8, A>,
+    ) -> Result<Memory, AllocError>
+        ensures handles { IfOk result (λ memory. HandlesExactly self.old (request_value request.now)
+            out.old.items out.new.items memory self.new) }
+        ensures unchanged_on_error { OnErr result
+            ((self.new ≡ self.old) × (out.new.items ≡ out.old.items)) }
+        ensures is_sound { IsSound self.new }
+    {
         complete_indexes(&mut self.state, &request.body);
         let replied = reply_to(&mut self.state, request, out);
         // Known for the caller, whatever is answered.
         self.state.know_sound();
-        replied?;
-        Ok(answer_to(&request.body))
+        replied
     }
 }

@@ -5,14 +5,17 @@
 //!
 //! A reply is a function of the state and the request: the bytes of one response or none, and the state
 //! after. Where memory runs out within one partition, that partition is answered with a storage error
-//! and is as it was.
+//! and is as it was. [`Node::handle_exactly`] tells whether that happened.
+//!
+//! Where it didn't, the reply and the state after are those that the state and the request make
+//! (`specs/Exactly`), so requests that were told so can be handled again to the same state.
 #![tactic(auto)]
 
 mod changes;
 mod handling;
 mod node;
 
-pub use answering::ErrorCode;
+pub use answering::{ErrorCode, Memory};
 pub use broker_state::{
     Config, ConfigError, GROUP_TOPIC, MAX_HOST_BYTES, MAX_PARTITIONS, MAX_TOPICS, Role, TopicConfig,
 };

@@ -6,6 +6,8 @@ use Rattle.partition_log.specs.declared.leader.AppendError.{AppendError}
 use Rattle.partition_log.specs.declared.leader.AppendError.TheVariants as append
 use Rattle.answering.specs.declared.codes.ErrorCode.{ErrorCode}
 use Rattle.answering.specs.declared.codes.ErrorCode.TheVariants.{CorruptMessage, UnsupportedForMessageFormat, MessageTooLarge, UnsupportedCompression, InvalidRecord, InvalidTransactionState, StorageError, InvalidProducerEpoch, OutOfOrderSequence, UnknownServerError}
+use Rattle.answering.specs.declared.memory.Refused.{Refused}
+use Rattle.answering.specs.declared.memory.Refused.TheVariants as refused
 
 -- of bytes that are no batch
 abbrev pub batch_code : BatchError → ErrorCode
@@ -31,3 +33,8 @@ append_code append.OldEpoch = InvalidProducerEpoch
 append_code append.OutOfOrder = OutOfOrderSequence
 append_code append.OffsetsFull = UnknownServerError
 append_code append.OutOfMemory = StorageError
+
+-- why an entry is refused whose batch a leader does not append
+abbrev pub append_refused : AppendError → Refused
+append_refused append.OutOfMemory = refused.OutOfMemory
+append_refused e = refused.Check (append_code e)

@@ -1,9 +1,9 @@
-//! The error codes that answer each refusal of a batch.
+//! How each refusal of a batch is answered.
 
 ghost use Rattle.std.specs.Prelude.{◌≡◌};
-ghost use Rattle.broker_state.specs.Codes.{batch_code, append_code};
+ghost use Rattle.broker_state.specs.Codes.{batch_code, append_refused};
 
-use answering::ErrorCode;
+use answering::{ErrorCode, Refused};
 use batch_codec::BatchError;
 use partition_log::AppendError;
 
@@ -25,17 +25,17 @@ pub(crate) fn batch_code(fault: BatchError) -> ErrorCode
     }
 }
 
-/// The code that answers a batch that a leader does not append.
-pub fn append_code(fault: AppendError) -> ErrorCode
-    ensures { result ≡ append_code fault }
+/// Why an entry is refused whose batch a leader does not append.
+pub fn append_refused(fault: AppendError) -> Refused
+    ensures { result ≡ append_refused fault }
 {
     match fault {
         AppendError::NotWhole | AppendError::NoKey | AppendError::BadProducer => {
-            ErrorCode::InvalidRecord
+            Refused::Check(ErrorCode::InvalidRecord)
         }
-        AppendError::OldEpoch => ErrorCode::InvalidProducerEpoch,
-        AppendError::OutOfOrder => ErrorCode::OutOfOrderSequence,
-        AppendError::OffsetsFull => ErrorCode::UnknownServerError,
-        AppendError::OutOfMemory => ErrorCode::StorageError,
+        AppendError::OldEpoch => Refused::Check(ErrorCode::InvalidProducerEpoch),
+        AppendError::OutOfOrder => Refused::Check(ErrorCode::OutOfOrderSequence),
+        AppendError::OffsetsFull => Refused::Check(ErrorCode::UnknownServerError),
+        AppendError::OutOfMemory => Refused::OutOfMemory,
     }
 }

@@ -22,7 +22,7 @@ mod topic;
 pub use append::Append;
 pub use batches::one_batch;
 pub use change::Change;
-pub use codes::append_code;
+pub use codes::append_refused;
 pub use config::{Config, Role, TopicConfig};
 pub use error::ConfigError;
 pub use limits::{GROUP_TOPIC, MAX_HOST_BYTES, MAX_PARTITIONS, MAX_TOPICS};

@@ -1,5 +1,5 @@
 -- What a delivery to a copy comes to, by the tests of a reply.
-use Rattle.std.proofs.Common.{◌≡◌, ◌⊎◌, inl, inr, ℕ, ℤ, Bool, true, false, List, [], ◌∷◌, Option, Some, None, Result, Ok, Err, refl, sym, ap, ◌∙◌, arith}
+use Rattle.std.proofs.Common.{◌≡◌, inl, inr, ℕ, ℤ, Bool, true, false, List, [], ◌∷◌, Option, Some, None, Result, Ok, Err, refl, sym, ap, ◌∙◌, arith}
 use Rattle.std.specs.Prelude.{◌≤ℤ◌, ◌&&◌, ◌↔◌, not, int_le, IfOk, IfErr, OnOk, OnErr}
 use Rattle.std.specs.Option.{option_map}
 use Rattle.std.specs.Int.{int_max}
@@ -17,15 +17,14 @@ use Rattle.content.specs.declared.delivery.DeliverError.{DeliverError}
 use Rattle.content.specs.declared.delivery.DeliverError.TheVariants.{NotWhole, NoKey, BadOffset, Overlap, OutOfMemory}
 use Rattle.copy_deltas.specs.Below.{has_any}
 use Rattle.copy_deltas.proofs.Below.{none_covered, covered_none}
-use Rattle.answering.specs.declared.codes.ErrorCode.{ErrorCode}
-use Rattle.answering.specs.declared.codes.ErrorCode.TheVariants.{StorageError}
+use Rattle.answering.specs.declared.memory.Refused.{Refused}
 use Rattle.answering.specs.Lists.{first_some, fault_if}
 use Rattle.broker_state.specs.State.{State, content_at, with_content}
 use Rattle.broker_state.specs.Batches.{has_keys, batch_checks}
 use Rattle.broker_state.specs.Changes.{ChangesAt}
 use Rattle.broker_state.proofs.AppendFaults.{whole, not_whole, keyed, not_keyed}
 use Rattle.broker_state.proofs.OwnContent.{unchanged_at}
-use Rattle.copy_requests.specs.Codes.{deliver_code}
+use Rattle.copy_requests.specs.Codes.{deliver_code, deliver_refused}
 use Rattle.copy_requests.specs.Deliver.{is_in_range, has_seen_none, deliver_fault}
 use Rattle.copy_requests.specs.Deliver.Entries.{bytes_checks, DeliversBytesAt}
 use Rattle.copy_requests.specs.Outcomes.{IsDeliverFault, Delivers}
@@ -153,15 +152,14 @@ module _ (s after : State) (name : List ℕ) (p : ℤ) (bytes : List ℕ) (b : B
   fails : (e : DeliverError) → deliver_fault here b ≡ Some e → first_some (bytes_checks here bytes) ≡ Some (deliver_code e)
   fails e fault = checks_are ∙ ap (option_map deliver_code) fault
 
-  refusal : (e : DeliverError) → IsDeliverFault e (deliver_fault here b) → (e ≡ OutOfMemory → has_seen_all here b ≡ false)
-      → (first_some (bytes_checks here bytes) ≡ Some (deliver_code e))
-      ⊎ (first_some (bytes_checks here bytes) ≡ None) × (has_seen_all here (batch_of bytes) ≡ false) × (deliver_code e ≡ StorageError)
-  refusal NotWhole fault new = inl (fails NotWhole fault)
-  refusal NoKey fault new = inl (fails NoKey fault)
-  refusal BadOffset fault new = inl (fails BadOffset fault)
-  refusal Overlap fault new = inl (fails Overlap fault)
-  refusal OutOfMemory fault new = inr (checks_are ∙ ap (option_map deliver_code) fault, ap (has_seen_all here) (sym is) ∙ new refl, refl)
+  refusal : (e : DeliverError) → IsDeliverFault e (deliver_fault here b) → (e ≡ OutOfMemory → has_seen_all here b ≡ false) → after ≡ s
+      → DeliversBytesAt s name p bytes (Err (deliver_refused e)) after
+  refusal NotWhole fault new same = (fails NotWhole fault, same)
+  refusal NoKey fault new same = (fails NoKey fault, same)
+  refusal BadOffset fault new same = (fails BadOffset fault, same)
+  refusal Overlap fault new same = (fails Overlap fault, same)
+  refusal OutOfMemory fault new same = (checks_are ∙ ap (option_map deliver_code) fault, ap (has_seen_all here) (sym is) ∙ new refl, same)
 
-  pub is_not_taken : (e : DeliverError) (code : ErrorCode) → code ≡ deliver_code e → ChangesAt (Delivers b (Err e)) s name p after → DeliversBytesAt s name p bytes (Err code) after
-  is_not_taken e code same h =
-      rw same (refusal e h.1.0 h.1.1, unchanged_at s after name p h.0 h.1.2 h.2)
+  pub is_not_taken : (e : DeliverError) (refused : Refused) → refused ≡ deliver_refused e → ChangesAt (Delivers b (Err e)) s name p after → DeliversBytesAt s name p bytes (Err refused) after
+  is_not_taken e refused same h =
+      rw same (refusal e h.1.0 h.1.1 (unchanged_at s after name p h.0 h.1.2 h.2))

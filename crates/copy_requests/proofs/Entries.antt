@@ -15,7 +15,10 @@ use Rattle.request_frames.specs.Deliver.{DeliverValue}
 use Rattle.request_frames.specs.Clean.{CleanValue}
 use Rattle.request_frames.specs.Import.{ImportValue}
 use Rattle.answering.specs.declared.codes.ErrorCode.{ErrorCode}
-use Rattle.answering.specs.declared.codes.ErrorCode.TheVariants.{UnknownTopicOrPartition, CorruptMessage, StorageError}
+use Rattle.answering.specs.declared.codes.ErrorCode.TheVariants.{UnknownTopicOrPartition, CorruptMessage}
+use Rattle.answering.specs.declared.memory.Memory.TheVariants.{Sufficed}
+use Rattle.answering.specs.declared.memory.Refused.{Refused}
+use Rattle.answering.specs.declared.memory.Refused.TheVariants.{Check, OutOfMemory}
 use Rattle.answering.specs.Codes.{no_error}
 use Rattle.answering.specs.Lists.{first_some, fault_if}
 use Rattle.broker_state.specs.State.{State, content_at, with_content, is_known, partition_at}
@@ -27,15 +30,17 @@ use Rattle.copy_requests.specs.Deliver.{deliver_checks, deliver_work}
 use Rattle.copy_requests.specs.Deliver.Entries.{bytes_checks, DeliversBytesAt, delivered_answer}
 use Rattle.copy_requests.specs.Clean.{clean_result, clean_work}
 use Rattle.copy_requests.specs.Import.{import_role_fault, import_fault, imported, imported_answer, import_work}
-use Rattle.copy_requests.specs.Import.Images.{place_checks}
+use Rattle.copy_requests.specs.Import.Images.{IsReadAs, place_checks}
 use Rattle.answering.specs.Work.{Work, answer_after, MayAnswer}
+use Rattle.answering.specs.Telling.{AnswersTold}
 use Rattle.answering.specs.Once.{WritesOnce}
-use Rattle.answering.specs.Doing.{FailsWork, DoesWork}
+use Rattle.answering.specs.Doing.{FailsWork, DoesWork, DoesTold}
 use Rattle.copy_requests.specs.Export.{ExportResult}
 use Rattle.copy_requests.specs.Get.{GetResult}
 use Rattle.copy_requests.specs.Cover.{CoverResult}
 use Rattle.copy_requests.specs.Outcomes.{Imports, CountsFit}
 use Rattle.answering.proofs.Checks.{one_passes, two_pass, two_fail, none_behind, no_fault, has_fault}
+use Rattle.answering.proofs.Told.{done_told}
 
 -- ---- Deliver
 
@@ -43,18 +48,18 @@ module _ (s : State) (q : DeliverValue) where
   abbrev bytes_here : List (Option ErrorCode)
   bytes_here = bytes_checks (content_at s q.topic q.partition) q.batch
 
-  pub deliver_place_fails : (code : ErrorCode) → first_some (unknown s q.topic q.partition ∷ not_follower s ∷ []) ≡ Some code → DoesWork (deliver_work s q) delivered_answer (Err code) s s
-  deliver_place_fails code h = (inl (none_behind (deliver_checks s q) ∙ two_fail (unknown s q.topic q.partition) (not_follower s) code bytes_here h), refl)
+  pub deliver_place_fails : (code : ErrorCode) → first_some (unknown s q.topic q.partition ∷ not_follower s ∷ []) ≡ Some code → DoesTold (deliver_work s q) delivered_answer (Err (Check code)) s s
+  deliver_place_fails code h = (none_behind (deliver_checks s q) ∙ two_fail (unknown s q.topic q.partition) (not_follower s) code bytes_here h, refl)
 
   rest_decides : first_some (unknown s q.topic q.partition ∷ not_follower s ∷ []) ≡ None → first_some (deliver_checks s q) ≡ first_some bytes_here
   rest_decides none = two_pass (unknown s q.topic q.partition) (not_follower s) bytes_here none
 
-  pub deliver_done : (after : State) (r : Result Delivered ErrorCode) → first_some (unknown s q.topic q.partition ∷ not_follower s ∷ []) ≡ None
-      → DeliversBytesAt s q.topic q.partition q.batch r after → DoesWork (deliver_work s q) delivered_answer r s after
+  pub deliver_done : (after : State) (r : Result Delivered Refused) → first_some (unknown s q.topic q.partition ∷ not_follower s ∷ []) ≡ None
+      → DeliversBytesAt s q.topic q.partition q.batch r after → DoesTold (deliver_work s q) delivered_answer r s after
   deliver_done after (Ok d) none h =
       (none_behind (deliver_checks s q) ∙ rest_decides none ∙ h.0, (λ i. (record { code = pos 0; repeat = h.1 i }, h.2 i)))
-  deliver_done after (Err code) none (inl fails, same) = (inl (none_behind (deliver_checks s q) ∙ rest_decides none ∙ fails), same)
-  deliver_done after (Err code) none (inr lacks, same) = (inr (rest_decides none ∙ lacks.0, ap not lacks.1, lacks.2), same)
+  deliver_done after (Err (Check code)) none h = (none_behind (deliver_checks s q) ∙ rest_decides none ∙ h.0, h.1)
+  deliver_done after (Err OutOfMemory) none h = (rest_decides none ∙ h.0, ap not h.1, h.2)
 
 -- ---- Import
 
@@ -77,26 +82,26 @@ module _ (s : State) (q : ImportValue) where
   early_but_place : place_passes → first_some (import_work s q).early ≡ first_some (image_check (image_at q.image) ∷ [])
   early_but_place none = two_pass (unknown s q.topic q.partition) (import_role_fault s.config.role here) (image_check (image_at q.image) ∷ []) none
 
-  pub import_place_fails : (code : ErrorCode) → first_some (place_checks s q.topic q.partition) ≡ Some code → DoesWork (import_work s q) imported_answer (Err code) s s
-  import_place_fails code h = (inl (two_fail (unknown s q.topic q.partition) (import_role_fault s.config.role here) code (image_check (image_at q.image) ∷ late (image_at q.image) ∷ []) h), refl)
+  pub import_place_fails : (code : ErrorCode) → first_some (place_checks s q.topic q.partition) ≡ Some code → DoesTold (import_work s q) imported_answer (Err (Check code)) s s
+  import_place_fails code h = (two_fail (unknown s q.topic q.partition) (import_role_fault s.config.role here) code (image_check (image_at q.image) ∷ late (image_at q.image) ∷ []) h, refl)
 
-  pub import_no_image : place_passes → image_at q.image ≡ None → DoesWork (import_work s q) imported_answer (Err CorruptMessage) s s
-  import_no_image none e = (inl (all_but_place none ∙ ap (λ o. first_some (image_check o ∷ late o ∷ [])) e), refl)
+  -- bytes that aren't read as an image
+  pub import_unread : (fault : Refused) → place_passes → IsReadAs q.image (Err fault) → DoesTold (import_work s q) imported_answer (Err fault) s s
+  import_unread (Check code) none h =
+      (all_but_place none ∙ ap (λ o. first_some (image_check o ∷ late o ∷ [])) h.0 ∙ ap Some (sym h.1), refl)
+  import_unread OutOfMemory none (c, e) = (early_but_place none ∙ ap (λ o. first_some (image_check o ∷ [])) e, refl, refl)
 
-  pub import_lacks_memory : (c : Content) → place_passes → image_at q.image ≡ Some c → DoesWork (import_work s q) imported_answer (Err StorageError) s s
-  import_lacks_memory c none e = (inr (early_but_place none ∙ ap (λ o. first_some (image_check o ∷ [])) e, refl, refl), refl)
-
-  pub import_done : (c : Content) (after : State) (r : Result (Unit {0}) ErrorCode) → place_passes → image_at q.image ≡ Some c
-      → ChangesAt (Imports s.config.role c r) s q.topic q.partition after → DoesWork (import_work s q) imported_answer r s after
+  pub import_done : (c : Content) (after : State) (r : Result (Unit {0}) Refused) → place_passes → image_at q.image ≡ Some c
+      → ChangesAt (Imports s.config.role c r) s q.topic q.partition after → DoesTold (import_work s q) imported_answer r s after
   import_done c after (Ok u) none e h =
       let given : unwrap_or (image_at q.image) empty ≡ c = ap (λ o. unwrap_or o empty) e in (
         all_but_place none ∙ ap (λ o. first_some (image_check o ∷ late o ∷ [])) e ∙ ap (λ x. first_some (x ∷ [])) h.1.0,
         (λ i. (imported_answer tt, (h.2 ∙ ap (with_content s q.topic q.partition) (h.1.1 ∙ ap (imported s.config.role here) (sym given))) i)),
       )
-  import_done c after (Err code) none e (there, (inl fails, same), changed) =
-      (inl (all_but_place none ∙ ap (λ o. first_some (image_check o ∷ late o ∷ [])) e ∙ ap (λ x. first_some (x ∷ [])) fails), unchanged_at s after q.topic q.partition there same changed)
-  import_done c after (Err code) none e (there, (inr lacks, same), changed) =
-      (inr (early_but_place none ∙ ap (λ o. first_some (image_check o ∷ [])) e, refl, lacks.1), unchanged_at s after q.topic q.partition there same changed)
+  import_done c after (Err (Check code)) none e (there, (fails, same), changed) =
+      (all_but_place none ∙ ap (λ o. first_some (image_check o ∷ late o ∷ [])) e ∙ ap (λ x. first_some (x ∷ [])) fails, unchanged_at s after q.topic q.partition there same changed)
+  import_done c after (Err OutOfMemory) none e (there, (passes, same), changed) =
+      (early_but_place none ∙ ap (λ o. first_some (image_check o ∷ [])) e, refl, unchanged_at s after q.topic q.partition there same changed)
 
 -- ---- Clean
 
@@ -109,8 +114,8 @@ unknown_fails s name p none = has_fault (not (is_known s name p)) UnknownTopicOr
 pub found_passes : (s : State) (name : List ℕ) (p : ℤ) (c : Content) → partition_at s name p ≡ Some c → (unknown s name p ≡ None) × (content_at s name p ≡ c)
 found_passes s name p c there = (known_passes s name p (ap is_some there), ap (λ o. unwrap_or o empty) there)
 
-pub clean_lacks_memory : (s after : State) (q : CleanValue) → is_known s q.topic q.partition ≡ true → after ≡ s → DoesWork (clean_work s q) clean_result (Err StorageError) s after
-clean_lacks_memory s after q known same = (inr (one_passes (unknown s q.topic q.partition) [] (known_passes s q.topic q.partition known), refl, refl), same)
+pub clean_lacks_memory : (s after : State) (q : CleanValue) → is_known s q.topic q.partition ≡ true → after ≡ s → DoesTold (clean_work s q) clean_result (Err OutOfMemory) s after
+clean_lacks_memory s after q known same = (one_passes (unknown s q.topic q.partition) [] (known_passes s q.topic q.partition known), refl, same)
 
 -- ---- what is answered
 
@@ -126,14 +131,14 @@ pub written : {R S : Type 0} (sent : ℤ → R → List ℕ) (w : Work R S) (s a
 written sent w s after r n z out out' same may e = record { result = r; answers = may; appends = e ∙ ap (λ m. out ++ sent m r) same }
 
 -- the counts of a report are numbers of 64 bits
-pub clean_answers : (s after : State) (q : CleanValue) (report : CleanReport) → CountsFit report → DoesWork (clean_work s q) clean_result (Ok report) s after
-    → MayAnswer (clean_work s q) s (record { code = pos 0; records = to_z w64 report.records; tombstones = to_z w64 report.tombstones; batches = to_z w64 report.batches }) after
+pub clean_answers : (s after : State) (q : CleanValue) (report : CleanReport) → CountsFit report → DoesTold (clean_work s q) clean_result (Ok report) s after
+    → AnswersTold Sufficed (clean_work s q) s (record { code = pos 0; records = to_z w64 report.records; tombstones = to_z w64 report.tombstones; batches = to_z w64 report.batches }) after
 clean_answers s after q report fit did =
     let records = to_z_pos w64 report.records fit.records in
     let tombstones = to_z_pos w64 report.tombstones fit.tombstones in
     let batches = to_z_pos w64 report.batches fit.batches in
-    subst (λ r. MayAnswer (clean_work s q) s r after) (λ i. record { code = pos 0; records = sym records i; tombstones = sym tombstones i; batches = sym batches i })
-    (done_answers (clean_work s q) clean_result report s after did)
+    subst (λ r. AnswersTold Sufficed (clean_work s q) s r after) (λ i. record { code = pos 0; records = sym records i; tombstones = sym tombstones i; batches = sym batches i })
+    (done_told (clean_work s q) clean_result report s after did)
 
 -- ---- what requests that only read find
 

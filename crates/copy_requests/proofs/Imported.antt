@@ -1,5 +1,5 @@
 -- What an image that comes is read as, and what becomes of the copy.
-use Rattle.std.proofs.Common.{◌≡◌, inl, inr, ℕ, ℤ, negsuc, ◌+ℤ◌, true, List, Option, Some, None, Ok, Err, refl, ap, arith}
+use Rattle.std.proofs.Common.{◌≡◌, ℕ, ℤ, negsuc, ◌+ℤ◌, true, List, Option, Some, None, Ok, Err, refl, sym, ap, subst, arith}
 use Rattle.std.specs.Prelude.{not}
 use Rattle.std.proofs.lemmas.Int.{ints}
 use Rattle.cover_ranges.proofs.RunEnds.{has_all_covers, covers_has_all}
@@ -16,10 +16,11 @@ use Rattle.copy_images.proofs.FirstFaults.{not_refused}
 use Rattle.copy_deltas.specs.Below.{agree}
 use Rattle.copy_deltas.specs.Below.{IsFirstDisagreement}
 use Rattle.copy_deltas.proofs.Below.{decided}
-use Rattle.answering.specs.declared.codes.ErrorCode.{ErrorCode}
-use Rattle.answering.specs.declared.codes.ErrorCode.TheVariants.{InvalidRequest, StorageError}
+use Rattle.answering.specs.declared.codes.ErrorCode.TheVariants.{InvalidRequest}
+use Rattle.answering.specs.declared.memory.Refused.{Refused}
+use Rattle.answering.specs.declared.memory.Refused.TheVariants as refused
 use Rattle.broker_state.specs.declared.config.Role.TheVariants.{Leader, Follower}
-use Rattle.copy_requests.specs.Codes.{image_code}
+use Rattle.copy_requests.specs.Codes.{image_refused}
 use Rattle.copy_requests.specs.Import.{is_gapless, import_fault}
 use Rattle.copy_requests.specs.Import.Images.{IsReadAs}
 use Rattle.copy_requests.specs.Outcomes.{Imports}
@@ -41,16 +42,19 @@ read_as_none bytes e fits refused other = by (image_at bytes) refl
     by (Some c) h = absurd (other (not_refused bytes c e (image_read bytes c fits h) refused))
 
 -- a refusal says that the bytes are no image, or that memory lacks for one
-pub read_fails : (bytes : List ℕ) (e : ImageError) (code : ErrorCode) → IsBytes bytes → Refuses bytes e → code ≡ image_code e → IsReadAs bytes (Err code)
-read_fails bytes OutOfMemory code fits refused is = inr (read_without_memory bytes refused, is)
-read_fails bytes Short code fits refused is = inl (read_as_none bytes Short fits refused (λ same. absurd cc), is)
-read_fails bytes BadMark code fits refused is = inl (read_as_none bytes BadMark fits refused (λ same. absurd cc), is)
-read_fails bytes BadVersion code fits refused is = inl (read_as_none bytes BadVersion fits refused (λ same. absurd cc), is)
-read_fails bytes BadCrc code fits refused is = inl (read_as_none bytes BadCrc fits refused (λ same. absurd cc), is)
-read_fails bytes BadCover code fits refused is = inl (read_as_none bytes BadCover fits refused (λ same. absurd cc), is)
-read_fails bytes (BadBatch i) code fits refused is = inl (read_as_none bytes (BadBatch i) fits refused (λ same. absurd cc), is)
-read_fails bytes Outside code fits refused is = inl (read_as_none bytes Outside fits refused (λ same. absurd cc), is)
-read_fails bytes Extra code fits refused is = inl (read_as_none bytes Extra fits refused (λ same. absurd cc), is)
+fails : (bytes : List ℕ) (e : ImageError) → IsBytes bytes → Refuses bytes e → IsReadAs bytes (Err (image_refused e))
+fails bytes OutOfMemory fits refuses = read_without_memory bytes refuses
+fails bytes Short fits refuses = (read_as_none bytes Short fits refuses (λ same. absurd cc), refl)
+fails bytes BadMark fits refuses = (read_as_none bytes BadMark fits refuses (λ same. absurd cc), refl)
+fails bytes BadVersion fits refuses = (read_as_none bytes BadVersion fits refuses (λ same. absurd cc), refl)
+fails bytes BadCrc fits refuses = (read_as_none bytes BadCrc fits refuses (λ same. absurd cc), refl)
+fails bytes BadCover fits refuses = (read_as_none bytes BadCover fits refuses (λ same. absurd cc), refl)
+fails bytes (BadBatch i) fits refuses = (read_as_none bytes (BadBatch i) fits refuses (λ same. absurd cc), refl)
+fails bytes Outside fits refuses = (read_as_none bytes Outside fits refuses (λ same. absurd cc), refl)
+fails bytes Extra fits refuses = (read_as_none bytes Extra fits refuses (λ same. absurd cc), refl)
+
+pub read_fails : (bytes : List ℕ) (e : ImageError) (refused : Refused) → IsBytes bytes → Refuses bytes e → refused ≡ image_refused e → IsReadAs bytes (Err refused)
+read_fails bytes e refused fits refuses is = subst (λ r. IsReadAs bytes (Err r)) (sym is) (fails bytes e fits refuses)
 
 -- ---- a leader's log
 
@@ -64,9 +68,9 @@ pub leads : (here given after : Content) → IsContent given → after ≡ given
 leads here given after is same no_gap =
     (no_fault (not (is_gapless given)) InvalidRequest (ap not (gapless given is no_gap)), same)
 
-pub does_not_lead : (here given : Content) → ¬ IsGapless given → Imports Leader given (Err InvalidRequest) here here
+pub does_not_lead : (here given : Content) → ¬ IsGapless given → Imports Leader given (Err (refused.Check InvalidRequest)) here here
 does_not_lead here given gap =
-    (inl (has_fault (not (is_gapless given)) InvalidRequest (ap not (not_true (is_gapless given) (λ e. gap (gapless_back given e))))), refl)
+    (has_fault (not (is_gapless given)) InvalidRequest (ap not (not_true (is_gapless given) (λ e. gap (gapless_back given e)))), refl)
 
 -- ---- a copy that follows
 
@@ -77,11 +81,11 @@ module _ (here given : Content) (is : IsContent here) (is_given : IsContent give
   pub merges : (after : Content) → after ≡ join here given → Agree here given → Imports Follower given (Ok tt) here after
   merges after same h = (agreed h, same)
 
-  pub merges_without_memory : (after : Content) → Agree here given → after ≡ here → Imports Follower given (Err StorageError) here after
-  merges_without_memory after h same = (inr (agreed h, refl), same)
+  pub merges_without_memory : (after : Content) → Agree here given → after ≡ here → Imports Follower given (Err refused.OutOfMemory) here after
+  merges_without_memory after h same = (agreed h, same)
 
-  pub disagrees : (after : Content) (base : ℤ) → IsFirstDisagreement here given base → after ≡ here → Imports Follower given (Err InvalidRequest) here after
+  pub disagrees : (after : Content) (base : ℤ) → IsFirstDisagreement here given base → after ≡ here → Imports Follower given (Err (refused.Check InvalidRequest)) here after
   disagrees after base least same = (
-    inl (has_fault (not (agree here given)) InvalidRequest (ap not (not_true (agree here given) (λ e. least.0 ((decided here given is is_given).0 e base))))),
+    has_fault (not (agree here given)) InvalidRequest (ap not (not_true (agree here given) (λ e. least.0 ((decided here given is is_given).0 e base)))),
     same,
   )

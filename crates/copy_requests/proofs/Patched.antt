@@ -1,5 +1,5 @@
 -- What becomes of a copy for which bytes come as a delta.
-use Rattle.std.proofs.Common.{◌≡◌, ◌≢◌, ◌⊎◌, inl, inr, ℕ, Bool, true, false, List, [], ◌∷◌, Option, Some, None, Ok, Err, refl, sym, ap, ◌∙◌}
+use Rattle.std.proofs.Common.{◌≡◌, ◌≢◌, ◌⊎◌, inl, inr, ℕ, Bool, true, false, List, [], ◌∷◌, Option, Some, None, Ok, Err, refl, sym, ap, subst, ◌∙◌}
 use Rattle.std.specs.Prelude.{not, is_none}
 use Rattle.std.specs.Option.{unwrap_or}
 use Rattle.content.specs.Content.{Content, IsContent, empty}
@@ -25,10 +25,12 @@ use Rattle.copy_deltas.specs.Applying.{TakesDelta, RefusesDelta}
 use Rattle.copy_deltas.specs.Deciding.{accepts}
 use Rattle.copy_deltas.proofs.Decided.{acceptance_decided}
 use Rattle.answering.specs.declared.codes.ErrorCode.{ErrorCode}
-use Rattle.answering.specs.declared.codes.ErrorCode.TheVariants.{CorruptMessage, InvalidRequest, StorageError}
+use Rattle.answering.specs.declared.codes.ErrorCode.TheVariants.{CorruptMessage, InvalidRequest}
+use Rattle.answering.specs.declared.memory.Refused.{Refused}
+use Rattle.answering.specs.declared.memory.Refused.TheVariants as refused
 use Rattle.answering.specs.Lists.{first_some, fault_if}
 use Rattle.answering.proofs.Checks.{not_true}
-use Rattle.copy_requests.specs.Codes.{patch_code}
+use Rattle.copy_requests.specs.Codes.{patch_code, patch_refused}
 use Rattle.copy_requests.specs.ImportDelta.{given_delta, delta_faults}
 use Rattle.copy_requests.specs.Outcomes.{Patches}
 
@@ -50,19 +52,19 @@ both_pass true true e = (refl, refl)
 both_pass true false e = absurd cc
 both_pass false accepted e = absurd cc
 
--- of all refusals only the lack of memory has its code
-only_memory : (e : PatchError) → patch_code e ≡ StorageError → e ≡ OutOfMemory
-only_memory OutOfMemory h = refl
-only_memory Short h = absurd cc
-only_memory BadMark h = absurd cc
-only_memory BadVersion h = absurd cc
-only_memory BadCrc h = absurd cc
-only_memory BadCover h = absurd cc
-only_memory (BadBatch i) h = absurd cc
-only_memory Outside h = absurd cc
-only_memory Extra h = absurd cc
-only_memory NotFor h = absurd cc
-only_memory (Disagree base) h = absurd cc
+-- of all refusals only the lack of memory is no check's
+only_memory : (P : Refused → Type 0) (e : PatchError) → e ≢ OutOfMemory → P (patch_refused e) → P (refused.Check (patch_code e))
+only_memory P OutOfMemory other h = absurd (other refl)
+only_memory P Short other h = h
+only_memory P BadMark other h = h
+only_memory P BadVersion other h = h
+only_memory P BadCrc other h = h
+only_memory P BadCover other h = h
+only_memory P (BadBatch i) other h = h
+only_memory P Outside other h = h
+only_memory P Extra other h = h
+only_memory P NotFor other h = h
+only_memory P (Disagree base) other h = h
 
 module _ (here : Content) (bytes : List ℕ) (is : IsContent here) (fits : IsBytes bytes) where
   abbrev judged : Option ErrorCode
@@ -105,30 +107,35 @@ module _ (here : Content) (bytes : List ℕ) (is : IsContent here) (fits : IsByt
   either_fault f g (inl refused) = no_delta f refused
   either_fault f g (inr refused) = no_delta g refused
 
-  refusal : (e : PatchError) → RefusesDelta here bytes e → (judged ≡ Some (patch_code e)) ⊎ (judged ≡ None) × (patch_code e ≡ StorageError)
-  refusal Short h = inl (either_fault (InFront front.Short) (InBody (InRanges ranges.Short)) h)
-  refusal BadMark h = inl (no_delta (InFront front.BadMark) h)
-  refusal BadVersion h = inl (no_delta (InFront front.BadVersion) h)
-  refusal BadCrc h = inl (no_delta (InFront front.BadCrc) h)
-  refusal BadCover h = inl (either_fault (InFront front.BadStart) (InBody (InRanges ranges.BadCover)) h)
-  refusal (BadBatch i) h = inl (no_delta (InBody (InEntries (entries.BadBatch i))) h)
-  refusal Outside h = inl (no_delta (InBody (InEntries entries.Outside)) h)
-  refusal Extra h = inl (no_delta (InBody (InEntries entries.Extra)) h)
-  refusal NotFor (e, read, unknown) = inl (not_known e read (no_unknown here e.asked unknown))
-  refusal (Disagree base) (e, read, is_known, least) = inl (disagrees e read is_known (λ all. least.0 (all base)))
-  refusal OutOfMemory (e, takes) = inr (no_fault e takes, refl)
+  -- what the checks find of bytes that are refused
+  abbrev Finds : Refused → Type 0
+  Finds (refused.Check code) = judged ≡ Some code
+  Finds refused.OutOfMemory = judged ≡ None
 
-  pub does_not_patch : (after : Content) (e : PatchError) (code : ErrorCode) → RefusesDelta here bytes e → after ≡ here → code ≡ patch_code e → Patches bytes (Err code) here after
-  does_not_patch after e code refused same code_is = rw code_is (refusal e refused, same)
+  refusal : (e : PatchError) → RefusesDelta here bytes e → Finds (patch_refused e)
+  refusal Short h = either_fault (InFront front.Short) (InBody (InRanges ranges.Short)) h
+  refusal BadMark h = no_delta (InFront front.BadMark) h
+  refusal BadVersion h = no_delta (InFront front.BadVersion) h
+  refusal BadCrc h = no_delta (InFront front.BadCrc) h
+  refusal BadCover h = either_fault (InFront front.BadStart) (InBody (InRanges ranges.BadCover)) h
+  refusal (BadBatch i) h = no_delta (InBody (InEntries (entries.BadBatch i))) h
+  refusal Outside h = no_delta (InBody (InEntries entries.Outside)) h
+  refusal Extra h = no_delta (InBody (InEntries entries.Extra)) h
+  refusal NotFor (e, read, unknown) = not_known e read (no_unknown here e.asked unknown)
+  refusal (Disagree base) (e, read, is_known, least) = disagrees e read is_known (λ all. least.0 (all base))
+  refusal OutOfMemory (e, takes) = no_fault e takes
+
+  pub does_not_patch : (after : Content) (e : PatchError) (r : Refused) → RefusesDelta here bytes e → after ≡ here → r ≡ patch_refused e → Patches bytes (Err r) here after
+  does_not_patch after e r refuses same is = subst (λ x. Patches bytes (Err x) here after) (sym is) (by (patch_refused e) (refusal e refuses))
+    where
+      by : (x : Refused) → Finds x → Patches bytes (Err x) here after
+      by (refused.Check code) h = (h, same)
+      by refused.OutOfMemory h = (h, same)
 
   -- ---- the law on the checks
 
   pub refused_fails : (e : PatchError) → e ≢ OutOfMemory → RefusesDelta here bytes e → judged ≡ Some (patch_code e)
-  refused_fails e other refused = by (refusal e refused)
-    where
-      by : (judged ≡ Some (patch_code e)) ⊎ (judged ≡ None) × (patch_code e ≡ StorageError) → judged ≡ Some (patch_code e)
-      by (inl fails) = fails
-      by (inr lacks) = absurd (other (only_memory e lacks.1))
+  refused_fails e other refuses = only_memory Finds e other (refusal e refuses)
 
   pub takes_passes : (e : Delta) × TakesDelta here bytes e → judged ≡ None
   takes_passes (e, takes) = no_fault e takes

@@ -1,5 +1,5 @@
 -- What the checks of a Trim find, and what becomes of the copy.
-use Rattle.std.proofs.Common.{◌≡◌, ◌≢◌, ◌⊎◌, inl, inr, ℤ, Bool, true, false, ◌||◌, not, [], ◌∷◌, ◌++◌, Some, None, Option, Result, Ok, Err, refl, sym, ap, subst, ◌∙◌, true≢false, arith}
+use Rattle.std.proofs.Common.{◌≡◌, ◌≢◌, ◌⊎◌, inl, inr, ℤ, Bool, true, false, ◌||◌, not, [], ◌∷◌, ◌++◌, Some, None, Option, Ok, Err, refl, sym, ap, subst, ◌∙◌, true≢false, arith}
 use Rattle.std.specs.Prelude.{◌≤ℤ◌, int_lt, is_some}
 use Rattle.std.specs.Ordering.{int_eq}
 use Rattle.std.proofs.lemmas.Int.{ints}
@@ -11,8 +11,9 @@ use Rattle.partition_log.specs.declared.trim.TrimError.{TrimError}
 use Rattle.partition_log.specs.declared.trim.TrimError.TheVariants.{BelowStart, PastEnd, NotABase, OutOfMemory}
 use Rattle.answering.specs.declared.codes.ErrorCode.{ErrorCode}
 use Rattle.answering.specs.declared.codes.ErrorCode.TheVariants.{OffsetOutOfRange, InvalidRequest}
+use Rattle.answering.specs.declared.memory.Refused.TheVariants as refused
 use Rattle.answering.specs.Lists.{first_some, fault_if}
-use Rattle.answering.specs.Doing.{DoesWork}
+use Rattle.answering.specs.Doing.{DoesTold}
 use Rattle.answering.proofs.Checks.{not_true, none_behind, one_passes}
 use Rattle.request_frames.specs.Trim.{TrimValue}
 use Rattle.broker_state.specs.State.{State, content_at, with_content, is_known}
@@ -114,10 +115,13 @@ faults_are : (s : State) (q : TrimValue) → is_known s q.topic q.partition ≡ 
 faults_are s q known =
     none_behind (trim_work s q).early ∙ one_passes (unknown s q.topic q.partition) (trim_faults (content_at s q.topic q.partition) q.start) (known_passes s q.topic q.partition known)
 
-pub trim_done : (s after : State) (q : TrimValue) (r : Result (Unit {0}) ErrorCode) → is_known s q.topic q.partition ≡ true → ChangesAt (Trims q.start r) s q.topic q.partition after → DoesWork (trim_work s q) trimmed_answer r s after
-trim_done s after q (Ok u) known (there, (none, cuts), changed) = (
+pub trim_done : (s after : State) (q : TrimValue) → is_known s q.topic q.partition ≡ true → ChangesAt (Trims q.start (Ok tt)) s q.topic q.partition after → DoesTold (trim_work s q) trimmed_answer (Ok tt) s after
+trim_done s after q known (there, (none, cuts), changed) = (
   faults_are s q known ∙ none,
   (λ i. (trimmed_answer tt, (changed ∙ ap (with_content s q.topic q.partition) cuts) i)),
 )
-trim_done s after q (Err code) known (there, (fails, same), changed) =
-    (inl (faults_are s q known ∙ fails), unchanged_at s after q.topic q.partition there same changed)
+
+pub trim_refused : (s after : State) (q : TrimValue) (code : ErrorCode) → is_known s q.topic q.partition ≡ true → ChangesAt (Trims q.start (Err code)) s q.topic q.partition after
+    → DoesTold (trim_work s q) trimmed_answer (Err (refused.Check code)) s after
+trim_refused s after q code known (there, (fails, same), changed) =
+    (faults_are s q known ∙ fails, unchanged_at s after q.topic q.partition there same changed)

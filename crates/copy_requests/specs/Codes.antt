@@ -11,6 +11,8 @@ use Rattle.partition_log.specs.declared.trim.TrimError.{TrimError}
 use Rattle.partition_log.specs.declared.trim.TrimError.TheVariants as trim
 use Rattle.answering.specs.declared.codes.ErrorCode.{ErrorCode}
 use Rattle.answering.specs.declared.codes.ErrorCode.TheVariants.{CorruptMessage, InvalidRecord, OffsetOutOfRange, InvalidRequest, StorageError}
+use Rattle.answering.specs.declared.memory.Refused.{Refused}
+use Rattle.answering.specs.declared.memory.Refused.TheVariants as refused
 
 -- of a batch that a copy does not take
 abbrev pub deliver_code : DeliverError → ErrorCode
@@ -38,3 +40,17 @@ trim_code trim.BelowStart = OffsetOutOfRange
 trim_code trim.PastEnd = OffsetOutOfRange
 trim_code trim.NotABase = InvalidRequest
 trim_code trim.OutOfMemory = StorageError
+
+-- ---- why an entry is refused, by a check or for lack of memory
+
+abbrev pub deliver_refused : DeliverError → Refused
+deliver_refused OutOfMemory = refused.OutOfMemory
+deliver_refused e = refused.Check (deliver_code e)
+
+abbrev pub image_refused : ImageError → Refused
+image_refused image.OutOfMemory = refused.OutOfMemory
+image_refused e = refused.Check (image_code e)
+
+abbrev pub patch_refused : PatchError → Refused
+patch_refused patch.OutOfMemory = refused.OutOfMemory
+patch_refused e = refused.Check (patch_code e)

@@ -1,5 +1,5 @@
 -- What comes of a change that a request asks for, as the code goes; no definition of a reply names it.
-use Rattle.std.specs.Prelude.{◌≡◌, ◌⊎◌, ◌^◌, ◌<◌, ℕ, ℤ, List, Bool, true, false, Option, Some, None, Result, Ok, Err}
+use Rattle.std.specs.Prelude.{◌≡◌, ◌^◌, ◌<◌, ℕ, ℤ, List, Bool, true, false, Option, Some, None, Result, Ok, Err}
 use Rattle.batch_codec.specs.Values.{BatchValue}
 use Rattle.content.specs.declared.delivery.Delivered.{Delivered}
 use Rattle.content.specs.declared.delivery.Delivered.TheVariants.{Added, Repeat}
@@ -10,7 +10,8 @@ use Rattle.content.specs.Cleaning.{clean, clean_report}
 use Rattle.content.specs.Content.{Content, has_seen_all, add, cut}
 use Rattle.deltas.specs.Patches.{patch}
 use Rattle.answering.specs.declared.codes.ErrorCode.{ErrorCode}
-use Rattle.answering.specs.declared.codes.ErrorCode.TheVariants.{StorageError}
+use Rattle.answering.specs.declared.memory.Refused.{Refused}
+use Rattle.answering.specs.declared.memory.Refused.TheVariants as refused
 use Rattle.broker_state.specs.declared.config.Role.{Role}
 use Rattle.copy_requests.specs.Deliver.{deliver_fault}
 use Rattle.answering.specs.Lists.{first_some}
@@ -46,17 +47,16 @@ Cleans upto tomb_before (Ok report) c after =
 Cleans upto tomb_before (Err e) c after = after ≡ c
 
 -- the content that comes is taken, or refused for its fault, or there is no memory
-abbrev pub Imports : Role → (given : Content) → Result (Unit {0}) ErrorCode → Content → Content → Type 0
+abbrev pub Imports : Role → (given : Content) → Result (Unit {0}) Refused → Content → Content → Type 0
 Imports role given (Ok u) here after = (import_fault role here given ≡ None) × (after ≡ imported role here given)
-Imports role given (Err code) here after =
-    ((import_fault role here given ≡ Some code) ⊎ (import_fault role here given ≡ None) × (code ≡ StorageError)) × (after ≡ here)
+Imports role given (Err (refused.Check code)) here after = (import_fault role here given ≡ Some code) × (after ≡ here)
+Imports role given (Err refused.OutOfMemory) here after = (import_fault role here given ≡ None) × (after ≡ here)
 
 -- the delta that the bytes are is taken, or refused for the first fault, or there is no memory
-abbrev pub Patches : List ℕ → Result (Unit {0}) ErrorCode → Content → Content → Type 0
+abbrev pub Patches : List ℕ → Result (Unit {0}) Refused → Content → Content → Type 0
 Patches bytes (Ok u) here after = (first_some (delta_faults here bytes) ≡ None) × (after ≡ patch here (given_delta bytes))
-Patches bytes (Err code) here after =
-    ((first_some (delta_faults here bytes) ≡ Some code) ⊎ (first_some (delta_faults here bytes) ≡ None) × (code ≡ StorageError))
-    × (after ≡ here)
+Patches bytes (Err (refused.Check code)) here after = (first_some (delta_faults here bytes) ≡ Some code) × (after ≡ here)
+Patches bytes (Err refused.OutOfMemory) here after = (first_some (delta_faults here bytes) ≡ None) × (after ≡ here)
 
 -- the start moves, or is refused for the first fault
 abbrev pub Trims : ℤ → Result (Unit {0}) ErrorCode → Content → Content → Type 0

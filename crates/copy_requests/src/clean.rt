@@ -1,14 +1,13 @@
 //! Clean: a partition that is cleaned.
 
-ghost use Rattle.std.specs.Prelude.{◌≡◌, IfOk, OnOk, OnErr};
+ghost use Rattle.std.specs.Prelude.{◌≡◌, IfOk, OnErr};
 ghost use Rattle.request_frames.specs.Clean.{clean_view};
-ghost use Rattle.answering.specs.Work.{MayAnswer};
-ghost use Rattle.answering.specs.Doing.{DoesWork};
-ghost use Rattle.answering.specs.Once.{WritesOnce};
+ghost use Rattle.answering.specs.Telling.{AnswersTold, WritesTold};
+ghost use Rattle.answering.specs.Doing.{DoesTold};
 ghost use Rattle.copy_requests.specs.Clean.{clean_result, clean_work, clean_sent};
 ghost use Rattle.copy_requests.specs.Outcomes.{Cleans, CountsFit};
 
-use answering::{ErrorCode, respond_once};
+use answering::{ErrorCode, Memory, Refused, respond_once};
 use broker_state::{BrokerState, Change};
 use partition_log::{CleanReport, LeaderLog, PartitionLog};
 use request_frames::CleanRequest;
@@ -69,8 +68,8 @@ fn try_clean<S: BatchStore>(
     topic: &[u8],
     partition: i32,
     bounds: Cleaning,
-) -> Result<CleanReport, ErrorCode>
-    ensures does { DoesWork (clean_work state.old (record {
+) -> Result<CleanReport, Refused>
+    ensures does { DoesTold (clean_work state.old (record {
       topic = topic.now;
       partition = partition;
       upto = bounds.upto;
@@ -80,44 +79,53 @@ fn try_clean<S: BatchStore>(
     ensures fits { IfOk result CountsFit }
 {
     let Some(place) = state.place_of(topic, partition) else {
-        return Err(ErrorCode::UnknownTopicOrPartition);
+        return Err(Refused::Check(ErrorCode::UnknownTopicOrPartition));
     };
     match state.change_at(place, bounds) {
         Ok(report) => Ok(report),
-        Err(_) => Err(ErrorCode::StorageError),
+        Err(_) => Err(Refused::OutOfMemory),
     }
 }
 
-/// What is answered to a Clean request, whose partition is then cleaned.
-fn clean_entry<S: BatchStore>(state: &mut BrokerState<S>, request: &CleanRequest<'_>) -> CleanAnswer
-    ensures { MayAnswer (clean_work state.old (clean_view request.now))
-        state.old result state.new }
+/// What is answered to a Clean request, whose partition is then cleaned, and whether memory sufficed.
+fn clean_entry<S: BatchStore>(
+    state: &mut BrokerState<S>,
+    request: &CleanRequest<'_>,
+) -> (CleanAnswer, Memory)
+    ensures { AnswersTold result.1 (clean_work state.old (clean_view request.now))
+        state.old result.0 state.new }
 {
     let bounds = Cleaning {
         upto: request.upto,
         tomb_before: request.tomb_before,
     };
     match try_clean(state, request.topic, request.partition, bounds) {
-        Ok(report) => CleanAnswer {
-            code: 0,
-            records: report.records as i64,
-            tombstones: report.tombstones as i64,
-            batches: report.batches as i64,
-        },
-        Err(fault) => CleanAnswer {
-            code: fault.number(),
-            records: 0,
-            tombstones: 0,
-            batches: 0,
-        },
+        Ok(report) => {
+            let answer = CleanAnswer {
+                code: 0,
+                records: report.records as i64,
+                tombstones: report.tombstones as i64,
+                batches: report.batches as i64,
+            };
+            (answer, Memory::Sufficed)
+        }
+        Err(refused) => {
+            let answer = CleanAnswer {
+                code: refused.code().number(),
+                records: 0,
+                tombstones: 0,
+                batches: 0,
+            };
+            (answer, refused.memory())
+        }
     }
 }
 
 /// Cleans the partition of a Clean request, and appends the response to the output. Its room is taken
 /// before anything changes.
 ///
-/// Where the partition has no memory for its cleaning it is as it was, and the answer is the error code
-/// of a storage error.
+/// Where the partition has no memory for its cleaning it is as it was, the answer is the error code of a
+/// storage error, and it is told that memory lacked.
 ///
 /// # Errors
 ///
@@ -128,17 +136,18 @@ pub fn reply_to_clean<S: BatchStore, A: Allocator + Copy>(
     correlation: i32,
     request: &CleanRequest<'_>,
     out: &mut Vec<u8, A>,
-) -> Result<(), AllocError>
-    ensures responds { OnOk result (WritesOnce (clean_sent correlation)
+) -> Result<Memory, AllocError>
+    ensures responds { IfOk result (λ memory. WritesTold (clean_sent correlation)
         (clean_work state.old (clean_view request.now)) state.old
-        out.old.items out.new.items state.new) }
+        out.old.items out.new.items memory state.new) }
     ensures unchanged_on_error { OnErr result
         ((state.new ≡ state.old) × (out.new.items ≡ out.old.items)) }
 {
     out.reserve(RESPONSE_HEAD_BYTES + CLEAN_ANSWER_BYTES)?;
-    let answer = clean_answer_bytes(clean_entry(state, request));
-    let Ok(()) = respond_once(correlation, &[], &[], &answer, out) else {
+    let (answer, memory) = clean_entry(state, request);
+    let bytes = clean_answer_bytes(answer);
+    let Ok(()) = respond_once(correlation, &[], &[], &bytes, out) else {
         unreachable!()
     };
-    Ok(())
+    Ok(memory)
 }

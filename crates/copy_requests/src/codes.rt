@@ -1,28 +1,28 @@
-//! The error codes that answer each refusal of a delivery, of an image, of a delta and of a trim.
+//! How each refusal of a delivery, of an image, of a delta and of a trim is answered.
 
 ghost use Rattle.std.specs.Prelude.{◌≡◌};
-ghost use Rattle.copy_requests.specs.Codes.{deliver_code, image_code, patch_code, trim_code};
+ghost use Rattle.copy_requests.specs.Codes.{deliver_refused, image_refused, patch_refused, trim_code};
 
-use answering::ErrorCode;
+use answering::{ErrorCode, Refused};
 use copy_deltas::PatchError;
 use copy_images::ImageError;
 use partition_log::{DeliverError, TrimError};
 
-/// The code that answers a batch that a copy does not take.
-pub(crate) fn deliver_code(fault: DeliverError) -> ErrorCode
-    ensures { result ≡ deliver_code fault }
+/// Why an entry is refused whose batch a copy does not take.
+pub(crate) fn deliver_refused(fault: DeliverError) -> Refused
+    ensures { result ≡ deliver_refused fault }
 {
     match fault {
-        DeliverError::NotWhole | DeliverError::NoKey => ErrorCode::InvalidRecord,
-        DeliverError::BadOffset => ErrorCode::OffsetOutOfRange,
-        DeliverError::Overlap => ErrorCode::InvalidRequest,
-        DeliverError::OutOfMemory => ErrorCode::StorageError,
+        DeliverError::NotWhole | DeliverError::NoKey => Refused::Check(ErrorCode::InvalidRecord),
+        DeliverError::BadOffset => Refused::Check(ErrorCode::OffsetOutOfRange),
+        DeliverError::Overlap => Refused::Check(ErrorCode::InvalidRequest),
+        DeliverError::OutOfMemory => Refused::OutOfMemory,
     }
 }
 
-/// The code that answers bytes that are no image.
-pub(crate) fn image_code(fault: ImageError) -> ErrorCode
-    ensures { result ≡ image_code fault }
+/// Why an entry is refused whose bytes are no image.
+pub(crate) fn image_refused(fault: ImageError) -> Refused
+    ensures { result ≡ image_refused fault }
 {
     match fault {
         ImageError::Short
@@ -32,14 +32,14 @@ pub(crate) fn image_code(fault: ImageError) -> ErrorCode
         | ImageError::BadCover
         | ImageError::BadBatch(_)
         | ImageError::Outside
-        | ImageError::Extra => ErrorCode::CorruptMessage,
-        ImageError::OutOfMemory => ErrorCode::StorageError,
+        | ImageError::Extra => Refused::Check(ErrorCode::CorruptMessage),
+        ImageError::OutOfMemory => Refused::OutOfMemory,
     }
 }
 
-/// The code that answers a delta that a copy does not take.
-pub(crate) fn patch_code(fault: PatchError) -> ErrorCode
-    ensures { result ≡ patch_code fault }
+/// Why an entry is refused whose delta a copy does not take.
+pub(crate) fn patch_refused(fault: PatchError) -> Refused
+    ensures { result ≡ patch_refused fault }
 {
     match fault {
         PatchError::Short
@@ -49,9 +49,10 @@ pub(crate) fn patch_code(fault: PatchError) -> ErrorCode
         | PatchError::BadCover
         | PatchError::BadBatch(_)
         | PatchError::Outside
-        | PatchError::Extra => ErrorCode::CorruptMessage,
-        PatchError::NotFor | PatchError::Disagree { .. } => ErrorCode::InvalidRequest,
-        PatchError::OutOfMemory => ErrorCode::StorageError,
+        | PatchError::Extra => Refused::Check(ErrorCode::CorruptMessage),
+        PatchError::NotFor => Refused::Check(ErrorCode::InvalidRequest),
+        PatchError::Disagree { .. } => Refused::Check(ErrorCode::InvalidRequest),
+        PatchError::OutOfMemory => Refused::OutOfMemory,
     }
 }
 

@@ -1,17 +1,16 @@
 //! Import: a copy that comes as an image.
 
-ghost use Rattle.std.specs.Prelude.{◌≡◌, OnOk, OnErr};
+ghost use Rattle.std.specs.Prelude.{◌≡◌, IfOk, OnErr};
 ghost use Rattle.request_frames.specs.Import.{import_view};
-ghost use Rattle.answering.specs.Work.{MayAnswer};
-ghost use Rattle.answering.specs.Doing.{DoesWork};
-ghost use Rattle.answering.specs.Once.{WritesOnce};
+ghost use Rattle.answering.specs.Telling.{AnswersTold, WritesTold};
+ghost use Rattle.answering.specs.Doing.{DoesTold};
 ghost use Rattle.broker_state.specs.declared.config.Role.TheVariants.{Leader, Follower};
 ghost use Rattle.copy_requests.specs.Import.{has_begun, imported_answer, import_work, import_sent};
 ghost use Rattle.copy_requests.specs.Import.Images.{IsReadAs, IsPlaceToImport};
 ghost use Rattle.copy_requests.specs.Outcomes.{Imports};
 
-use crate::codes::image_code;
-use answering::{ErrorCode, respond_once};
+use crate::codes::image_refused;
+use answering::{ErrorCode, Memory, Refused, respond_once};
 use broker_state::{BrokerState, Change, Place, Role};
 use copy_deltas::{MergeError, merge_into};
 use copy_images::read_image;
@@ -29,7 +28,7 @@ struct Importing<S: BatchStore> {
 }
 
 /// Makes a copy the log that is led.
-fn lead<S: BatchStore>(log: &mut LeaderLog<S>, copy: PartitionLog<S>) -> Result<(), ErrorCode>
+fn lead<S: BatchStore>(log: &mut LeaderLog<S>, copy: PartitionLog<S>) -> Result<(), Refused>
     ensures { Imports Leader copy result log.old log.new }
 {
     // Called for its clause alone: the copy is a content.
@@ -39,7 +38,7 @@ fn lead<S: BatchStore>(log: &mut LeaderLog<S>, copy: PartitionLog<S>) -> Result<
             *log = led;
             Ok(())
         }
-        Err(Gapped { .. }) => Err(ErrorCode::InvalidRequest),
+        Err(Gapped { .. }) => Err(Refused::Check(ErrorCode::InvalidRequest)),
     }
 }
 
@@ -47,29 +46,29 @@ fn lead<S: BatchStore>(log: &mut LeaderLog<S>, copy: PartitionLog<S>) -> Result<
 fn merge_copy<S: BatchStore>(
     here: &mut PartitionLog<S>,
     copy: &PartitionLog<S>,
-) -> Result<(), ErrorCode>
+) -> Result<(), Refused>
     ensures { Imports Follower copy.now result here.old here.new }
 {
     // Called for their clauses alone: both copies are contents.
     let _ = (here.end(), copy.end());
     match merge_into(here, copy) {
         Ok(()) => Ok(()),
-        Err(MergeError::Disagree { .. }) => Err(ErrorCode::InvalidRequest),
-        Err(MergeError::OutOfMemory) => Err(ErrorCode::StorageError),
+        Err(MergeError::Disagree { .. }) => Err(Refused::Check(ErrorCode::InvalidRequest)),
+        Err(MergeError::OutOfMemory) => Err(Refused::OutOfMemory),
     }
 }
 
-impl<S: BatchStore> Change<S, Result<(), ErrorCode>> for Importing<S> {
+impl<S: BatchStore> Change<S, Result<(), Refused>> for Importing<S> {
     ghost use Rattle.copy_requests.specs.Outcomes.{Imports};
 
     ghost changes = { λ importing role result here after.
         Imports role importing.copy result here after };
 
-    fn make_in_log(self, log: &mut LeaderLog<S>) -> Result<(), ErrorCode> {
+    fn make_in_log(self, log: &mut LeaderLog<S>) -> Result<(), Refused> {
         lead(log, self.copy)
     }
 
-    fn make_in_copy(self, copy: &mut PartitionLog<S>) -> Result<(), ErrorCode> {
+    fn make_in_copy(self, copy: &mut PartitionLog<S>) -> Result<(), Refused> {
         merge_copy(copy, &self.copy)
     }
 }
@@ -82,12 +81,12 @@ fn has_begun<S: BatchStore>(copy: &PartitionLog<S>) -> bool
 }
 
 /// The copy that bytes are the image of.
-fn read_copy<S: BatchStore>(alloc: S::Alloc, image: &[u8]) -> Result<PartitionLog<S>, ErrorCode>
+fn read_copy<S: BatchStore>(alloc: S::Alloc, image: &[u8]) -> Result<PartitionLog<S>, Refused>
     ensures { IsReadAs image.now result }
 {
     match read_image(alloc, image) {
         Ok(copy) => Ok(copy),
-        Err(fault) => Err(image_code(fault)),
+        Err(fault) => Err(image_refused(fault)),
     }
 }
 
@@ -114,14 +113,14 @@ fn try_import<S: BatchStore>(
     topic: &[u8],
     partition: i32,
     image: &[u8],
-) -> Result<(), ErrorCode>
-    ensures { DoesWork (import_work state.old
+) -> Result<(), Refused>
+    ensures { DoesTold (import_work state.old
         (record { topic = topic.now; partition = partition; image = image.now }))
         imported_answer result state.old state.new }
 {
     let place = match place_to_import(state, topic, partition) {
         Ok(place) => place,
-        Err(fault) => return Err(fault),
+        Err(fault) => return Err(Refused::Check(fault)),
     };
     let alloc = state.copy_at(place).allocator();
     match read_copy(alloc, image) {
@@ -130,27 +129,29 @@ fn try_import<S: BatchStore>(
     }
 }
 
-/// What is answered to an Import request, whose copy is then taken or refused.
+/// What is answered to an Import request, whose copy is then taken or refused; and whether memory
+/// sufficed.
 fn import_entry<S: BatchStore>(
     state: &mut BrokerState<S>,
     request: &ImportRequest<'_>,
-) -> ImportAnswer
-    ensures { MayAnswer (import_work state.old (import_view request.now))
-        state.old result state.new }
+) -> (ImportAnswer, Memory)
+    ensures { AnswersTold result.1 (import_work state.old (import_view request.now))
+        state.old result.0 state.new }
 {
     match try_import(state, request.topic, request.partition, request.image) {
-        Ok(()) => ImportAnswer { code: 0 },
-        Err(fault) => ImportAnswer {
-            code: fault.number(),
-        },
+        Ok(()) => (ImportAnswer { code: 0 }, Memory::Sufficed),
+        Err(refused) => {
+            let code = refused.code().number();
+            (ImportAnswer { code }, refused.memory())
+        }
     }
 }
 
 /// Takes the copy of an Import request into a partition, and appends the response to the output. Its
 /// room is taken before anything changes.
 ///
-/// Where there is no memory for the copy the partition is as it was, and the answer is the error code
-/// of a storage error.
+/// Where there is no memory for the copy the partition is as it was, the answer is the error code of a
+/// storage error, and it is told that memory lacked.
 ///
 /// # Errors
 ///
@@ -161,17 +162,18 @@ pub fn reply_to_import<S: BatchStore, A: Allocator + Copy>(
     correlation: i32,
     request: &ImportRequest<'_>,
     out: &mut Vec<u8, A>,
-) -> Result<(), AllocError>
-    ensures responds { OnOk result (WritesOnce (import_sent correlation)
+) -> Result<Memory, AllocError>
+    ensures responds { IfOk result (λ memory. WritesTold (import_sent correlation)
         (import_work state.old (import_view request.now)) state.old
-        out.old.items out.new.items state.new) }
+        out.old.items out.new.items memory state.new) }
     ensures unchanged_on_error { OnErr result
         ((state.new ≡ state.old) × (out.new.items ≡ out.old.items)) }
 {
     out.reserve(RESPONSE_HEAD_BYTES + IMPORT_ANSWER_BYTES)?;
-    let answer = import_answer_bytes(import_entry(state, request));
-    let Ok(()) = respond_once(correlation, &[], &[], &answer, out) else {
+    let (answer, memory) = import_entry(state, request);
+    let bytes = import_answer_bytes(answer);
+    let Ok(()) = respond_once(correlation, &[], &[], &bytes, out) else {
         unreachable!()
     };
-    Ok(())
+    Ok(memory)
 }

@@ -1,15 +1,14 @@
 //! Trim: a partition whose start moves up.
 
-ghost use Rattle.std.specs.Prelude.{◌≡◌, OnOk, OnErr};
+ghost use Rattle.std.specs.Prelude.{◌≡◌, IfOk, OnErr};
 ghost use Rattle.request_frames.specs.Trim.{trim_view};
-ghost use Rattle.answering.specs.Work.{MayAnswer};
-ghost use Rattle.answering.specs.Doing.{DoesWork};
-ghost use Rattle.answering.specs.Once.{WritesOnce};
+ghost use Rattle.answering.specs.Telling.{AnswersTold, WritesTold};
+ghost use Rattle.answering.specs.Doing.{DoesTold};
 ghost use Rattle.copy_requests.specs.Trim.{trimmed_answer, trim_work, trim_sent};
 ghost use Rattle.copy_requests.specs.Outcomes.{Trims};
 
 use crate::codes::trim_code;
-use answering::{ErrorCode, respond_once};
+use answering::{ErrorCode, Memory, Refused, respond_once};
 use broker_state::{BrokerState, Change};
 use partition_log::{LeaderLog, PartitionLog};
 use request_frames::TrimRequest;
@@ -64,35 +63,43 @@ fn try_trim<S: BatchStore>(
     topic: &[u8],
     partition: i32,
     trimming: Trimming,
-) -> Result<(), ErrorCode>
-    ensures { DoesWork (trim_work state.old
+) -> Result<(), Refused>
+    ensures { DoesTold (trim_work state.old
         (record { topic = topic.now; partition = partition; start = trimming.start }))
         trimmed_answer result state.old state.new }
 {
     let Some(place) = state.place_of(topic, partition) else {
-        return Err(ErrorCode::UnknownTopicOrPartition);
+        return Err(Refused::Check(ErrorCode::UnknownTopicOrPartition));
     };
-    state.change_at(place, trimming)
+    match state.change_at(place, trimming) {
+        Ok(()) => Ok(()),
+        Err(fault) => Err(Refused::Check(fault)),
+    }
 }
 
-/// What is answered to a Trim request, whose partition's start is then moved, or not.
-fn trim_entry<S: BatchStore>(state: &mut BrokerState<S>, request: &TrimRequest<'_>) -> TrimAnswer
-    ensures { MayAnswer (trim_work state.old (trim_view request.now))
-        state.old result state.new }
+/// What is answered to a Trim request, whose partition's start is then moved, or not; and whether memory
+/// sufficed.
+fn trim_entry<S: BatchStore>(
+    state: &mut BrokerState<S>,
+    request: &TrimRequest<'_>,
+) -> (TrimAnswer, Memory)
+    ensures { AnswersTold result.1 (trim_work state.old (trim_view request.now))
+        state.old result.0 state.new }
 {
     let trimming = Trimming {
         start: request.start,
     };
     match try_trim(state, request.topic, request.partition, trimming) {
-        Ok(()) => TrimAnswer { code: 0 },
-        Err(fault) => TrimAnswer {
-            code: fault.number(),
-        },
+        Ok(()) => (TrimAnswer { code: 0 }, Memory::Sufficed),
+        Err(refused) => {
+            let code = refused.code().number();
+            (TrimAnswer { code }, refused.memory())
+        }
     }
 }
 
 /// Moves the start of the partition of a Trim request, and appends the response to the output. Its room
-/// is taken before anything changes; the trim itself needs no memory.
+/// is taken before anything changes; the trim itself needs no memory, so it always suffices.
 ///
 /// # Errors
 ///
@@ -103,17 +110,18 @@ pub fn reply_to_trim<S: BatchStore, A: Allocator + Copy>(
     correlation: i32,
     request: &TrimRequest<'_>,
     out: &mut Vec<u8, A>,
-) -> Result<(), AllocError>
-    ensures responds { OnOk result (WritesOnce (trim_sent correlation)
+) -> Result<Memory, AllocError>
+    ensures responds { IfOk result (λ memory. WritesTold (trim_sent correlation)
         (trim_work state.old (trim_view request.now)) state.old
-        out.old.items out.new.items state.new) }
+        out.old.items out.new.items memory state.new) }
     ensures unchanged_on_error { OnErr result
         ((state.new ≡ state.old) × (out.new.items ≡ out.old.items)) }
 {
     out.reserve(RESPONSE_HEAD_BYTES + TRIM_ANSWER_BYTES)?;
-    let answer = trim_answer_bytes(trim_entry(state, request));
-    let Ok(()) = respond_once(correlation, &[], &[], &answer, out) else {
+    let (answer, memory) = trim_entry(state, request);
+    let bytes = trim_answer_bytes(answer);
+    let Ok(()) = respond_once(correlation, &[], &[], &bytes, out) else {
         unreachable!()
     };
-    Ok(())
+    Ok(memory)
 }

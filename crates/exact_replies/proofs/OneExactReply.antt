@@ -1,12 +1,12 @@
 -- A request has one exact reply, the one that the function gives; so handled again it leaves the same state.
 use Rattle.std.proofs.Common.{◌≡◌, ℕ, Bool, true, false, List, Option, refl, sym, ap, ◌∙◌}
 use Rattle.request_frames.specs.Requests.{RequestValue}
+use Rattle.answering.specs.declared.memory.Memory.TheVariants.{Sufficed}
 use Rattle.broker_state.specs.State.{State}
 use Rattle.broker_node.specs.Replies.{IsReply}
 use Rattle.broker_node.proofs.PlannedReplies.{one_reply}
-use Rattle.exact_replies.specs.declared.memory.Memory.TheVariants.{Sufficed}
 use Rattle.broker_node.specs.Effects.{may_change}
-use Rattle.exact_replies.specs.Exact.{HandlesExactly}
+use Rattle.broker_node.specs.Exactly.{HandlesExactly}
 
 pub same_reply : (s after after' : State) (q : RequestValue) (out out' : Option (List ℕ)) → IsReply s q out after → IsReply s q out' after' → (out ≡ out') × (after ≡ after')
 same_reply s after after' q out out' is is_too =

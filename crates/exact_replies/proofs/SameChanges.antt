@@ -1,11 +1,11 @@
 -- Two brokers that hold the same answer a request that may change something alike, and hold the same after it: what its
 -- work reads of a broker is its role, whether it has a partition, that partition's content, and the next producer id.
-use Rattle.std.proofs.Common.{◌≡◌, ℕ, ℤ, pos, negsuc, Bool, true, not, List, [], ◌∷◌, ◌++◌, length, Option, Some, None, refl, sym, ap, subst, ◌∙◌, arith}
+use Rattle.std.proofs.Common.{◌≡◌, ℕ, ℤ, pos, true, not, List, [], ◌∷◌, ◌++◌, length, Option, Some, None, refl, sym, ap, subst, ◌∙◌}
 use Rattle.std.specs.Prelude.{is_some, is_none, int_lt, nat_lt}
 use Rattle.std.specs.Option.{option_map, unwrap_or}
 use Rattle.std.specs.Ordering.{int_eq}
 use Rattle.batch_codec.specs.Reading.{batch_of}
-use Rattle.content.specs.Content.{Content, empty, add, cut, has_seen_all}
+use Rattle.content.specs.Content.{empty, add, cut, has_seen_all}
 use Rattle.content.specs.Cleaning.{clean, clean_report}
 use Rattle.deltas.specs.Patches.{patch}
 use Rattle.copy_images.specs.Reading.{image_at}
@@ -33,7 +33,7 @@ use Rattle.broker_state.specs.State.{State, is_group_topic, group_topic, content
 use Rattle.log_requests.specs.Produce.{is_acks, produce_result, produce_work, produce_plan}
 use Rattle.group_offsets.specs.Groups.{group_keys}
 use Rattle.group_requests.specs.declared.offset_commit.TheConstants.{MAX_METADATA_BYTES}
-use Rattle.group_requests.specs.OffsetCommit.{offset_commit_generation, offset_commit_batch, offset_commit_result, offset_commit_work, offset_commit_plan}
+use Rattle.group_requests.specs.OffsetCommit.{offset_commit_generation, offset_commit_batch, offset_commit_work, offset_commit_plan}
 use Rattle.group_requests.specs.ForgetGroup.{forget_group_checks, forgotten, forget_group_work, forget_group_sent}
 use Rattle.setup_requests.specs.InitProducerId.{id_answer, init_producer_id_work, init_producer_id_sent}
 use Rattle.broker_node.specs.Below.{deliver_code}
@@ -42,9 +42,9 @@ use Rattle.broker_node.specs.Below.{clean_result, clean_work, clean_sent}
 use Rattle.broker_node.specs.Below.{import_role_fault, import_fault, imported, import_work, import_sent}
 use Rattle.broker_node.specs.Below.{given_delta, delta_faults, import_delta_work}
 use Rattle.broker_node.specs.Below.{trim_faults, trim_work, trim_sent}
+use Rattle.broker_node.specs.Effects.{may_change}
 use Rattle.broker_node.specs.Replies.{IsReply, reply, reply_to}
 use Rattle.broker_node.proofs.PlannedReplies.{one_reply}
-use Rattle.broker_node.specs.Effects.{may_change}
 use Rattle.exact_replies.specs.SameHeld.{HoldTheSame}
 use Rattle.exact_replies.proofs.SameContents.{content_same, with_both, given_both}
 

@@ -1,4 +1,1 @@
--- Read in this order; each module uses only those above it.
-pub mod Exact
 pub mod SameHeld
-pub mod Looking

@@ -3,10 +3,10 @@
 ghost use Rattle.std.specs.Prelude.{◌≡◌, ℕ, false, true, List, Option};
 ghost use Rattle.request_frames.specs.Requests.{RequestValue};
 ghost use Rattle.broker_state.specs.State.{ConfigValue, State, new_state};
-ghost use Rattle.broker_node.specs.Replies.{IsReply, MayReply};
-ghost use Rattle.exact_replies.specs.declared.memory.Memory.TheVariants.{Sufficed};
+ghost use Rattle.answering.specs.declared.memory.Memory.TheVariants.{Sufficed};
 ghost use Rattle.broker_node.specs.Effects.{may_change};
-ghost use Rattle.exact_replies.specs.Exact.{HandlesExactly};
+ghost use Rattle.broker_node.specs.Replies.{IsReply, MayReply};
+ghost use Rattle.broker_node.specs.Exactly.{HandlesExactly};
 ghost use Rattle.exact_replies.specs.SameHeld.{AskForTheSame, HoldTheSame};
 
 /// In one state a request has one exact reply, and one state comes of it.

@@ -1,33 +1,27 @@
-//! Requests handled so that it is told whether memory sufficed. Read `specs/Exact`; `specs/Looking` has the
-//! words of private clauses.
+//! Laws of requests that are handled exactly: where it is told of each that memory sufficed, the replies and
+//! the states are those that the requests make.
 //!
 //! Where an entry's work lacks memory, `Node::handle` answers the entry with the code of a storage error and
 //! leaves its partition as it was. So what becomes of a request that may change something depends on more
 //! than the state and the request, and a journal of requests alone could not be handled again to the same
-//! state. [`handle_exactly`] does what `Node::handle` does, looks for that code in the response, and tells
-//! whether an entry lacked memory. Where none did, the reply and the state after are those that the state
-//! and the request make; and handled exactly once more in that state, the request leaves the same state, or
-//! it is told that memory lacked ([`handled_again_it_leaves_the_same`]).
+//! state. `Node::handle_exactly` tells whether an entry lacked memory. Where none did, the reply and the state
+//! after are those that the state and the request make; and handled exactly once more in that state, the
+//! request leaves the same state, or it is told that memory lacked ([`handled_again_it_leaves_the_same`]).
 //!
 //! A journal keeps the requests that `broker_node::may_change` names: the others leave the broker as it is, wherever
 //! memory lacks ([`reading_changes_nothing`]).
 //!
 //! ```
-//! let memory = handle_exactly(&mut node, &request, &mut out)?;
+//! let memory = node.handle_exactly(&request, &mut out)?;
 //! if may_change(&request.body) {
 //!     journal.keep(frame, memory)?;
 //! }
 //! ```
 #![tactic(auto)]
 
-mod handling;
 mod laws;
-mod looking;
-mod memory;
 
-pub use handling::handle_exactly;
 pub use laws::{
     exact_replies_are_one, handled_again_it_leaves_the_same, reading_changes_nothing,
     those_asked_for_the_same_begin_alike, those_that_hold_the_same_change_alike,
 };
-pub use memory::Memory;

@@ -13,15 +13,16 @@ use Rattle.request_frames.specs.OffsetCommit.{OffsetCommitValue, offset_commit_p
 use Rattle.responses.specs.Responses.{response, topic_bytes}
 use Rattle.responses.specs.OffsetCommit.{committed_partition_bytes, offset_commit_response, offset_commit_value}
 use Rattle.responses.proofs.OffsetCommitParts.{offset_commit_parts}
-use Rattle.answering.specs.Work.{MayAnswer}
+use Rattle.answering.specs.declared.memory.Memory.{Memory}
+use Rattle.answering.specs.Telling.{TellsNext}
 use Rattle.broker_state.specs.State.{State}
 use Rattle.group_requests.specs.OffsetCommit.{offset_commit_work}
 
-pub offset_commit_may : (q : OffsetCommitValue) (s : State) (name : List ℕ) (v : Value offset_commit_partition) (r : CommittedPartition) (after : State)
+pub offset_commit_tells : (q : OffsetCommitValue) (before : State × Memory) (name : List ℕ) (v : Value offset_commit_partition) (r : CommittedPartition) (after : State × Memory)
     → (e : OffsetCommitPartition) × ((e.partition, (e.offset, (option_map (λ bytes. bytes.now) e.metadata, nothing))) ≡ v)
-    × MayAnswer (offset_commit_work s q name (offset_commit_partition_value (e.partition, (e.offset, (option_map (λ bytes. bytes.now) e.metadata, nothing))))) s r after
-    → MayAnswer (offset_commit_work s q name (offset_commit_partition_value v)) s r after
-offset_commit_may q s name v r after said = subst (λ w. MayAnswer (offset_commit_work s q name (offset_commit_partition_value w)) s r after) said.1 said.2
+    × TellsNext (offset_commit_work before.0 q name (offset_commit_partition_value (e.partition, (e.offset, (option_map (λ bytes. bytes.now) e.metadata, nothing))))) before r after
+    → TellsNext (offset_commit_work before.0 q name (offset_commit_partition_value v)) before r after
+offset_commit_tells q before name v r after said = subst (λ w. TellsNext (offset_commit_work before.0 q name (offset_commit_partition_value w)) before r after) said.1 said.2
 
 parts : (count topics : List ℕ) → (count ++ topics) ++ [] ≡ (count ++ []) ++ topics
 parts count topics = simp (append_assoc, append-nil {A = ℕ})

@@ -12,16 +12,17 @@ use Rattle.request_frames.specs.OffsetFetch.{OffsetFetchValue, offset_fetch_part
 use Rattle.responses.specs.Responses.{response, topic_bytes}
 use Rattle.responses.specs.OffsetFetch.{FetchedOffset, fetched_offset_bytes, offset_fetch_response, offset_fetch_value}
 use Rattle.responses.proofs.OffsetFetchParts.{offset_fetch_parts}
+use Rattle.answering.specs.declared.memory.Memory.{Memory}
 use Rattle.answering.specs.Work.{MayAnswer}
 use Rattle.broker_state.specs.State.{State}
 use Rattle.group_requests.specs.declared.offset_fetch.TheConstants.{MAX_FETCHED_OFFSETS}
 use Rattle.group_requests.specs.OffsetFetch.{offset_fetch_work, partition_count}
 
 -- that the request names too many partitions is told beforehand, and what one walk found is known
-pub offset_fetch_may : {Known : Type 0} → Known → (s : State) (q : OffsetFetchValue) (too_many : Bool) → too_many ≡ nat_lt MAX_FETCHED_OFFSETS (partition_count q.topics) → (shared : Unit {0}) (name : List ℕ) (v : Value offset_fetch_partition) (r : FetchedOffset) (after : Unit {0})
+pub offset_fetch_may : {Known : Type 0} → Known → (s : State) (q : OffsetFetchValue) (too_many : Bool) → too_many ≡ nat_lt MAX_FETCHED_OFFSETS (partition_count q.topics) → (before : Unit {0} × Memory) (name : List ℕ) (v : Value offset_fetch_partition) (r : FetchedOffset) (after : Unit {0} × Memory)
     → (e : OffsetFetchPartition) × ((e.partition, nothing) ≡ v) × (Known → MayAnswer (offset_fetch_work s q.group too_many name (record { partition = e.partition })) s r s)
     → MayAnswer (offset_fetch_work s q.group (nat_lt MAX_FETCHED_OFFSETS (partition_count q.topics)) name (offset_fetch_partition_value v)) s r s
-offset_fetch_may known s q too_many told shared name v r after said =
+offset_fetch_may known s q too_many told before name v r after said =
     subst (λ b. MayAnswer (offset_fetch_work s q.group b name (offset_fetch_partition_value v)) s r s) told
     (subst (λ w. MayAnswer (offset_fetch_work s q.group too_many name (offset_fetch_partition_value w)) s r s) said.1 (said.2 known))
 

@@ -6,9 +6,9 @@ ghost use Rattle.broker_state.specs.declared.config.Role.TheVariants.{Leader};
 ghost use Rattle.group_requests.specs.GroupPartition.{group_content};
 ghost use Rattle.group_requests.specs.Appending.{AppendsToGroups};
 
-use answering::ErrorCode;
+use answering::Refused;
 use batch_codec::{Batch, BatchView, encode, one_encoding};
-use broker_state::{Append, BrokerState, append_code};
+use broker_state::{Append, BrokerState, append_refused};
 use partition_log::PartitionLog;
 use segment::BatchStore;
 use std::alloc::{AllocError, Allocator};
@@ -24,14 +24,14 @@ pub(crate) fn group_copy<S: BatchStore>(state: &BrokerState<S>) -> &PartitionLog
 fn append_view<S: BatchStore>(
     state: &mut BrokerState<S>,
     batch: &BatchView<'_>,
-) -> Result<(), ErrorCode>
+) -> Result<(), Refused>
     requires { state.old.config.role ≡ Leader }
     ensures { AppendsToGroups state.old batch.now result state.new }
 {
     let place = state.group_place();
     match state.change_at(place, Append { batch }) {
         Ok(_) => Ok(()),
-        Err(fault) => Err(append_code(fault)),
+        Err(fault) => Err(append_refused(fault)),
     }
 }
 
@@ -47,12 +47,11 @@ fn encoded<A: Allocator + Copy>(batch: &Batch<A>) -> Result<Vec<u8, A>, AllocErr
     }
 }
 
-/// Appends a batch to the partition, which the broker leads. Where there is no memory for it, the
-/// answer is a storage error.
+/// Appends a batch to the partition, which the broker leads.
 pub(crate) fn append_to_groups<S: BatchStore>(
     state: &mut BrokerState<S>,
     batch: &Batch<S::Alloc>,
-) -> Result<(), ErrorCode>
+) -> Result<(), Refused>
     requires leads { state.old.config.role ≡ Leader }
     requires writable { Writable batch.now }
     ensures { AppendsToGroups state.old batch.now result state.new }
@@ -61,6 +60,6 @@ pub(crate) fn append_to_groups<S: BatchStore>(
     one_encoding();
     match encoded(batch) {
         Ok(bytes) => append_view(state, &BatchView::open(&bytes)),
-        Err(_) => Err(ErrorCode::StorageError),
+        Err(_) => Err(Refused::OutOfMemory),
     }
 }

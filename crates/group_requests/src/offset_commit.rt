@@ -1,14 +1,14 @@
 //! OffsetCommit: offsets that a group commits.
 
-ghost use Rattle.std.specs.Prelude.{◌≡◌, OnOk, OnErr};
+ghost use Rattle.std.specs.Prelude.{◌≡◌, IfOk, OnErr};
 ghost use Rattle.request_frames.specs.OffsetCommit.{offset_commit_view};
-ghost use Rattle.answering.specs.Responding.{RespondsBy};
+ghost use Rattle.answering.specs.Telling.{RespondsTold};
 ghost use Rattle.group_requests.specs.OffsetCommit.{offset_commit_plan};
 
 mod entry;
 
 use crate::offset_commit::entry::commit_entry;
-use answering::{Answers, respond, response_room};
+use answering::{Answers, Memory, respond, response_room};
 use broker_state::BrokerState;
 use request_frames::{OffsetCommitPartition, OffsetCommitRequest};
 use responses::append_fixed;
@@ -34,28 +34,31 @@ impl<'a, 'q, 'r, S: BatchStore> Answers<OffsetCommitPartition<'a>, BrokerState<S
     ghost use Rattle.responses.specs.declared.offset_commit.partition.TheConstants.{OFFSET_COMMIT_PARTITION_BYTES};
     ghost use Rattle.responses.specs.declared.offset_commit.partition.CommittedPartition.{CommittedPartition};
     ghost use Rattle.responses.specs.OffsetCommit.{committed_partition_bytes};
-    ghost use Rattle.answering.specs.Work.{MayAnswer};
+    ghost use Rattle.answering.specs.Telling.{TellsNext};
     ghost use Rattle.group_requests.specs.OffsetCommit.{offset_commit_work};
 
     ghost Answered = { CommittedPartition };
 
     ghost bytes = { committed_partition_bytes };
 
-    ghost answers = { λ asked s name e r after. MayAnswer (offset_commit_work s
+    ghost answers = { λ asked before name e r after. TellsNext (offset_commit_work before.0
         (offset_commit_view asked.request.now) name (offset_commit_partition_value
         (e.partition, (e.offset, (option_map (λ bytes. bytes.now) e.metadata, nothing)))))
-        s r after };
+        before r after };
 
     ghost size = { Some OFFSET_COMMIT_PARTITION_BYTES };
 
+    #[tactic(auto, using(answering::proofs::Told::told_next))]
     fn put<A: Allocator + Copy>(
         &self,
         state: &mut BrokerState<S>,
+        memory: &mut Memory,
         topic: &[u8],
         entry: OffsetCommitPartition<'a>,
         out: &mut Vec<u8, A>,
     ) -> Result<(), AllocError> {
-        let answer = commit_entry(state, self.request, topic, &entry);
+        let (answer, told) = commit_entry(state, self.request, topic, &entry);
+        memory.note(told);
         append_fixed(out, &committed_partition_bytes(answer))
     }
 }
@@ -65,7 +68,8 @@ impl<'a, 'q, 'r, S: BatchStore> Answers<OffsetCommitPartition<'a>, BrokerState<S
 /// changes.
 ///
 /// Where there is no memory for an offset's batch the partition is as it was, the offset's own answer is
-/// the error code of a storage error, and the request's other offsets are committed.
+/// the error code of a storage error, and the request's other offsets are committed. It is told whether
+/// memory sufficed for all.
 ///
 /// # Errors
 ///
@@ -76,10 +80,10 @@ pub fn reply_to_offset_commit<S: BatchStore, A: Allocator + Copy>(
     correlation: i32,
     request: &OffsetCommitRequest<'_>,
     out: &mut Vec<u8, A>,
-) -> Result<(), AllocError>
-    ensures responds { OnOk result (RespondsBy
+) -> Result<Memory, AllocError>
+    ensures responds { IfOk result (λ memory. RespondsTold
         (offset_commit_plan state.old correlation (offset_commit_view request.now))
-        out.old.items out.new.items state.new) }
+        out.old.items out.new.items memory state.new) }
     ensures unchanged_on_error { OnErr result
         ((state.new ≡ state.old) × (out.new.items ≡ out.old.items)) }
 {
@@ -89,8 +93,18 @@ pub fn reply_to_offset_commit<S: BatchStore, A: Allocator + Copy>(
     };
     out.reserve(room)?;
     let asked = Committing { request };
-    let Ok(()) = respond(&asked, state, correlation, &[], topics, &[], out) else {
+    let mut memory = Memory::Sufficed;
+    let Ok(()) = respond(
+        &asked,
+        state,
+        &mut memory,
+        correlation,
+        &[],
+        topics,
+        &[],
+        out,
+    ) else {
         unreachable!()
     };
-    Ok(())
+    Ok(memory)
 }

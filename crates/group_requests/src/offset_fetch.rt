@@ -14,7 +14,7 @@ mod walk;
 use crate::group_partition::group_copy;
 use crate::offset_fetch::entry::Fetching;
 use crate::offset_fetch::walk::CommitWalk;
-use answering::{Answers, respond};
+use answering::{Answers, Memory, respond};
 use broker_state::BrokerState;
 use frame_fields::{Topic, Topics};
 use group_offsets::{GroupError, put_key};
@@ -46,7 +46,7 @@ impl<'n, 'q, S: BatchStore> Answers<OffsetFetchPartition, ()> for Fetching<'n, '
 
     ghost bytes = { fetched_offset_bytes };
 
-    ghost answers = { λ asked unit name e r after. HasWalked asked → MayAnswer (offset_fetch_work
+    ghost answers = { λ asked before name e r after. HasWalked asked → MayAnswer (offset_fetch_work
         asked.state.now asked.group.now asked.too_many name (record { partition = e.partition }))
         asked.state.now r asked.state.now };
 
@@ -55,6 +55,7 @@ impl<'n, 'q, S: BatchStore> Answers<OffsetFetchPartition, ()> for Fetching<'n, '
     fn put<A: Allocator + Copy>(
         &self,
         _shared: &mut (),
+        _memory: &mut Memory,
         topic: &[u8],
         entry: OffsetFetchPartition,
         out: &mut Vec<u8, A>,
@@ -203,5 +204,14 @@ pub fn reply_to_offset_fetch<S: BatchStore, A: Allocator + Copy>(
         too_many,
         walk: walk_if_many(state, request, too_many),
     };
-    respond(&asked, &mut (), correlation, &[], &request.topics, &[], out)
+    respond(
+        &asked,
+        &mut (),
+        &mut Memory::Sufficed,
+        correlation,
+        &[],
+        &request.topics,
+        &[],
+        out,
+    )
 }

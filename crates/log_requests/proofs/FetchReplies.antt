@@ -11,15 +11,16 @@ use Rattle.frame_fields.specs.Frames.{framed}
 use Rattle.responses.specs.Responses.{response, topic_bytes}
 use Rattle.responses.specs.Fetch.{Fetched, fetched_bytes, fetch_response, fetch_value}
 use Rattle.responses.proofs.FetchParts.{fetch_parts}
+use Rattle.answering.specs.declared.memory.Memory.{Memory}
 use Rattle.answering.specs.Work.{MayAnswer}
 use Rattle.broker_state.specs.State.{State}
 use Rattle.log_requests.specs.Fetch.{FetchRoom, fetch_work}
 use Rattle.log_requests.specs.Fetch.Entries.{fetch_entry_value, fetch_answer}
 
-pub fetch_may : (s : State) (room : FetchRoom) (name : List ℕ) (v : Value fetch_partition) (r : Fetched) (after : FetchRoom)
-    → (e : FetchPartition) × ((e.partition, (e.offset, (e.max_bytes, nothing))) ≡ v) × ((r, after) ≡ fetch_answer s name room (fetch_entry_value e))
-    → MayAnswer (fetch_work s room name (fetch_partition_value v)) room r after
-fetch_may s room name v r after said = inl (said.2 ∙ ap (λ w. fetch_answer s name room (fetch_partition_value w)) said.1)
+pub fetch_may : (s : State) (before : FetchRoom × Memory) (name : List ℕ) (v : Value fetch_partition) (r : Fetched) (after : FetchRoom × Memory)
+    → (e : FetchPartition) × ((e.partition, (e.offset, (e.max_bytes, nothing))) ≡ v) × ((r, after.0) ≡ fetch_answer s name before.0 (fetch_entry_value e))
+    → MayAnswer (fetch_work s before.0 name (fetch_partition_value v)) before.0 r after.0
+fetch_may s before name v r after said = inl (said.2 ∙ ap (λ w. fetch_answer s name before.0 (fetch_partition_value w)) said.1)
 
 parts : (throttle count topics : List ℕ) → (throttle ++ (count ++ topics)) ++ [] ≡ (throttle ++ (count ++ [])) ++ topics
 parts throttle count topics = simp (append_assoc, append-nil {A = ℕ})

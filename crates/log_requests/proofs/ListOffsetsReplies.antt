@@ -12,14 +12,15 @@ use Rattle.frame_fields.specs.Frames.{framed}
 use Rattle.responses.specs.Responses.{response, topic_bytes}
 use Rattle.responses.specs.ListOffsets.{list_offsets_answer_bytes, list_offsets_response, list_offsets_value}
 use Rattle.responses.proofs.ListOffsetsParts.{list_offsets_parts}
+use Rattle.answering.specs.declared.memory.Memory.{Memory}
 use Rattle.answering.specs.Work.{answer, IsAnswer, MayAnswer}
 use Rattle.broker_state.specs.State.{State}
 use Rattle.log_requests.specs.ListOffsets.{list_offsets_work}
 
-pub list_offsets_may : (s : State) (shared : Unit {0}) (name : List ℕ) (v : Value list_offsets_partition) (r : ListedPartition) (after : Unit {0})
+pub list_offsets_may : (s : State) (before : Unit {0} × Memory) (name : List ℕ) (v : Value list_offsets_partition) (r : ListedPartition) (after : Unit {0} × Memory)
     → (e : ListOffsetsPartition) × ((e.partition, (e.time, nothing)) ≡ v) × IsAnswer (list_offsets_work s name (record { partition = e.partition; time = e.time })) s r s
     → MayAnswer (list_offsets_work s name (list_offsets_partition_value v)) s r s
-list_offsets_may s shared name v r after said = inl (said.2 ∙ ap (λ w. answer (list_offsets_work s name (list_offsets_partition_value w)) s) said.1)
+list_offsets_may s before name v r after said = inl (said.2 ∙ ap (λ w. answer (list_offsets_work s name (list_offsets_partition_value w)) s) said.1)
 
 parts : (count topics : List ℕ) → (count ++ topics) ++ [] ≡ (count ++ []) ++ topics
 parts count topics = simp (append_assoc, append-nil {A = ℕ})

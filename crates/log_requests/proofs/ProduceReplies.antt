@@ -16,15 +16,16 @@ use Rattle.frame_fields.specs.Frames.{framed}
 use Rattle.responses.specs.Responses.{response, topic_bytes}
 use Rattle.responses.specs.Produce.{produced_bytes, produce_tail, produce_response, produce_value}
 use Rattle.responses.proofs.ProduceParts.{produce_parts}
-use Rattle.answering.specs.Work.{MayAnswer}
+use Rattle.answering.specs.declared.memory.Memory.{Memory}
+use Rattle.answering.specs.Telling.{TellsNext}
 use Rattle.broker_state.specs.State.{State}
 use Rattle.log_requests.specs.Produce.{produce_work, produce_plan}
 
-pub produce_may : (q : ProduceValue) (s : State) (name : List ℕ) (v : Value produce_partition) (r : ProducedPartition) (after : State)
+pub produce_tells : (q : ProduceValue) (before : State × Memory) (name : List ℕ) (v : Value produce_partition) (r : ProducedPartition) (after : State × Memory)
     → (e : ProducePartition) × ((e.index, (option_map (λ bytes. bytes.now) e.records, nothing)) ≡ v)
-    × MayAnswer (produce_work s q name (produce_partition_value (e.index, (option_map (λ bytes. bytes.now) e.records, nothing)))) s r after
-    → MayAnswer (produce_work s q name (produce_partition_value v)) s r after
-produce_may q s name v r after said = subst (λ w. MayAnswer (produce_work s q name (produce_partition_value w)) s r after) said.1 said.2
+    × TellsNext (produce_work before.0 q name (produce_partition_value (e.index, (option_map (λ bytes. bytes.now) e.records, nothing)))) before r after
+    → TellsNext (produce_work before.0 q name (produce_partition_value v)) before r after
+produce_tells q before name v r after said = subst (λ w. TellsNext (produce_work before.0 q name (produce_partition_value w)) before r after) said.1 said.2
 
 parts : (count topics tail : List ℕ) → (count ++ topics) ++ tail ≡ (count ++ []) ++ (topics ++ tail)
 parts count topics tail = simp (append_assoc, append-nil {A = ℕ})

@@ -11,7 +11,7 @@ pub(crate) mod room;
 use crate::fetch::entry::put_entry;
 use crate::fetch::room::FetchRoom;
 use crate::reading::Reading;
-use answering::{Answers, respond};
+use answering::{Answers, Memory, respond};
 use broker_state::BrokerState;
 use request_frames::{FetchPartition, FetchRequest};
 use segment::BatchStore;
@@ -26,13 +26,14 @@ impl<'n, S: BatchStore> Answers<FetchPartition, FetchRoom> for Reading<'n, S> {
 
     ghost bytes = { fetched_bytes };
 
-    ghost answers = { λ asked room name e r after. (r, after) ≡ fetch_answer asked.state.now name room (fetch_entry_value e) };
+    ghost answers = { λ asked before name e r after. (r, after.0) ≡ fetch_answer asked.state.now name before.0 (fetch_entry_value e) };
 
     ghost size = { None };
 
     fn put<A: Allocator + Copy>(
         &self,
         room: &mut FetchRoom,
+        _memory: &mut Memory,
         topic: &[u8],
         entry: FetchPartition,
         out: &mut Vec<u8, A>,
@@ -64,6 +65,7 @@ pub fn reply_to_fetch<S: BatchStore, A: Allocator + Copy>(
     respond(
         &asked,
         &mut room,
+        &mut Memory::Sufficed,
         correlation,
         &[0; THROTTLE_BYTES],
         &request.topics,

@@ -11,7 +11,7 @@ mod indexing;
 use crate::list_offsets::entry::list_offsets_entry;
 pub use crate::list_offsets::indexing::index_asked_times;
 use crate::reading::Reading;
-use answering::{Answers, respond};
+use answering::{Answers, Memory, respond};
 use broker_state::BrokerState;
 use request_frames::{ListOffsetsPartition, ListOffsetsRequest};
 use responses::append_fixed;
@@ -30,7 +30,7 @@ impl<'n, S: BatchStore> Answers<ListOffsetsPartition, ()> for Reading<'n, S> {
 
     ghost bytes = { list_offsets_answer_bytes };
 
-    ghost answers = { λ asked unit name e r after. IsAnswer (list_offsets_work asked.state.now name
+    ghost answers = { λ asked before name e r after. IsAnswer (list_offsets_work asked.state.now name
         (record { partition = e.partition; time = e.time })) asked.state.now r asked.state.now };
 
     ghost size = { None };
@@ -38,6 +38,7 @@ impl<'n, S: BatchStore> Answers<ListOffsetsPartition, ()> for Reading<'n, S> {
     fn put<A: Allocator + Copy>(
         &self,
         _shared: &mut (),
+        _memory: &mut Memory,
         topic: &[u8],
         entry: ListOffsetsPartition,
         out: &mut Vec<u8, A>,
@@ -64,5 +65,14 @@ pub fn reply_to_list_offsets<S: BatchStore, A: Allocator + Copy>(
     ensures unchanged_on_error { OnErr result (out.new.items ≡ out.old.items) }
 {
     let asked = Reading { state };
-    respond(&asked, &mut (), correlation, &[], &request.topics, &[], out)
+    respond(
+        &asked,
+        &mut (),
+        &mut Memory::Sufficed,
+        correlation,
+        &[],
+        &request.topics,
+        &[],
+        out,
+    )
 }

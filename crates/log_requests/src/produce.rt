@@ -1,14 +1,14 @@
 //! Produce: batches that are stored in partitions.
 
-ghost use Rattle.std.specs.Prelude.{◌≡◌, OnOk, OnErr};
+ghost use Rattle.std.specs.Prelude.{◌≡◌, IfOk, OnErr};
 ghost use Rattle.request_frames.specs.Produce.{produce_view};
-ghost use Rattle.answering.specs.Responding.{RespondsBy};
+ghost use Rattle.answering.specs.Telling.{RespondsTold};
 ghost use Rattle.log_requests.specs.Produce.{produce_plan};
 
 mod entry;
 
 use crate::produce::entry::produce_entry;
-use answering::{Answers, respond, response_room};
+use answering::{Answers, Memory, respond, response_room};
 use broker_state::BrokerState;
 use request_frames::{ProducePartition, ProduceRequest};
 use responses::append_fixed;
@@ -32,26 +32,29 @@ impl<'a, 'q, 'r, S: BatchStore> Answers<ProducePartition<'a>, BrokerState<S>> fo
     ghost use Rattle.frame_fields.specs.Reading.{nothing};
     ghost use Rattle.request_frames.specs.Produce.{produce_partition_value, produce_view};
     ghost use Rattle.responses.specs.Produce.{produced_bytes};
-    ghost use Rattle.answering.specs.Work.{MayAnswer};
+    ghost use Rattle.answering.specs.Telling.{TellsNext};
     ghost use Rattle.log_requests.specs.Produce.{produce_work};
 
     ghost Answered = { ProducedPartition };
 
     ghost bytes = { produced_bytes };
 
-    ghost answers = { λ asked s name e r after. MayAnswer (produce_work s (produce_view asked.request.now) name
-        (produce_partition_value (e.index, (option_map (λ bytes. bytes.now) e.records, nothing)))) s r after };
+    ghost answers = { λ asked before name e r after. TellsNext (produce_work before.0 (produce_view asked.request.now) name
+        (produce_partition_value (e.index, (option_map (λ bytes. bytes.now) e.records, nothing)))) before r after };
 
     ghost size = { Some PRODUCED_PARTITION_BYTES };
 
+    #[tactic(auto, using(answering::proofs::Told::told_next))]
     fn put<A: Allocator + Copy>(
         &self,
         state: &mut BrokerState<S>,
+        memory: &mut Memory,
         topic: &[u8],
         entry: ProducePartition<'a>,
         out: &mut Vec<u8, A>,
     ) -> Result<(), AllocError> {
-        let answer = produce_entry(state, self.request, topic, &entry);
+        let (answer, told) = produce_entry(state, self.request, topic, &entry);
+        memory.note(told);
         append_fixed(out, &produced_bytes(answer))
     }
 }
@@ -60,7 +63,8 @@ impl<'a, 'q, 'r, S: BatchStore> Answers<ProducePartition<'a>, BrokerState<S>> fo
 /// unless the request asks for none. Its room is taken before anything changes.
 ///
 /// A partition's log that has no memory for a batch is as it was, the batch's own answer is the error
-/// code of a storage error, and the request's other batches are stored.
+/// code of a storage error, and the request's other batches are stored. It is told whether memory sufficed
+/// for all, also where the request asks for no response.
 ///
 /// # Errors
 ///
@@ -71,9 +75,10 @@ pub fn reply_to_produce<S: BatchStore, A: Allocator + Copy>(
     correlation: i32,
     request: &ProduceRequest<'_>,
     out: &mut Vec<u8, A>,
-) -> Result<(), AllocError>
-    ensures responds { OnOk result (RespondsBy (produce_plan state.old correlation (produce_view request.now))
-        out.old.items out.new.items state.new) }
+) -> Result<Memory, AllocError>
+    ensures responds { IfOk result (λ memory. RespondsTold
+        (produce_plan state.old correlation (produce_view request.now))
+        out.old.items out.new.items memory state.new) }
     ensures unchanged_on_error { OnErr result
         ((state.new ≡ state.old) × (out.new.items ≡ out.old.items)) }
 {
@@ -85,11 +90,21 @@ pub fn reply_to_produce<S: BatchStore, A: Allocator + Copy>(
     out.reserve(room)?;
     let asked = Storing { request };
     let tail = produce_tail();
-    let Ok(()) = respond(&asked, state, correlation, &[], topics, &tail, out) else {
+    let mut memory = Memory::Sufficed;
+    let Ok(()) = respond(
+        &asked,
+        state,
+        &mut memory,
+        correlation,
+        &[],
+        topics,
+        &tail,
+        out,
+    ) else {
         unreachable!()
     };
     if request.acks == 0 {
         out.truncate(start);
     }
-    Ok(())
+    Ok(memory)
 }

@@ -8,8 +8,8 @@ ghost use Rattle.request_frames.specs.OffsetCommit.{offset_commit_view, offset_c
 ghost use Rattle.group_offsets.specs.CommittedValues.{text_of};
 ghost use Rattle.answering.specs.Lists.{first_some};
 ghost use Rattle.answering.specs.Codes.{no_error};
-ghost use Rattle.answering.specs.Work.{MayAnswer};
-ghost use Rattle.answering.specs.Doing.{DoesWork};
+ghost use Rattle.answering.specs.Telling.{AnswersTold};
+ghost use Rattle.answering.specs.Doing.{DoesTold};
 ghost use Rattle.broker_state.specs.declared.config.Role.TheVariants.{Leader};
 ghost use Rattle.group_requests.specs.Appending.{AppendsToGroups};
 ghost use Rattle.group_requests.specs.OffsetCommit.{offset_commit_batch, offset_commit_result, offset_commit_work};
@@ -17,7 +17,7 @@ ghost use Rattle.group_requests.specs.OffsetCommit.Entries.{request_checks, entr
 
 use crate::group_partition::{append_to_groups, group_copy};
 use crate::offset_commit::MAX_METADATA_BYTES;
-use answering::ErrorCode;
+use answering::{ErrorCode, Memory, Refused};
 use broker_state::BrokerState;
 use group_offsets::commit_batch;
 use request_frames::{OffsetCommitPartition, OffsetCommitRequest};
@@ -100,7 +100,7 @@ fn commit<S: BatchStore>(
     partition: i32,
     offset: i64,
     metadata: Option<&[u8]>,
-) -> Result<(), ErrorCode>
+) -> Result<(), Refused>
     requires { state.old.config.role ≡ Leader }
     ensures { AppendsToGroups state.old (offset_commit_batch group.now topic.now
         (record { partition = partition; offset = offset; metadata = text_of metadata.entry }))
@@ -111,7 +111,7 @@ fn commit<S: BatchStore>(
         Ok(batch) => append_to_groups(state, &batch),
         // Only lack of memory comes here: the names of a request that was read are STRINGs, which are
         // never too long.
-        Err(_) => Err(ErrorCode::StorageError),
+        Err(_) => Err(Refused::OutOfMemory),
     }
 }
 
@@ -123,13 +123,13 @@ fn try_commit<S: BatchStore>(
     partition: i32,
     offset: i64,
     metadata: Option<&[u8]>,
-) -> Result<(), ErrorCode>
-    ensures { DoesWork (offset_commit_work state.old (offset_commit_view request.now) topic.now
+) -> Result<(), Refused>
+    ensures { DoesTold (offset_commit_work state.old (offset_commit_view request.now) topic.now
         (record { partition = partition; offset = offset; metadata = text_of metadata.entry }))
         (λ done. offset_commit_result partition no_error) result state.old state.new }
 {
     match commit_fault(state, request, topic, partition, offset, metadata) {
-        Some(fault) => Err(fault),
+        Some(fault) => Err(Refused::Check(fault)),
         None => commit(state, request.group, topic, partition, offset, metadata),
     }
 }
@@ -148,26 +148,29 @@ fn offset_of(entry: &OffsetCommitPartition<'_>) -> i64
     entry.offset
 }
 
-/// What is answered to an entry of an OffsetCommit request, whose offset is then committed or refused.
+/// What is answered to an entry of an OffsetCommit request, whose offset is then committed or refused; and
+/// whether memory sufficed.
 pub(crate) fn commit_entry<S: BatchStore>(
     state: &mut BrokerState<S>,
     request: &OffsetCommitRequest<'_>,
     topic: &[u8],
     entry: &OffsetCommitPartition<'_>,
-) -> CommittedPartition
-    ensures { MayAnswer (offset_commit_work state.old (offset_commit_view request.now) topic.now
+) -> (CommittedPartition, Memory)
+    ensures { AnswersTold result.1 (offset_commit_work state.old (offset_commit_view request.now) topic.now
         (offset_commit_partition_value (
           entry.now.partition,
           (
             entry.now.offset,
             (option_map (λ bytes. bytes.now) entry.now.metadata, nothing),
           ),
-        ))) state.old result state.new }
+        ))) state.old result.0 state.new }
 {
     let (index, offset) = (number_of(entry), offset_of(entry));
-    let code = match try_commit(state, request, topic, index, offset, entry.metadata) {
-        Ok(()) => 0,
-        Err(fault) => fault.number(),
-    };
-    CommittedPartition { index, code }
+    match try_commit(state, request, topic, index, offset, entry.metadata) {
+        Ok(()) => (CommittedPartition { index, code: 0 }, Memory::Sufficed),
+        Err(refused) => {
+            let code = refused.code().number();
+            (CommittedPartition { index, code }, refused.memory())
+        }
+    }
 }

@@ -1,8 +1,7 @@
 //! Requests handled so that it is told whether memory sufficed: as they are handled without, and with each allocation
 //! failing in turn.
 
-use broker_node::{Answer, GROUP_TOPIC, Node, Role, may_change};
-use exact_replies::{Memory, handle_exactly};
+use broker_node::{Answer, GROUP_TOPIC, Memory, Node, Role, may_change};
 use refusing_alloc::Refusing;
 use sample_brokers::brokers::{answers_of, has_answers};
 use sample_brokers::exchanges::{
@@ -94,7 +93,7 @@ fn once<S: BatchStore, A: Allocator + Copy>(
         return Came::Wrong;
     };
     let mut out = Vec::new(heap);
-    let told = handle_exactly(node, &request, &mut out);
+    let told = node.handle_exactly(&request, &mut out);
     if may_change(&request.body) == exchange.changes {
         came_of(exchange, told, &out)
     } else {
@@ -191,7 +190,7 @@ fn told_of<S: BatchStore, A: Allocator + Copy>(
     out: &mut Vec<u8, A>,
 ) -> Option<Memory> {
     let request = request_in(exchange.request)?;
-    handle_exactly(node, &request, out).ok()
+    node.handle_exactly(&request, out).ok()
 }
 
 /// How a request is answered where nothing is told.

@@ -15,8 +15,8 @@ loop-topic-preserved g c =
     let all = topics_said g.E.Element.fields c.args.topics in
     let left = topics_said g.E.Element.fields c.loop-topic.topic-iterator in
     let next = topics_said g.E.Element.fields c.next.new.self in (
-      writes_more (AnswersTopic (Said g.E.Element.value (g.Q.Answers.answers c.args.asked.now))) (topic_bytes g.Q.Answers.bytes) c.args.state.now all c.args.out.now.items
-          c.loop-topic.state c.put_topic.new.state left next c.loop-topic.out.items c.put_topic.new.out.items _ made.result first made.answers made.appends so_far.0,
+      writes_more (AnswersTopic (Said g.E.Element.value (g.Q.Answers.answers c.args.asked.now))) (topic_bytes g.Q.Answers.bytes) (c.args.state.now, c.args.memory.now) all c.args.out.now.items
+          (c.loop-topic.state, c.loop-topic.memory) (c.put_topic.new.state, c.put_topic.new.memory) left next c.loop-topic.out.items c.put_topic.new.out.items _ made.result first made.answers made.appends so_far.0,
       fits_more g.Q.Answers.size (λ n. topics_room n all) (λ n. topics_room n left) (λ n. topics_room n next) _
           (vec_len c.loop-topic.out) (vec_len c.put_topic.new.out) _ (vec_capacity c.loop-topic.out) (vec_capacity c.put_topic.new.out) _ (topics_parts left next _ first) c.in_ok-put_topic.ensures.len c.in_ok-put_topic.ensures.keeps_capacity so_far.1,
     )
@@ -35,8 +35,8 @@ returns-clause-writes g c =
     let enc = topic_bytes g.Q.Answers.bytes in
     record {
       results = so_far.done;
-      answers = answers_all A enc c.args.state.now all c.args.out.now.items c.loop-topic.state left c.loop-topic.out.items none so_far;
-      as_many = counts_all A enc c.args.state.now all c.args.out.now.items c.loop-topic.state left c.loop-topic.out.items none so_far;
+      answers = answers_all A enc (c.args.state.now, c.args.memory.now) all c.args.out.now.items (c.loop-topic.state, c.loop-topic.memory) left c.loop-topic.out.items none so_far;
+      as_many = counts_all A enc (c.args.state.now, c.args.memory.now) all c.args.out.now.items (c.loop-topic.state, c.loop-topic.memory) left c.loop-topic.out.items none so_far;
       appends = so_far.appends;
     }
 

@@ -9,4 +9,4 @@ returns-in-Ok g c = read_as c.args.image.now c.in-Ok.copy c.in-Ok.ensures.accept
 pub returns-in-Err : goal.returns-in-Err
 returns-in-Err g c =
     let bytes : IsBytes c.args.image.now = search rules in
-    read_fails c.args.image.now c.in-Err.fault c.image_code.result bytes c.in-Err.ensures.refuses_for_the_first_fault c.image_code.ensures
+    read_fails c.args.image.now c.in-Err.fault c.image_refused.result bytes c.in-Err.ensures.refuses_for_the_first_fault c.image_refused.ensures

@@ -12,4 +12,4 @@ returns-in-Ok g c =
 pub returns-in-Err : goal.returns-in-Err
 returns-in-Err g c =
     let bytes : IsBytes c.args.delta.now = search rules in
-    does_not_patch c.args.copy.now c.args.delta.now c.end.ensures.is_content bytes c.apply_delta.new.copy c.in-Err.fault c.patch_code.result c.in-Err.ensures.refuses c.in-Err.ensures.unchanged_on_error c.patch_code.ensures
+    does_not_patch c.args.copy.now c.args.delta.now c.end.ensures.is_content bytes c.apply_delta.new.copy c.in-Err.fault c.patch_refused.result c.in-Err.ensures.refuses c.in-Err.ensures.unchanged_on_error c.patch_refused.ensures

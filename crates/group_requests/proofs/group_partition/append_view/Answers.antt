@@ -10,5 +10,5 @@ returns-in-Ok g c =
 
 pub returns-in-Err : goal.returns-in-Err
 returns-in-Err g c =
-    is_not_appended c.args.state.now c.change_at.new.self c.args.batch.now c.in-Err.fault c.append_code.result c.append_code.ensures
+    is_not_appended c.args.state.now c.change_at.new.self c.args.batch.now c.in-Err.fault c.append_refused.result c.append_refused.ensures
     (let made = c.in-Err.ensures group_topic (pos 0) c.group_place-place.ensures in (made.0, made.1.0 c.requires, made.2))

@@ -1,35 +1,22 @@
 -- Requests handled so that it is told whether memory sufficed. Where it did, the reply and the state after are those that the
 -- state and the request make. Kafka's documentation, "Protocol Guide", section "The Messages".
-use Rattle.std.specs.Prelude.{◌≡◌, ◌⊎◌, ℕ, true, false, List, ◌∷◌, ◌++◌, Option}
-use Rattle.frame_fields.specs.Types.{TopicOf}
+use Rattle.std.specs.Prelude.{◌≡◌, ℕ, true, false, List, ◌++◌, Option, Result, Ok, Err}
 use Rattle.request_frames.specs.Requests.{RequestValue}
+use Rattle.answering.specs.declared.memory.Memory.{Memory}
+use Rattle.answering.specs.declared.memory.Memory.TheVariants.{Sufficed, Lacked}
 use Rattle.answering.specs.Work.{IsOutOfMemory, MayAnswer}
-use Rattle.answering.specs.Plans.{Plan, RepliesBy}
+use Rattle.answering.specs.Plans.{RepliesBy}
 use Rattle.answering.specs.Once.{RepliesOnce}
 use Rattle.answering.specs.Responding.{sent}
+pub use Rattle.answering.specs.Telling.{AnyPair, LacksEntry, LacksAny}
 use Rattle.broker_state.specs.State.{State}
 use Rattle.broker_node.specs.Ways.Way.{planned, once, fixed}
 use Rattle.broker_node.specs.Ways.{Way}
 use Rattle.broker_node.specs.Kinds.{kind}
 use Rattle.broker_node.specs.Effects.{may_change}
 use Rattle.broker_node.specs.Replies.{IsReply, MayReply}
-use Rattle.exact_replies.specs.declared.memory.Memory.{Memory}
-use Rattle.exact_replies.specs.declared.memory.Memory.TheVariants.{Sufficed, Lacked}
 
 -- ---- replies that lack memory
-
--- an element of the first list and the one of the second at the same index are in this relation
-abbrev pub AnyPair : {X Y : Type 0} → (X → Y → Type 0) → List X → List Y → Type 0
-AnyPair F (x ∷ xs) (y ∷ ys) = F x y ⊎ AnyPair F xs ys
-AnyPair F _ _ = ⊥
-
--- this is the result of an entry of a topic where its work lacks memory, in some state
-abbrev pub LacksEntry : {E R S B : Type 0} → Plan E R S B → (name : List ℕ) → E → R → Type 0
-LacksEntry {S = S} p name e r = (s after : S) × IsOutOfMemory (p.work s name e) s r after
-
--- one of the results of a plan's entries is
-abbrev pub LacksAny : {E R S B : Type 0} → Plan E R S B → List (TopicOf R) → Type 0
-LacksAny p results = AnyPair (λ t r. AnyPair (LacksEntry p t.name) t.entries r.entries) p.topics results
 
 -- what may be replied, where an entry's work lacks memory
 abbrev pub LacksByWay : {B : Type 0} → Way B → Option (List ℕ) → B → Type 0
@@ -55,3 +42,10 @@ pub record HandlesExactly (s : State) (q : RequestValue) (held held' : List ℕ)
   pub appends : held' ≡ held ++ sent response
   pub tells : Tells memory s q response after
   pub reads_only : may_change q.body ≡ false → (memory ≡ Sufficed) × (after ≡ s)
+
+-- ---- as the code goes
+
+-- what is told of a request that only reads
+abbrev pub told_sufficed : {E : Type 0} → Result (Unit {0}) E → Result Memory E
+told_sufficed (Ok done) = Ok Sufficed
+told_sufficed (Err e) = Err e
