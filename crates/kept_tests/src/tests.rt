@@ -6,4 +6,3 @@ mod groups;
 mod journal_bytes;
 mod journal_memory;
 mod lent;
-mod requests;

@@ -1,7 +1,7 @@
 //! Tests of frames, and of a broker's requests: what is cut from a stream; the writers of responses, on bytes worked out from
-//! Kafka's protocol guide, with a caller that is proved to write a whole response; why a new broker is refused; and the
-//! requests about groups and copies, and of several partitions, with each allocation failing in turn. `tests/rows` has whole
-//! requests and responses, the hosts and the names of topics that are refused, and refused frames.
+//! Kafka's protocol guide, with a caller that is proved to write a whole response; why a new broker is refused; and
+//! requests, also of several partitions, with each allocation failing in turn, and what is told of memory then. `tests/rows`
+//! has whole requests and responses, the hosts and the names of topics that are refused, and refused frames.
 #![tactic(auto)]
 
 #[cfg(test)]

@@ -2,10 +2,11 @@
 
 mod cutting;
 mod entry_memory;
-mod exchanges;
+mod handled_alike;
 mod new_brokers;
 mod one;
 mod parts;
 mod refusing;
 mod request_memory;
+mod runs;
 mod writing;

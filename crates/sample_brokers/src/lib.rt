@@ -1,5 +1,5 @@
-//! Brokers for tests, and what they are asked: a broker of two topics, one of small ones, and requests that may change
-//! something, with the responses to them.
+//! Brokers for tests, and what they are asked: a broker of two topics, one of small ones, and requests with the responses to
+//! them.
 #![tactic(auto)]
 
 pub mod brokers;

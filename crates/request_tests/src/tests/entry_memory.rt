@@ -2,11 +2,11 @@
 //! answered by itself, and what isn't answered leaves the output as it was, and each partition that took nothing answers
 //! as before. The bytes are worked out from docs/FORMATS.md.
 
-use crate::tests::exchanges::STORE_REQUEST;
-use crate::tests::request_memory::is_answered;
 use broker_node::{GROUP_TOPIC, Node, Role};
 use refusing_alloc::Refusing;
 use sample_brokers::brokers::{CONFIGURED, new_node, partition_answers};
+use sample_brokers::exchanges::STORE_REQUEST;
+use sample_brokers::small::request_in;
 use sample_brokers::stores::{BOTH, Kept};
 use segment::{BatchStore, SegStore, VecStore};
 use std::alloc::{AllocError, Allocator};
@@ -171,6 +171,18 @@ fn bit_of(outcomes: &[Outcome], came: (&[u8], [usize; 3])) -> Option<u32> {
         bit = bit.wrapping_mul(2);
     }
     None
+}
+
+/// Whether a request is answered, with what stands behind the output.
+fn is_answered<S: BatchStore, A: Allocator + Copy>(
+    node: &mut Node<S>,
+    frame: &'static [u8],
+    out: &mut Vec<u8, A>,
+) -> bool {
+    match request_in(frame) {
+        Some(request) => node.handle(&request, out).is_ok(),
+        None => false,
+    }
 }
 
 /// Whether the requests before are all answered, and the partitions keep what they should then.

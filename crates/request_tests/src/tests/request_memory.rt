@@ -1,88 +1,53 @@
-//! Requests about groups and copies, and what clients ask first, in memory of which one allocation fails: one of them
-//! isn't answered, or is answered with a storage error, and what takes no memory answers as before; made again it is
-//! answered as it should be.
+//! Requests in memory of which one allocation fails: one of them isn't answered, or is answered with a storage error and, if
+//! it may change something, told as lacking memory; what takes no memory answers as before; made again it is answered as it
+//! should be, and told that memory sufficed.
 
-use crate::tests::exchanges::{
-    CLEAN, COMMIT, COORDINATOR, DELIVER, DELTA, Exchange, FORGET, IMAGE, MERGE, PATCH, POSITION,
-    PRODUCER_ID, SEEN, STORE, TAKE, TRIM, VALUE, VERSIONS,
-};
-use broker_node::{GROUP_TOPIC, Node, Role};
+use crate::tests::runs::{MOST, OF_A_FOLLOWER, OF_A_LEADER, Run, given};
+use broker_node::{GROUP_TOPIC, Memory, Node, may_change};
 use refusing_alloc::Refusing;
-use request_frames::parse;
-use sample_brokers::brokers::{CONFIGURED, answers_of, has_answers, new_node};
+use sample_brokers::brokers::{answers_of, has_answers, new_node};
+use sample_brokers::exchanges::Exchange;
+use sample_brokers::small::request_in;
 use sample_brokers::stores::{BOTH, Kept};
 use segment::{BatchStore, SegStore, VecStore};
-use std::alloc::Allocator;
+use std::alloc::{AllocError, Allocator};
 
-/// What a broker is asked, in this order, and the ends of partition 0 of `t`, of `u` and of the topic of groups then.
-struct Run {
-    role: Role,
-    exchanges: &'static [Exchange],
-    ends: (i64, i64, i64),
+/// The end of partition 0 of a topic.
+fn end<S: BatchStore>(node: &Node<S>, topic: &[u8]) -> i64 {
+    node.log(topic, 0).map_or(-1, |log| log.end())
 }
 
-static OF_A_LEADER: Run = Run {
-    role: Role::Leader,
-    exchanges: &[
-        STORE,
-        COMMIT,
-        POSITION,
-        VALUE,
-        SEEN,
-        IMAGE,
-        DELTA,
-        CLEAN,
-        TRIM,
-        FORGET,
-        TAKE,
-        VERSIONS,
-        COORDINATOR,
-        PRODUCER_ID,
-    ],
-    ends: (1, 1, 2),
-};
-
-static OF_A_FOLLOWER: Run = Run {
-    role: Role::Follower,
-    exchanges: &[DELIVER, MERGE, PATCH, TRIM],
-    ends: (3, 0, 0),
-};
-
-/// More allocations than all requests ask for.
-const MOST: u64 = 200;
-
-/// How many bytes the requests have.
-fn given(run: &Run) -> usize {
-    let mut bytes = CONFIGURED;
-    for exchange in run.exchanges {
-        bytes = bytes.saturating_add(exchange.request.len());
-    }
-    bytes
-}
-
-/// Whether a request is answered, with what stands behind the output.
-pub(crate) fn is_answered<S: BatchStore, A: Allocator + Copy>(
-    node: &mut Node<S>,
-    frame: &[u8],
-    out: &mut Vec<u8, A>,
-) -> bool {
-    match parse(frame.get(4..).unwrap_or(b"")) {
-        Ok(request) => node.handle(&request, out).is_ok(),
-        Err(_) => false,
-    }
+/// Whether the partitions end as they should.
+fn has_ends<S: BatchStore>(node: &Node<S>, ends: (i64, i64, i64)) -> bool {
+    (end(node, b"t"), end(node, b"u"), end(node, GROUP_TOPIC)) == ends
 }
 
 /// What came of a request.
 #[derive(Clone, Copy, PartialEq, Eq)]
 enum Came {
-    /// Its response.
+    /// Its response, and memory sufficed.
     Answered,
     /// Nothing, for lack of memory.
     Unanswered,
-    /// A storage error.
+    /// A storage error, and memory lacked; or, of a request that only reads, memory sufficed.
     Failed,
     /// Something else.
     Wrong,
+}
+
+/// What came of a request of which this was told and that appended this.
+fn came_of(exchange: &Exchange, told: Result<Memory, AllocError>, appended: &[u8]) -> Came {
+    let lacked = if exchange.changes {
+        Memory::Lacked
+    } else {
+        Memory::Sufficed
+    };
+    match told {
+        Ok(Memory::Sufficed) if appended == exchange.response => Came::Answered,
+        Ok(memory) if memory == lacked && exchange.failed == Some(appended) => Came::Failed,
+        Err(AllocError) if appended.is_empty() => Came::Unanswered,
+        _ => Came::Wrong,
+    }
 }
 
 /// Sends a request once.
@@ -91,20 +56,20 @@ fn once<S: BatchStore, A: Allocator + Copy>(
     node: &mut Node<S>,
     exchange: &Exchange,
 ) -> Came {
+    let Some(request) = request_in(exchange.request) else {
+        return Came::Wrong;
+    };
     let mut out = Vec::new(heap);
-    let answered = is_answered(node, exchange.request, &mut out);
-    if answered && out.as_slice() == exchange.response {
-        Came::Answered
-    } else if !answered && out.is_empty() {
-        Came::Unanswered
-    } else if answered && exchange.failed == Some(out.as_slice()) {
-        Came::Failed
+    let told = node.handle_exactly(&request, &mut out);
+    if may_change(&request.body) == exchange.changes {
+        came_of(exchange, told, &out)
     } else {
         Came::Wrong
     }
 }
 
-/// Sends a request, and again where memory lacked, which must have changed no answer.
+/// Sends a request, and again where memory lacked, which must have changed no answer. One without a response changes
+/// some where memory sufficed.
 fn sent<S: BatchStore, A: Allocator + Copy, B: Allocator + Copy>(
     heap: A,
     alloc: B,
@@ -115,31 +80,24 @@ fn sent<S: BatchStore, A: Allocator + Copy, B: Allocator + Copy>(
         return Came::Wrong;
     };
     let came = once(heap, node, exchange);
-    if came == Came::Answered || came == Came::Wrong {
-        return came;
-    }
-    let is_same = has_answers(alloc, node, &before);
-    let again = once(heap, node, exchange);
-    if is_same && again == Came::Answered {
-        came
-    } else {
-        Came::Wrong
-    }
+    let is_right = match came {
+        Came::Answered => !(exchange.response.is_empty() && has_answers(alloc, node, &before)),
+        Came::Unanswered | Came::Failed => {
+            has_answers(alloc, node, &before) && once(heap, node, exchange) == Came::Answered
+        }
+        Came::Wrong => false,
+    };
+    if is_right { came } else { Came::Wrong }
 }
 
 /// The bit of a request that lacked memory: of its response, or of its work. 0 where it didn't.
-fn bit(came: Came, index: u32) -> Option<u32> {
+fn bit(came: Came, index: u32) -> Option<u64> {
     match came {
         Came::Answered => Some(0),
-        Came::Unanswered => 1_u32.checked_shl(2 * (index % 16)),
-        Came::Failed => 2_u32.checked_shl(2 * (index % 16)),
+        Came::Unanswered => 1_u64.checked_shl(2 * (index % 32)),
+        Came::Failed => 2_u64.checked_shl(2 * (index % 32)),
         Came::Wrong => None,
     }
-}
-
-/// The end of partition 0 of a topic.
-fn end<S: BatchStore>(node: &Node<S>, topic: &[u8]) -> i64 {
-    node.log(topic, 0).map_or(-1, |log| log.end())
 }
 
 /// The bits of the requests that lack memory; none where something else comes of one, or the partitions end elsewhere.
@@ -148,22 +106,24 @@ fn lacking_of<S: BatchStore, A: Allocator + Copy, B: Allocator + Copy>(
     alloc: B,
     node: &mut Node<S>,
     run: &Run,
-) -> Option<u32> {
-    let mut bits = 0_u32;
+) -> Option<u64> {
+    let mut bits = 0_u64;
     let mut index = 0_u32;
     for exchange in run.exchanges {
         bits |= bit(sent(heap, alloc, node, exchange), index)?;
         index = index.saturating_add(1);
     }
-    let ends = (end(node, b"t"), end(node, b"u"), end(node, GROUP_TOPIC));
-    if ends == run.ends { Some(bits) } else { None }
+    if has_ends(node, run.ends) {
+        Some(bits)
+    } else {
+        None
+    }
 }
 
-/// The same of a new broker in this heap.
-fn lacking<S: BatchStore, B: Allocator + Copy>(heap: S::Alloc, alloc: B, run: &Run) -> Option<u32> {
+/// The same of a new broker in this heap. Where there is no memory for it, none of the requests lacks any.
+fn lacking<S: BatchStore, B: Allocator + Copy>(heap: S::Alloc, alloc: B, run: &Run) -> Option<u64> {
     match new_node::<S>(heap, run.role, 3, "t", 1) {
         Ok(mut node) => lacking_of(heap, alloc, &mut node, run),
-        // the broker itself lacks memory
         Err(_) => Some(0),
     }
 }
@@ -174,7 +134,7 @@ fn lacking_in<A: Allocator + Copy, B: Allocator + Copy>(
     heap: A,
     alloc: B,
     run: &Run,
-) -> Option<u32> {
+) -> Option<u64> {
     match kept {
         Kept::Apart => lacking::<VecStore<A>, B>(heap, alloc, run),
         Kept::EndToEnd => lacking::<SegStore<A>, B>(heap, alloc, run),
@@ -188,7 +148,7 @@ fn lacking_without<A: Allocator + Copy>(
     kept: Kept,
     refused: u64,
     run: &Run,
-) -> (Option<u32>, bool) {
+) -> (Option<u64>, bool) {
     let heap = Refusing::new(inner, refused);
     let bits = lacking_in(kept, &heap, inner, run);
     let is_asked = heap.calls() >= refused;
@@ -199,18 +159,18 @@ fn lacking_without<A: Allocator + Copy>(
     }
 }
 
-/// The bits of all requests that lack memory where one allocation fails, whichever that is; none where something else
-/// comes of one, or memory lacks though no allocation fails.
-fn all_lacking<A: Allocator + Copy>(inner: A, kept: Kept, run: &Run) -> Option<u32> {
-    let mut all = 0_u32;
+/// The bits of all requests that lack memory where one allocation fails, whichever that is; an error with the number of
+/// one at which something else comes of them, or memory lacks though no allocation fails.
+fn all_lacking<A: Allocator + Copy>(inner: A, kept: Kept, run: &Run) -> Result<u64, u64> {
+    let mut all = 0_u64;
     for refused in 1..MOST {
-        let (bits, is_asked) = lacking_without(inner, kept, refused, run);
-        all |= bits?;
-        if !is_asked {
-            return if bits == Some(0) { Some(all) } else { None };
+        match lacking_without(inner, kept, refused, run) {
+            (Some(bits), true) => all |= bits,
+            (Some(0), false) => return Ok(all),
+            _ => return Err(refused),
         }
     }
-    None
+    Err(MOST)
 }
 
 #[test]
@@ -218,8 +178,12 @@ fn each_request_lacks_memory_once(rt: HostRuntime) {
     for kept in BOTH {
         let leads = all_lacking(rt.alloc(), kept, &OF_A_LEADER);
         let follows = all_lacking(rt.alloc(), kept, &OF_A_FOLLOWER);
-        // both bits of each, but for Get, Cover, Trim, and the three that clients ask first, whose work takes none
-        assert_eq!(rt; leads, Some(0b01_01_01_11_11_01_11_11_11_01_01_11_11_11));
-        assert_eq!(rt; follows, Some(0b01_11_11_11));
+        // both bits of each, from the first at the right, also of a Produce with acks 0, whose room is taken too; but for
+        // Get, Cover, Trim, and those that clients ask first, whose work takes none
+        assert_eq!(rt;
+            leads,
+            Ok(0b01_01_01_01_11_11_11_01_11_11_11_01_01_11_11_11)
+        );
+        assert_eq!(rt; follows, Ok(0b01_11_11_11));
     }
 }
