@@ -2,6 +2,7 @@
 
 No case needs a fast machine: what must come soon may take a minute, and what must not come yet is looked for a third of a second.
 """
+import contextlib
 import os
 import resource
 import signal
@@ -42,6 +43,22 @@ def is_woken_by_produce(program):
             waits(consumer, fetch(f"t:0 {number}"))
             produce(producer, "t:0", number, f"a={number}")
             consumer.gets(reply(f"fetched t:0 0 {number + 1} batch base:{number} a={number}"))
+
+
+def is_woken_by_each_entry(program):
+    """A Produce to several topics and partitions wakes who waits for any of them, the last too; and nobody who waits for another."""
+    places = ("t:0", "t:1", "u:0", "u:1")
+    with Started(program, topics=("t:4", "u:4")) as broker, broker.client() as producer, contextlib.ExitStack() as stack:
+        consumers = [stack.enter_context(broker.client()) for _ in (*places, "another")]
+        for consumer, place in zip(consumers, (*places, "u:2")):
+            waits(consumer, fetch(f"{place} 0"))
+        producer.ask(
+            "produce " + " | ".join(f"{place} batch {place[0]}={place[2]}" for place in places),
+            "produced " + " | ".join(f"{place} 0 0" for place in places),
+        )
+        for consumer, place in zip(consumers, places):
+            consumer.gets(reply(f"fetched {place} 0 1 batch {place[0]}={place[2]}"))
+        holds("a reply comes to another partition's bytes", consumers[-1].gets_nothing(BRIEF))
 
 
 def time_runs_out(program):
@@ -340,6 +357,7 @@ def most_held(program):
 
 CASES = [
     ("a fetch waits for what another produces", is_woken_by_produce),
+    ("fetches wait for what one produce stores", is_woken_by_each_entry),
     ("a fetch whose time runs out", time_runs_out),
     ("a broker that rests while a fetch waits", rests_meanwhile),
     ("fetches' times in their order", times_in_their_order),
