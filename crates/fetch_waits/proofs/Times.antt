@@ -1,5 +1,5 @@
 -- How long a Fetch waits that does.
-use Rattle.std.proofs.Common.{◌≡◌, ℕ, ◌<◌, ℤ, pos, negsuc, arith, Bool, true, false, sym, ap, refl, ◌∙◌}
+use Rattle.std.proofs.Common.{◌≡◌, ℕ, ◌<◌, ℤ, pos, negsuc, arith, Bool, true, false, sym, refl}
 use Rattle.std.specs.Prelude.{◌&&◌, int_lt, nat_abs}
 use Rattle.std.specs.Int.{int_gap}
 use Rattle.std.proofs.lemmas.Bool.{true≢false}

@@ -1,10 +1,14 @@
 -- Which Fetches wait for records. Kafka's documentation, "Protocol Guide", section "The Messages" (max_wait_ms, min_bytes and
--- max_bytes of Fetch), and the consumer's settings "fetch.min.bytes" and "fetch.max.wait.ms". That a partition with an error
--- code ends the wait is Kafka's; the most entries are this project's own.
+-- max_bytes of Fetch), and "Consumer Configs", sections "fetch.min.bytes" (a Fetch waits while too little is available),
+-- "fetch.max.wait.ms" and "max.partition.fetch.bytes". That a partition with an error code ends the wait is Kafka's. This
+-- project's own are the most entries, and that a Fetch doesn't wait where a limit leaves out a batch that is there.
 pub mod Entries
-use Rattle.std.specs.Prelude.{ℕ, pos, min, Bool, false, ◌&&◌, int_lt, nat_lt, nat_le, List, length}
+use Rattle.std.specs.Prelude.{ℕ, ℤ, pos, min, Bool, false, ◌&&◌, int_lt, nat_lt, nat_le, nat_eq, List, length, drop}
 use Rattle.std.specs.List.{flat_map, list_all}
 use Rattle.std.specs.Ordering.{int_eq}
+use Rattle.batch_codec.specs.Grammar.{batch_encoding}
+use Rattle.content.specs.Content.{Content}
+use Rattle.segment.specs.BatchLists.{first_from}
 use Rattle.request_frames.specs.Fetch.{FetchValue, FetchPartitionValue}
 use Rattle.request_frames.specs.Requests.{BodyValue}
 use Rattle.request_frames.specs.Requests.BodyValue.{fetch}
@@ -12,7 +16,7 @@ use Rattle.responses.specs.Fetch.{Fetched}
 use Rattle.answering.specs.Codes.{no_error}
 use Rattle.answering.specs.Work.{answer}
 use Rattle.answering.specs.Plans.{over_topics}
-use Rattle.broker_state.specs.State.{State}
+use Rattle.broker_state.specs.State.{State, content_at}
 use Rattle.log_requests.specs.Fetch.{fetch_limit, fetch_room, fetch_work}
 use Rattle.fetch_waits.specs.declared.waiting.TheConstants.{MOST_ENTRIES}
 
@@ -25,16 +29,30 @@ abbrev pub fetched_of : State → FetchValue → List Fetched
 fetched_of s q = flat_map (λ t. t.entries)
     (over_topics (λ room name e. answer (fetch_work s room name e) room) (fetch_room q.max_bytes) q.topics).0
 
+-- the bytes of records that are given
+abbrev pub bytes_given : State → FetchValue → List ℕ
+bytes_given s q = flat_map (λ r. r.records) (fetched_of s q)
+
+-- the bytes of all batches that a copy keeps from an offset on
+abbrev pub bytes_from : Content → (offset : ℤ) → List ℕ
+bytes_from c offset = flat_map batch_encoding (drop (first_from offset c.kept) c.kept)
+
+-- the bytes that are there: of each partition that is asked for, from its offset on
+abbrev pub bytes_there : State → FetchValue → List ℕ
+bytes_there s q = flat_map
+    (λ t. flat_map (λ e. bytes_from (content_at s t.name e.partition) e.offset) t.entries) q.topics
+
 -- how many bytes of records it asks for, and takes
 abbrev pub awaited_bytes : FetchValue → ℕ
 awaited_bytes q = min (fetch_limit q.min_bytes) (fetch_room q.max_bytes).left
 
--- no partition has an error code, and together they give fewer bytes of records than are asked for
+-- No partition has an error code, all that is there is given, and it has fewer bytes than are awaited. What is given of a
+-- partition is a front of what is there, so as many bytes are all of them.
 abbrev pub lacks_bytes : State → FetchValue → Bool
 lacks_bytes s q =
-    let given = fetched_of s q in
-    list_all (λ r. int_eq r.partition.code no_error) given
-    && nat_lt (length (flat_map (λ r. r.records) given)) (awaited_bytes q)
+    let given = length (bytes_given s q) in
+    list_all (λ r. int_eq r.partition.code no_error) (fetched_of s q)
+    && (nat_eq given (length (bytes_there s q)) && nat_lt given (awaited_bytes q))
 
 -- it names topics and partitions, and no more of either than there can be partitions
 abbrev pub asks_for_some : FetchValue → Bool

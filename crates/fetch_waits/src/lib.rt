@@ -1,6 +1,9 @@
-//! Which Fetches wait for records: [`fetch_waits`], as `specs/Waiting` defines it.
+//! Which Fetches wait for records: [`fetch_waits`], as `specs/Waiting` defines it; and how much is there for their
+//! entries: [`count_entry`], [`count_behind`].
 #![tactic(auto)]
 
+mod counts;
 mod waiting;
 
-pub use waiting::{MOST_ENTRIES, fetch_waits};
+pub use counts::{Behind, Counted, count_behind, count_entry};
+pub use waiting::{MOST_ENTRIES, awaited_bytes, fetch_waits};

@@ -1,19 +1,21 @@
 //! Whether a Fetch waits.
 
-ghost use Rattle.std.specs.Prelude.{◌≡◌, ◌≤◌, ◌&&◌, length, map, nat_le, nat_lt};
+ghost use Rattle.std.specs.Prelude.{◌≡◌, ◌≤◌, ◌+◌, ◌&&◌, min, not, true, false, length, drop, map, nat_le, nat_lt, IfOk, OnOk, OnErr};
 ghost use Rattle.std.specs.List.{flat_map};
-ghost use Rattle.std.specs.Option.{option_map};
 ghost use Rattle.batch_codec.specs.Grammar.{batch_encoding};
+ghost use Rattle.segment.specs.BatchLists.{first_from};
+ghost use Rattle.partition_log.specs.Lookups.{fetched};
 ghost use Rattle.frame_fields.specs.Arrays.{values};
 ghost use Rattle.request_frames.specs.Fetch.{fetch_partition, fetch_partition_value, fetch_view};
+ghost use Rattle.log_requests.specs.Fetch.{fetch_limit, is_out_of_range};
 ghost use Rattle.log_requests.specs.Fetch.Entries.{between, fetch_entry_value};
 ghost use Rattle.fetch_waits.specs.Waiting.{asks_for_some, awaited_bytes, entries_of, fetch_waits, lacks_bytes};
 ghost use Rattle.fetch_waits.specs.Waiting.Entries.{left_by_entries, left_by_entry, left_of};
 
 use broker_state::BrokerState;
 use frame_fields::{Topic, Topics};
-use log_requests::{FetchRoom, MAX_FETCH_BYTES};
-use partition_log::PartitionLog;
+use log_requests::MAX_FETCH_BYTES;
+use partition_log::{OutOfRange, PartitionLog};
 use request_frames::{FetchPartition, FetchRequest};
 use segment::BatchStore;
 use std::ops::Range;
@@ -22,7 +24,9 @@ use std::ops::Range;
 /// This limit is the project's own.
 pub const MOST_ENTRIES: usize = 4_097;
 
-/// Whether a Fetch waits for records, in what a broker holds now. It takes no memory.
+/// Whether a Fetch waits for records, in what a broker holds now: it would be given all that is there, and
+/// that is too little. It takes no memory, and walks no more batches of a partition than would be given of
+/// it, and one.
 #[tactic(auto, unfolding(crate::specs::Waiting::fetch_waits))]
 pub fn fetch_waits<S: BatchStore>(state: &BrokerState<S>, request: &FetchRequest<'_>) -> bool
     ensures { result ≡ fetch_waits state.now (fetch_view request.now) }
@@ -53,27 +57,34 @@ fn has_some_entries(request: &FetchRequest<'_>) -> bool
     count > 0
 }
 
+/// How many bytes a limit allows. A negative limit allows none.
+pub(crate) fn bytes_within(limit: i32) -> usize
+    ensures { result ≡ fetch_limit limit }
+{
+    limit.max(0) as usize
+}
+
 /// For how many bytes of records a Fetch waits.
-fn awaited_bytes(request: &FetchRequest<'_>) -> usize
+pub fn awaited_bytes(request: &FetchRequest<'_>) -> usize
     ensures { result ≡ awaited_bytes (fetch_view request.now) }
 {
-    let least = request.min_bytes.max(0) as usize;
-    let most = request.max_bytes.max(0) as usize;
+    let least = bytes_within(request.min_bytes);
+    let most = bytes_within(request.max_bytes);
     least.min(most.min(MAX_FETCH_BYTES))
 }
 
-/// Whether no partition has an error code, and all together give fewer bytes of records than are asked
-/// for.
+/// Whether no partition has an error code, all that is there is given, and it has fewer bytes of records
+/// than are awaited.
 fn lacks_bytes<S: BatchStore>(state: &BrokerState<S>, request: &FetchRequest<'_>) -> bool
     ensures { result ≡ lacks_bytes state.now (fetch_view request.now) }
 {
-    let mut room = FetchRoom::new(request.max_bytes);
-    let mut missing = awaited_bytes(request);
-    if missing == 0 {
+    let awaited = awaited_bytes(request);
+    if awaited == 0 {
         return false;
     }
+    let mut missing = awaited;
     for topic in Topics::of(&request.topics) {
-        match left_by_entries(state, topic, &mut room, missing) {
+        match left_by_entries(state, topic, awaited, missing) {
             Some(left) => missing = left,
             None => return false,
         }
@@ -81,50 +92,77 @@ fn lacks_bytes<S: BatchStore>(state: &BrokerState<S>, request: &FetchRequest<'_>
     true
 }
 
-/// How many bytes are still lacking behind a topic's entries, where so many were before; none where an
-/// entry has an error code, or nothing is lacking any more.
+/// How many of the bytes that are awaited are still missing behind a topic's entries, where so many were
+/// before; none where an entry has an error code, leaves out a batch that is there, or nothing is missing
+/// any more.
 fn left_by_entries<S: BatchStore>(
     state: &BrokerState<S>,
     topic: Topic<'_, FetchPartition>,
-    room: &mut FetchRoom,
+    awaited: usize,
     missing: usize,
 ) -> Option<usize>
-    ensures { option_map (λ left. (room.new, left)) result
-        ≡ left_by_entries state.now topic.entry.name.now (room.old, missing)
+    ensures { result ≡ left_by_entries state.now topic.entry.name.now awaited missing
         (map fetch_partition_value (values fetch_partition topic.entry.partitions)) }
 {
     let mut left = missing;
     for entry in topic.partitions {
-        left = left_by_entry(state, topic.name, entry, room, left)?;
+        left = left_by_entry(state, topic.name, entry, awaited, left)?;
     }
     Some(left)
 }
 
-/// How many bytes are still lacking behind an entry, where so many were before; none where it has an
-/// error code, or nothing is lacking any more.
+/// How many of the bytes that are awaited are still missing behind an entry, where so many were before;
+/// none where it has an error code, leaves out a batch that is there, or nothing is missing any more.
 fn left_by_entry<S: BatchStore>(
     state: &BrokerState<S>,
     topic: &[u8],
     entry: FetchPartition,
-    room: &mut FetchRoom,
+    awaited: usize,
     missing: usize,
 ) -> Option<usize>
-    ensures { option_map (λ left. (room.new, left)) result
-        ≡ left_by_entry state.now topic.now (room.old, missing) (fetch_entry_value entry) }
+    ensures { result
+        ≡ left_by_entry state.now topic.now awaited missing (fetch_entry_value entry) }
 {
     let Ok(copy) = state.led_copy(topic, entry.partition) else {
         return None;
     };
-    let Ok(run) = room.run_within(copy, entry) else {
+    let Ok(run) = run_within(copy, entry, awaited, missing) else {
         return None;
     };
-    let has_batch = run.start < run.end;
-    let left = left_by_run(copy, run, missing)?;
-    room.take(missing - left, has_batch);
-    Some(left)
+    let kept = copy.len();
+    if run.end < kept {
+        return None;
+    }
+    left_by_run(copy, run, missing)
 }
 
-/// How many bytes are still lacking behind some batches, where so many were before; none where nothing
+/// The indices of the batches of a copy, from the offset that is asked for on, that fit into the entry's
+/// limit and into the bytes that are missing of those that are awaited. The response has room for at least
+/// as many, and where more are there it doesn't wait. Its first batch is given in any case.
+///
+/// # Errors
+///
+/// The offset lies outside the copy.
+fn run_within<S: BatchStore>(
+    copy: &PartitionLog<S>,
+    entry: FetchPartition,
+    awaited: usize,
+    missing: usize,
+) -> Result<Range<usize>, OutOfRange>
+    ensures starts { IfOk result (λ run. run.start ≡ first_from entry.offset copy.now.kept) }
+    ensures ends { IfOk result (λ run. run.end ≡ run.start + fetched (not (nat_lt missing awaited))
+        (min (fetch_limit entry.max_bytes) missing) (drop run.start copy.now.kept)) }
+    ensures within { IfOk result (λ run. run.end ≤ length copy.now.kept) }
+    ensures in_range { OnOk result (is_out_of_range copy.now entry.offset ≡ false) }
+    ensures out_of_range { OnErr result (is_out_of_range copy.now entry.offset ≡ true) }
+{
+    // Each batch has bytes, so the response has one where fewer are missing than are awaited.
+    let has_batch = missing < awaited;
+    let limit = bytes_within(entry.max_bytes).min(missing);
+    copy.fetch(entry.offset, limit, !has_batch)
+}
+
+/// How many bytes are still missing behind some batches, where so many were before; none where nothing
 /// is.
 fn left_by_run<S: BatchStore>(
     copy: &PartitionLog<S>,

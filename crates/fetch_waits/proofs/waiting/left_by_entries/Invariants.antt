@@ -8,5 +8,5 @@ use Rattle.fetch_waits.proofs.waiting.left_by_entries.Given as goal
 -- what the entries that are left leave is what all do
 abbrev pub invariant-loop-entry : goal.invariant-loop-entry
 invariant-loop-entry g l =
-    left_by_entries l.fn.state l.fn.topic.name.now (l.room, l.left) (map fetch_partition_value (values fetch_partition l.entry-iterator))
-    ≡ left_by_entries l.fn.state l.fn.topic.name.now (l.fn.room, l.fn.missing) (map fetch_partition_value (values fetch_partition l.fn.topic.partitions))
+    left_by_entries l.fn.state l.fn.topic.name.now l.fn.awaited l.left (map fetch_partition_value (values fetch_partition l.entry-iterator))
+    ≡ left_by_entries l.fn.state l.fn.topic.name.now l.fn.awaited l.fn.missing (map fetch_partition_value (values fetch_partition l.fn.topic.partitions))
