@@ -14,7 +14,7 @@ use Rattle.kept_sessions.specs.declared.keeper.CommitError.{CommitError}
 use Rattle.kept_sessions.specs.declared.keeper.CommitError.TheVariants.{OutOfMemory, Journal as InJournal}
 use Rattle.std.specs.Io.KnownBytes.{append_known}
 use Rattle.journal.specs.Disks.{LeavesAll}
-use Rattle.sessions.specs.Orders.{Event, SendsAt, World, Run, new_world, sent_to, one_list, own}
+use Rattle.sessions.specs.Orders.{Event, SendsAt, SessionsState, World, Run, new_world, sent_to, one_list, own}
 use Rattle.journal.specs.declared.layout.TheConstants.{HEAD_SIZE}
 use Rattle.journal.specs.Files.{Group, IsGroup, AreGroups, IsRead, groups_bytes}
 use Rattle.journal.specs.Crashes.{HasStranger}
@@ -22,13 +22,18 @@ use Rattle.journal.specs.Journals.{JournalState, StopsAppend, next_bytes, next_g
 use Rattle.kept_sessions.specs.Replaying.{Replays, ReplaysFrames}
 use Rattle.kept_sessions.specs.Noting.{NotesValue, HasNotes, Notes}
 
--- The broker and its sessions, the frames that are noted and not in the journal, the journal, and the places of the
--- partitions that may not change yet.
+-- The broker and its sessions, the frames that are noted and not in the journal, the journal, the places of the partitions that
+-- may not change yet, and the sessions whose first frame waits, each with whether it was named.
 pub record KeptState (D : Type 0) : Type 0 where
   pub world : World
   pub notes : NotesValue
   pub journal : JournalState D
   pub barred : List Place
+  pub waits : List (ℕ × Bool)
+
+-- the sessions alone
+abbrev pub sessions_of : {D : Type 0} → KeptState D → SessionsState
+sessions_of k = record { world = k.world; waits = k.waits }
 
 abbrev pub no_notes : NotesValue
 no_notes = record { frames = []; has_lacked = false }

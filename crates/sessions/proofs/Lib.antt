@@ -6,3 +6,22 @@ pub mod Passing
 pub mod OneOrder
 pub mod Sending
 pub mod Below
+pub mod Leaving
+pub mod Watching
+pub mod Watched
+mod Woken
+mod Joining
+mod Counting
+mod Missing
+mod WaitingOn
+mod Requested
+mod Joined
+mod DueTimes
+mod Booleans
+mod Standing
+mod Sharing
+mod Marked
+mod Growth
+mod Looking
+mod LookedAt
+mod Passed

@@ -1,7 +1,6 @@
 -- All visits of all sessions are one list of requests: event by event.
 use Rattle.std.proofs.Common.{◌≡◌, ℕ, ◌≤◌, arith, Bool, true, false, List, [], ◌∷◌, ◌++◌, length, map, sym, ap, subst, refl, ◌∙◌, append_assoc, append-nil, Option, Some, None}
-use Rattle.std.specs.Prelude.{◌≢◌, IfNone, IfSome, nat_eq, if◌then◌else◌}
-use Rattle.std.specs.Map.{lookup}
+use Rattle.std.specs.Prelude.{◌≢◌, IfSome, nat_eq, if◌then◌else◌}
 use Rattle.std.proofs.lemmas.Bool.{eqb-true, eqb-false}
 use Rattle.std.proofs.lemmas.List.{length-append}
 use Rattle.std.proofs.lemmas.Option.{none-some}
@@ -12,7 +11,7 @@ use Rattle.sessions.specs.declared.visiting.Visit.{Visit}
 use Rattle.sessions.specs.declared.visiting.Seat.{Seat}
 use Rattle.sessions.specs.Visits.{Moved}
 use Rattle.sessions.specs.Steps.{VisitsSession}
-use Rattle.sessions.specs.Orders.{World, session_at, new_world, Event, Step, Run, IsOpened, IsVisited, IsClosed, came_in, came_of, sent_in, sent_to, answered_in, one_list, own, IsOwnPart, IsOneOrder, IsReached, IsInOrder, OthersStay, VisitsAt}
+use Rattle.sessions.specs.Orders.{World, session_at, new_world, Event, Step, Run, IsOpened, IsVisited, IsClosed, came_in, came_of, sent_in, sent_to, answered_in, one_list, own, IsOwnPart, IsOneOrder, IsInOrder, GoesOnBy, OthersStay, VisitsAt}
 use Rattle.sessions.specs.Orders.Event.{Opens, Visits, Closes}
 use Rattle.sessions.proofs.Frames.{no_frames, cut_longer}
 use Rattle.sessions.proofs.Turning.{exchanges_append, replied_append, in_turn_append}
@@ -183,34 +182,11 @@ run_then : (w mid new : World) (events : List Event) (event : Event) → Run w e
 run_then w mid new [] event run step = (new, subst (λ (x : World). Step x event new) run step, refl)
 run_then w mid new (first ∷ events) event run step = (run.0, run.1, run_then run.0 mid new events event run.2 step)
 
-pub reached_then : (mid new : World) (event : Event) → IsReached mid → Step mid event new → IsReached new
-reached_then mid new event r step = record {
-  first = r.first;
-  events = r.events ++ event ∷ [];
-  run = run_then (new_world r.first) mid new r.events event r.run step;
-}
+pub goes_on : (event : Event) (old new : World) → Step old event new → GoesOnBy event old new
+goes_on event old new step = λ first events run. run_then (new_world first) old new events event run step
 
-pub reached_new : (s : State) → IsReached (new_world s)
-reached_new s = record { first = s; events = []; run = refl }
-
--- a session that is closed, if it is there
-pub reached_close : (who : ℕ) (s : State) (next : ℕ) (es es' : List (ℕ × SessionState)) (r : Option SessionState) → IsReached (record { state = s; sessions = es; next = next })
-    → r ≡ lookup (nat_eq who) es → lookup (nat_eq who) es' ≡ None → ((k : ℕ) → k ≢ who → lookup (nat_eq k) es' ≡ lookup (nat_eq k) es) → IfNone r (es' ≡ es)
-    → IsReached (record { state = s; sessions = es'; next = next })
-reached_close who s next es es' None r was gone others same = subst (λ (x : List (ℕ × SessionState)). IsReached (record { state = s; sessions = x; next = next })) (sym same) r
-reached_close who s next es es' (Some st) r was gone others same =
-    reached_then (record { state = s; sessions = es; next = next }) (record { state = s; sessions = es'; next = next }) (Closes who) r
-    (record { before = st; was = sym was; is = gone; only = (refl, others); next = refl })
-
--- a session that is visited
-pub reached_visit : (who clock : ℕ) (old new : World) (seat seat' : Seat) (before after : SessionState) (left left' : Option (List ℕ)) (visit : Visit)
-    → IsReached old → session_at old who ≡ Some before → session_at new who ≡ Some after → OthersStay who old new → new.next ≡ old.next
-    → VisitsSession clock old.state seat before new.state seat' after left left' visit → IsReached new
-reached_visit who clock old new seat seat' before after left left' visit r found is others next v =
-    reached_then old new (Visits who v.moved) r (record { before = before; after = after; was = found; is = is; moves = v.moves; others = others; next = next })
-
-pub in_order : (now : World) → IsReached now → IsInOrder now
-in_order now r = record { first = r.first; events = r.events; order = one_order r.first r.events now r.run }
+pub in_order : (now : World) → IsInOrder now
+in_order now = λ first events run. one_order first events now run
 
 -- ---- a visit of one session, among the others
 
@@ -224,8 +200,10 @@ pub visited_in : (who clock : ℕ) (old was new : World) (seat seat' : Seat) (be
     → was ≡ old → session_at was who ≡ Some before → session_at new who ≡ Some after → OthersStay who was new → new.next ≡ was.next
     → VisitsSession clock was.state seat before new.state seat' after left left' visit → VisitsAt who clock seat old seat' new left left' visit
 visited_in who clock old was new seat seat' before after left left' visit same found is others next v =
+    let visited : IsVisited who v.moved was new = record { before = before; after = after; was = found; is = is; moves = v.moves; others = others; next = next } in
     subst (λ (w : World). VisitsAt who clock seat w seat' new left left' visit) same (record {
       moved = v.moved;
-      visited = record { before = before; after = after; was = found; is = is; moves = v.moves; others = others; next = next };
+      visited = visited;
+      goes_on = goes_on (Visits who v.moved) was new visited;
       made = v.made;
     })

@@ -1,5 +1,5 @@
 -- What is sent without a read or an answer.
-use Rattle.std.proofs.Common.{◌≡◌, ℕ, ◌-◌, ◌<◌, arith, List, [], ◌++◌, length, sym, ap, subst, refl, ◌∙◌, append-nil, Option, Result, Err, inl, inr}
+use Rattle.std.proofs.Common.{◌≡◌, ◌≢◌, ℕ, zero, suc, ◌+◌, ◌-◌, ◌<◌, arith, List, [], ◌++◌, length, sym, ap, subst, refl, ◌∙◌, append-nil, Option, Some, Result, Ok, Err, inl, inr}
 use Rattle.std.specs.Prelude.{◌⊎◌, true, false}
 use Rattle.std.proofs.lemmas.List.{length-append}
 use Rattle.broker_state.specs.State.{State}
@@ -9,19 +9,30 @@ use Rattle.sessions.specs.declared.visiting.Flushed.{Flushed}
 use Rattle.sessions.specs.declared.visiting.Why.{Why}
 use Rattle.sessions.specs.declared.visiting.Why.TheVariants.{End, Read, Write, Frame, OutOfMemory}
 use Rattle.sessions.specs.Turns.{SessionState}
-use Rattle.sessions.specs.Visits.{Moves, SendsTo, TellsSent}
-use Rattle.sessions.specs.Orders.{World, IsReached, IsVisited, SendsAt}
+use Rattle.sessions.specs.Visits.{GetsOn, Moves, SendsTo, TellsSent}
+use Rattle.sessions.specs.Orders.{World, IsVisited, OnlyChanges, SendsAt, moves_out, session_at}
 use Rattle.sessions.specs.Orders.Event.{Visits}
 use Rattle.sessions.specs.Steps.{Writes, WriteFault}
 use Rattle.sessions.proofs.Turning.{turn_none}
-use Rattle.sessions.proofs.OneOrder.{reached_then}
+use Rattle.sessions.proofs.OneOrder.{goes_on}
 
 -- ---- one session
 
+-- something left, where it isn't told that nothing did though it might
+pub gets_on : (old now : SessionState) (seat : Seat) (sent : List ℕ) (flushed : Flushed) (owing left : ℕ) → owing ≡ length old.owed → left ≡ length now.owed → (flushed.was_interrupted ≡ false → seat.may_write ≡ true → 0 < owing → left ≢ owing)
+    → old.owed ≡ sent ++ now.owed → GetsOn old seat sent (Ok flushed)
+gets_on old now seat sent flushed owing left was is differs parts none can some = by (length sent) refl where
+  sum : length old.owed ≡ length sent + length now.owed
+  sum = ap length parts ∙ length-append sent now.owed
+
+  by : (n : ℕ) → length sent ≡ n → 0 < length sent
+  by (suc n) e = omega (arith, e)
+  by zero e = absurd (differs none can (omega (arith, was, some)) (omega (arith, sum, e, was, is)))
+
 -- what went out, and what is told of it
 pub sent_to : (seat seat' : Seat) (old mid new : SessionState) (taken taken' : Option (List ℕ)) (result : Result Flushed Why) → Writes seat.may_write seat'.may_write old mid taken taken' → new ≡ mid
-    → seat' ≡ record seat { may_write = seat'.may_write } → ((sent : List ℕ) → old.owed ≡ sent ++ new.owed → new ≡ record old { owed = new.owed } → TellsSent old seat' sent new result) → SendsTo seat old seat' new taken taken' result
-sent_to seat seat' old mid new taken taken' result w same seat_stays tells =
+    → seat' ≡ record seat { may_write = seat'.may_write } → ((sent : List ℕ) → old.owed ≡ sent ++ new.owed → new ≡ record old { owed = new.owed } → TellsSent old seat' sent new result) → ((sent : List ℕ) → old.owed ≡ sent ++ new.owed → GetsOn old seat' sent result) → SendsTo seat old seat' new taken taken' result
+sent_to seat seat' old mid new taken taken' result w same seat_stays tells gets_on =
     let went = w.goes.1 in
     let owes : old.owed ≡ went.front ++ new.owed = went.owes ∙ ap (λ (x : SessionState). went.front ++ x.owed) (sym same) in
     let held : new.held ≡ old.held = ap (λ (x : SessionState). x.held) same ∙ went.holds in
@@ -38,6 +49,7 @@ sent_to seat seat' old mid new taken taken' result w same seat_stays tells =
       writes = w.writes;
       write_waits = λ off. owed_still (w.waits off);
       tells = tells went.front owes stays;
+      gets_on = gets_on went.front owes;
     }
   where
     owed_still : (seat.may_write ≡ false) ⊎ (0 < length mid.owed) → (seat.may_write ≡ false) ⊎ (0 < length new.owed)
@@ -58,7 +70,7 @@ fails_to_send old seat sent mid new OutOfMemory same fault may = absurd fault
 
 -- a visit that sends, and moves nothing else
 pub moves_sent : (s : State) (seat seat' : Seat) (old new : SessionState) (taken taken' : Option (List ℕ)) (result : Result Flushed Why) → (sends : SendsTo seat old seat' new taken taken' result)
-    → Moves s old (record { came = []; exchanges = []; sent = sends.sent }) s new
+    → Moves s old (moves_out sends.sent) s new
 moves_sent s seat seat' old new taken taken' result sends = record {
   cut = subst (λ (x : List ℕ). IsFrames x [] new.held) (ap (λ (x : SessionState). x.held) sends.stays ∙ sym (append-nil old.held)) (turn_none s new).cut;
   owes = append-nil old.owed ∙ sends.owes;
@@ -67,19 +79,34 @@ moves_sent s seat seat' old new taken taken' result sends = record {
 }
 
 -- it is an event: a visit
-pub visited_to_send : (who : ℕ) (seat seat' : Seat) (old new : World) (taken taken' : Option (List ℕ)) (result : Result Flushed Why) → (sends : SendsAt who seat old seat' new taken taken' result)
-    → IsVisited who (record { came = []; exchanges = []; sent = sends.sends.sent }) old new
-visited_to_send who seat seat' old new taken taken' result sends = record {
-  before = sends.before;
-  after = sends.after;
-  was = sends.was;
-  is = sends.is;
-  moves = subst (λ (x : State). Moves old.state sends.before (record { came = []; exchanges = []; sent = sends.sends.sent }) x sends.after) (sym sends.only.0)
-      (moves_sent old.state seat seat' sends.before sends.after taken taken' result sends.sends);
-  others = sends.only.1;
-  next = sends.next;
+visit_of_send : (who : ℕ) (seat seat' : Seat) (old new : World) (before after : SessionState) (taken taken' : Option (List ℕ)) (result : Result Flushed Why)
+    → session_at old who ≡ Some before → session_at new who ≡ Some after → OnlyChanges who old new → new.next ≡ old.next → (sends : SendsTo seat before seat' after taken taken' result)
+    → IsVisited who (moves_out sends.sent) old new
+visit_of_send who seat seat' old new before after taken taken' result was is only next sends = record {
+  before = before;
+  after = after;
+  was = was;
+  is = is;
+  moves = subst (λ (x : State). Moves old.state before (moves_out sends.sent) x after) (sym only.0) (moves_sent old.state seat seat' before after taken taken' result sends);
+  others = only.1;
+  next = next;
 }
 
-pub reached_send : (who : ℕ) (seat seat' : Seat) (old new : World) (taken taken' : Option (List ℕ)) (result : Result Flushed Why) → IsReached old → SendsAt who seat old seat' new taken taken' result → IsReached new
-reached_send who seat seat' old new taken taken' result r sends =
-    reached_then old new (Visits who (record { came = []; exchanges = []; sent = sends.sends.sent })) r (visited_to_send who seat seat' old new taken taken' result sends)
+pub sent_in : (who : ℕ) (seat seat' : Seat) (old new : World) (before after : SessionState) (taken taken' : Option (List ℕ)) (result : Result Flushed Why)
+    → session_at old who ≡ Some before → session_at new who ≡ Some after → OnlyChanges who old new → new.next ≡ old.next → SendsTo seat before seat' after taken taken' result
+    → SendsAt who seat old seat' new taken taken' result
+sent_in who seat seat' old new before after taken taken' result was is only next sends = record {
+  before = before;
+  after = after;
+  sends = sends;
+  was = was;
+  is = is;
+  only = only;
+  next = next;
+  goes_on = goes_on (Visits who (moves_out sends.sent)) old new (visit_of_send who seat seat' old new before after taken taken' result was is only next sends);
+}
+
+pub visited_to_send : (who : ℕ) (seat seat' : Seat) (old new : World) (taken taken' : Option (List ℕ)) (result : Result Flushed Why) → (sends : SendsAt who seat old seat' new taken taken' result)
+    → IsVisited who (moves_out sends.sends.sent) old new
+visited_to_send who seat seat' old new taken taken' result sends =
+    visit_of_send who seat seat' old new sends.before sends.after taken taken' result sends.was sends.is sends.only sends.next sends.sends

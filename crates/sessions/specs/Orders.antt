@@ -1,12 +1,13 @@
 -- Many clients at once: what happens to a broker and to all sessions, and that it is one list of requests, answered one
 -- after the other. Kafka's documentation, "Protocol Guide", section "Network", orders the requests of one connection; that
 -- those of all connections have one order is this project's own.
-use Rattle.std.specs.Prelude.{◌≡◌, ◌≢◌, ℕ, ◌+◌, ◌≤◌, if◌then◌else◌, nat_eq, List, [], ◌∷◌, ◌++◌, length, map, Option, Some, None, IfSome, Result}
+use Rattle.std.specs.Prelude.{◌≡◌, ◌≢◌, ℕ, ◌+◌, ◌≤◌, Bool, true, false, not, if◌then◌else◌, nat_eq, List, [], ◌∷◌, ◌++◌, length, map, Option, Some, None, IfSome, Result}
 use Rattle.std.specs.List.{flat_map, filter}
 use Rattle.std.specs.Map.{lookup}
+use Rattle.std.specs.Option.{option_map, unwrap_or}
 use Rattle.frame_fields.specs.Frames.{IsFrames}
 use Rattle.broker_state.specs.State.{State}
-use Rattle.sessions.specs.Turns.{Exchange, SessionState, new_session, frames_of, replied, InTurn}
+use Rattle.sessions.specs.Turns.{Exchange, IsWaiting, SessionState, WaitsFirst, new_session, frames_of, replied, InTurn}
 use Rattle.sessions.specs.declared.visiting.Visit.{Visit}
 use Rattle.sessions.specs.declared.visiting.Flushed.{Flushed}
 use Rattle.sessions.specs.declared.visiting.Seat.{Seat}
@@ -77,11 +78,26 @@ Step old (Opens who) new = IsOpened who old new
 Step old (Visits who moved) new = IsVisited who moved old new
 Step old (Closes who) new = IsClosed who old new
 
+-- events one after the other
+abbrev pub Run : World → List Event → World → Type 0
+Run w [] new = new ≡ w
+Run w (event ∷ events) new = (mid : World) × Step w event mid × Run mid events new
+
+-- Whatever a broker and its clients became this by, since it had none, by one event more they became that.
+abbrev pub GoesOnBy : Event → (old new : World) → Type 0
+GoesOnBy event old new =
+    (first : State) (events : List Event) → Run (new_world first) events old → Run (new_world first) (events ++ event ∷ []) new
+
 -- the session with a number was visited, over this connection, at this clock value; nothing was sent
 pub record VisitsAt (who clock : ℕ) (seat : Seat) (old : World) (seat' : Seat) (new : World) (left left' : Option (List ℕ)) (visit : Visit) : Type 0 where
   pub moved : Moved
   pub visited : IsVisited who moved old new
+  pub goes_on : GoesOnBy (Visits who moved) old new
   pub made : IsMade clock old.state seat seat' visited.before moved new.state visited.after left left' visit
+
+-- what is sent, and nothing else, is moved
+abbrev pub moves_out : (sent : List ℕ) → Moved
+moves_out sent = record { came = []; exchanges = []; sent = sent }
 
 -- the session with a number was sent a front of what it was owed: a visit that moved that alone
 pub record SendsAt (who : ℕ) (seat : Seat) (old : World) (seat' : Seat) (new : World) (taken taken' : Option (List ℕ)) (result : Result Flushed Why) : Type 0 where
@@ -92,11 +108,7 @@ pub record SendsAt (who : ℕ) (seat : Seat) (old : World) (seat' : Seat) (new :
   pub is : session_at new who ≡ Some after
   pub only : OnlyChanges who old new
   pub next : new.next ≡ old.next
-
--- events one after the other
-abbrev pub Run : World → List Event → World → Type 0
-Run w [] new = new ≡ w
-Run w (event ∷ events) new = (mid : World) × Step w event mid × Run mid events new
+  pub goes_on : GoesOnBy (Visits who (moves_out sends.sent)) old new
 
 -- ---- one order
 
@@ -148,14 +160,32 @@ pub record IsOneOrder (s : State) (events : List Event) (now : World) : Type 0 w
   pub each : (k : ℕ) → IsOwnPart (came_of k events) (sent_to k events) (own k (one_list events)) (session_at now k)
   pub unopened : (k : ℕ) → now.next ≤ k → (session_at now k ≡ None) × (own k (one_list events) ≡ [])
 
--- what a new broker and its clients became by some events
-pub record IsReached (now : World) : Type 0 where
-  pub first : State
-  pub events : List Event
-  pub run : Run (new_world first) events now
+-- whatever a broker and its clients became this by, since it had none, is one order
+abbrev pub IsInOrder : (now : World) → Type 0
+IsInOrder now = (first : State) (events : List Event) → Run (new_world first) events now → IsOneOrder first events now
 
--- what a broker and its clients are now is one order of some events
-pub record IsInOrder (now : World) : Type 0 where
-  pub first : State
-  pub events : List Event
-  pub order : IsOneOrder first events now
+-- ---- who sleeps
+
+-- A broker and the sessions of its clients; the numbers of those whose first frame was found to be a Fetch that waits, each with
+-- whether it was named since.
+pub record SessionsState : Type 0 where
+  pub world : World
+  pub waits : List (ℕ × Bool)
+
+-- a session sleeps: it waits, and wasn't named
+abbrev pub is_asleep : SessionsState → ℕ → Bool
+is_asleep b k = unwrap_or (option_map not (lookup (nat_eq k) b.waits)) false
+
+-- each other session sleeps as it did
+abbrev pub OthersSleepOn : ℕ → SessionsState → SessionsState → Type 0
+OthersSleepOn who old new = (k : ℕ) → k ≢ who → is_asleep new k ≡ is_asleep old k
+
+-- whoever sleeps could not be answered yet
+abbrev pub NobodyIsDue : (clock : ℕ) → SessionsState → Type 0
+NobodyIsDue clock b = (k : ℕ) → is_asleep b k ≡ true
+    → (session : SessionState) × (session_at b.world k ≡ Some session) × IsWaiting clock b.world.state session
+
+-- a session that is owed nothing, and whose first frame is a Fetch that waits, sleeps
+abbrev pub SleepsWhereItWaits : ℕ → SessionsState → Type 0
+SleepsWhereItWaits who b = (session : SessionState) (most : ℕ) → session_at b.world who ≡ Some session
+    → WaitsFirst b.world.state session.held most → session.owed ≡ [] → is_asleep b who ≡ true

@@ -11,13 +11,18 @@ use Rattle.request_frames.specs.Requests.BodyValue.{fetch}
 use Rattle.fetch_waits.specs.Waiting.{fetch_waits, body_waits, wait_of}
 use Rattle.broker_state.specs.declared.place.Place.{Place}
 use Rattle.broker_state.specs.State.{State}
+use Rattle.broker_node.specs.Effects.{is_dear}
 use Rattle.broker_node.specs.Streams.{IsAnswered}
+use Rattle.sessions.specs.declared.replying.Came.{Came}
+use Rattle.sessions.specs.declared.replying.Came.TheVariants as came
+use Rattle.sessions.specs.declared.replying.Handled.{Handled}
+use Rattle.sessions.specs.declared.replying.Handled.TheVariants as handled
 use Rattle.sessions.specs.declared.replying.NextError.{NextError}
 use Rattle.sessions.specs.declared.replying.NextError.TheVariants as next
 use Rattle.sessions.specs.declared.session.ReceiveError.{ReceiveError}
 use Rattle.sessions.specs.declared.session.ReceiveError.TheVariants as receive
 use Rattle.sessions.specs.declared.session.Stop.{Stop}
-use Rattle.sessions.specs.declared.session.Stop.TheVariants.{Short, Full, Waits as Waiting, Over as Stopped}
+use Rattle.sessions.specs.declared.session.Stop.TheVariants.{Short, Full, Dear, Waits as Waiting, Over as Stopped}
 use Rattle.sessions.specs.declared.visiting.TheConstants.{MOST_OWED, READ_PIECE}
 use Rattle.sessions.specs.declared.visiting.Seat.{Seat}
 use Rattle.sessions.specs.declared.visiting.Failure.{Failure}
@@ -27,15 +32,33 @@ use Rattle.sessions.specs.declared.visiting.Then.TheVariants.{Over}
 use Rattle.sessions.specs.declared.visiting.Visit.{Visit}
 use Rattle.sessions.specs.declared.visiting.Why.{Why}
 use Rattle.sessions.specs.declared.visiting.Why.TheVariants.{Read, Write, OutOfMemory}
-use Rattle.sessions.specs.Turns.{Exchange, SessionState, StopsNext, IsOwedBelow, IsWaiting, WaitsFirst, InTurn, InTime, Times, frames_of, is_over, next_place, replied}
+use Rattle.sessions.specs.Turns.{Exchange, SessionState, AnswersFirst, HasFirst, IsDear, OnlyLastIsDear, StopsBehindDear, StopsNext, IsOwedBelow, IsWaiting, WaitsFirst, InTurn, InTime, Times, frames_of, is_over, next_place, replied}
 use Rattle.sessions.specs.Visits.{Moved, Moves, WantsMore, IsFault, IsMade}
 
 -- ---- one frame
 
--- A frame is answered, and its reply stands behind what was written. Where it may wait it isn't a Fetch that waits.
-pub record AnswersFrame (may_wait : Bool) (s after : State) (frame out out' : List ℕ) : Type 0 where
+-- what holds where a frame was answered, which is dear or isn't, and where it waits for so long
+abbrev pub MatchHandled : Handled → (Bool → Type 0) → (ℕ → Type 0) → Type 0
+MatchHandled (handled.Answered dear) A W = A dear
+MatchHandled (handled.Waits most) A W = W most
+
+-- the same of the first frame that is held, and what holds where none is complete
+abbrev pub MatchCame : Came → (Bool → Type 0) → Type 0 → (ℕ → Type 0) → Type 0
+MatchCame (came.Answered dear) A S W = A dear
+MatchCame came.Short A S W = S
+MatchCame (came.Waits most) A S W = W most
+
+-- the first frame is answered, and it is known whether it is dear
+pub record AnswersDear (dear may_wait : Bool) (s after : State) (held rest out out' : List ℕ) : Type 0 where
+  pub answer : AnswersFirst may_wait s after held rest out out'
+  pub dear_is : is_dear answer.answers.request.body ≡ dear
+
+-- A frame is answered, which is dear or isn't, and its reply stands behind what was written. Where it may wait it isn't a
+-- Fetch that waits.
+pub record AnswersFrame (dear may_wait : Bool) (s after : State) (frame out out' : List ℕ) : Type 0 where
   pub reply : List ℕ
   pub answers : IsAnswered s frame reply after
+  pub dear_is : is_dear answers.request.body ≡ dear
   pub in_time : may_wait ≡ true → body_waits s answers.request.body ≡ false
   pub appends : out' ≡ out ++ reply
 
@@ -62,11 +85,12 @@ pub record Turn (s : State) (old : SessionState) (es : List Exchange) (after : S
   pub counts : new.answered ≡ old.answered + length es
   pub in_turn : InTurn s es after
 
--- one frame, the first that was held
-pub record AnswersNext (ended over : Bool) (s : State) (old : SessionState) (after : State) (new : SessionState) : Type 0 where
+-- one frame, the first that was held, which is dear or isn't
+pub record AnswersNext (dear ended over : Bool) (s : State) (old : SessionState) (after : State) (new : SessionState) : Type 0 where
   pub exchange : Exchange
   pub turn : Turn s old (exchange ∷ []) after new
   pub in_time : InTime ended over s (exchange ∷ []) after
+  pub is : IsDear dear exchange.frame
   pub no_time : new.due ≡ None
 
 -- the session in which the first frame waits, for so long at the most: from now on, if it didn't yet
@@ -82,26 +106,44 @@ pub record WaitsNext (clock : ℕ) (ended : Bool) (s : State) (old : SessionStat
   pub not_over : is_over clock old.due ≡ false
   pub is : new ≡ waiting_for clock old most
 
--- why a turn stopped: no complete frame is held, so much is owed, the first frame that is held waits, or it isn't answered
-abbrev pub StopsTurn : (most clock : ℕ) (ended : Bool) → State → SessionState → Stop → Type 0
-StopsTurn most clock ended s now Short = IsIncomplete now.held
-StopsTurn most clock ended s now Full = most ≤ length now.owed
-StopsTurn most clock ended s now Waiting = (ended ≡ false) × IsWaiting clock s now
-StopsTurn most clock ended s now (Stopped why) = StopsNext now why
+-- why a turn stopped that answered these: no complete frame is held, so much is owed, the last one was dear, the first frame that
+-- is held waits, or it isn't answered
+abbrev pub StopsTurn : (most clock : ℕ) (ended : Bool) → State → List Exchange → SessionState → Stop → Type 0
+StopsTurn most clock ended s es now Short = IsIncomplete now.held
+StopsTurn most clock ended s es now Full = most ≤ length now.owed
+StopsTurn most clock ended s es now Dear = StopsBehindDear most es now
+StopsTurn most clock ended s es now Waiting = (ended ≡ false) × IsWaiting clock s now
+StopsTurn most clock ended s es now (Stopped why) = StopsNext now why
 
--- Frames were answered until the turn stopped.
+-- behind a turn that stopped so there may be nothing to do, of a session that is owed so much
+abbrev pub MayIdle : (owed : List ℕ) → Stop → Type 0
+MayIdle owed Dear = ⊥
+MayIdle owed (Stopped why) = 0 < length owed
+MayIdle owed _ = ⊤
+
+-- why a turn stops behind a frame that is dear
+abbrev pub IsLeftOff : (most : ℕ) → SessionState → Stop → Type 0
+IsLeftOff most now Short = IsIncomplete now.held
+IsLeftOff most now Full = most ≤ length now.owed
+IsLeftOff most now Dear = HasFirst now.held × (length now.owed < most)
+IsLeftOff most now _ = ⊥
+
+-- Frames were answered until the turn stopped; of all only the last may be dear.
 pub record TurnsUntil (most clock : ℕ) (ended : Bool) (s : State) (old : SessionState) (after : State) (new : SessionState) (stop : Stop) : Type 0 where
   pub exchanges : List Exchange
   pub turn : Turn s old exchanges after new
   pub below : IsOwedBelow most old.owed exchanges
   pub in_time : InTime ended (is_over clock old.due) s exchanges after
   pub times : Times clock most old exchanges after new.owed new
-  pub stops : StopsTurn most clock ended after new stop
+  pub dear : OnlyLastIsDear exchanges
+  pub stops : StopsTurn most clock ended after exchanges new stop
+  pub again : StopsBehindDear most exchanges new → stop ≡ Dear
 
 -- for which partition's place the frame is put off at which a turn stopped, if it is
 abbrev pub stop_place : Stop → Option Place
 stop_place Short = None
 stop_place Full = None
+stop_place Dear = None
 stop_place Waiting = None
 stop_place (Stopped why) = next_place why
 
@@ -140,6 +182,10 @@ pub record ComesIn (seat seat' : Seat) (old new : SessionState) (left left' : Op
   pub wanted : 0 < count → WantsMore old × (seat.may_read ≡ true) × (seat.at_end ≡ false)
   pub read_waits : seat'.may_read ≡ false → (seat.may_read ≡ false) ⊎ (count ≡ 0)
   pub ends : seat'.at_end ≡ true → (seat.at_end ≡ true) ⊎ (count ≡ 0) × IsAtEnd left'
+
+-- a read was made: some bytes came, or one would wait now, or the input has ended
+abbrev pub HasGot : (old : SessionState) → Seat → (new : SessionState) → Type 0
+HasGot old seat new = (length old.held < length new.held) ⊎ ((seat.may_read ≡ false) ⊎ (seat.at_end ≡ true))
 
 -- a read failed where one was due, and nothing came; or there was no memory for what came, which is lost
 abbrev pub FailsToRead : (seat' : Seat) (old new : SessionState) (left left' : Option (List ℕ)) → Why → Type 0

@@ -10,6 +10,7 @@ use Rattle.request_frames.specs.Requests.BodyValue.{fetch}
 use Rattle.fetch_waits.specs.Waiting.{fetch_waits, body_waits, wait_of}
 use Rattle.broker_state.specs.declared.place.Place.{Place}
 use Rattle.broker_state.specs.State.{State}
+use Rattle.broker_node.specs.Effects.{is_dear}
 use Rattle.broker_node.specs.Streams.{IsAnswered, RefusesNext}
 use Rattle.sessions.specs.declared.replying.Next.{Next}
 use Rattle.sessions.specs.declared.replying.Next.TheVariants.{Answered, Short, Waits}
@@ -126,6 +127,28 @@ abbrev pub StopsNext : SessionState → NextError → Type 0
 StopsNext now (Frame why) = StopsFirst now.held (Frame why)
 StopsNext now OutOfMemory = StopsFirst now.held OutOfMemory ⊎ (now.answered ≡ 2 ^ 64 - 1)
 StopsNext now (PutOff place) = StopsFirst now.held (PutOff place)
+
+-- ---- frames that are dear
+
+-- a frame is a request that may take long, or one that doesn't
+abbrev pub IsDear : (dear : Bool) → (frame : List ℕ) → Type 0
+IsDear dear frame = (request : RequestValue) × IsRequest frame request × (is_dear request.body ≡ dear)
+
+-- of these frames only the last may be dear
+abbrev pub OnlyLastIsDear : List Exchange → Type 0
+OnlyLastIsDear [] = ⊤
+OnlyLastIsDear (e ∷ []) = ⊤
+OnlyLastIsDear (e ∷ f ∷ es) = IsDear false e.frame × OnlyLastIsDear (f ∷ es)
+
+-- and it is
+abbrev pub LastIsDear : List Exchange → Type 0
+LastIsDear [] = ⊥
+LastIsDear (e ∷ []) = IsDear true e.frame
+LastIsDear (e ∷ f ∷ es) = LastIsDear (f ∷ es)
+
+-- the last frame that was answered is dear, and another is there, which might be answered: less is owed than may be
+abbrev pub StopsBehindDear : (most : ℕ) → List Exchange → SessionState → Type 0
+StopsBehindDear most es now = LastIsDear es × HasFirst now.held × (length now.owed < most)
 
 -- ---- a frame that waits
 

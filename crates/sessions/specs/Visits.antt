@@ -1,6 +1,6 @@
 -- What a visit of a session and a send do, and what is to be done with the session then. Of a reader it is known what it has
 -- left to give, and of a writer what it has taken, where that is known.
-use Rattle.std.specs.Prelude.{◌≡◌, ◌≢◌, ◌⊎◌, ℕ, ◌+◌, ◌<◌, ◌≤◌, Bool, ◌||◌, true, false, List, [], ◌++◌, length, Option, Some, None, Result, Ok, Err, MatchBool}
+use Rattle.std.specs.Prelude.{◌≡◌, ◌≢◌, ◌⊎◌, ℕ, ◌+◌, ◌<◌, ◌≤◌, Bool, ◌||◌, true, false, List, [], ◌++◌, length, Option, Some, None, Result, Ok, Err, MatchBool, ⊤}
 use Rattle.std.specs.Io.KnownBytes.{Consumes, Keeps, Appends, IsAtEnd}
 use Rattle.std_io.specs.declared.io.kind.ErrorKind.{ErrorKind}
 use Rattle.std_io.specs.declared.io.kind.ErrorKind.TheVariants as kind
@@ -8,7 +8,7 @@ use Rattle.frame_fields.specs.Frames.{IsFrames, IsIncomplete}
 use Rattle.broker_state.specs.declared.place.Place.{Place}
 use Rattle.broker_state.specs.State.{State}
 use Rattle.broker_node.specs.Streams.{RefusesNext}
-use Rattle.sessions.specs.Turns.{Exchange, SessionState, HasFirst, StopsNext, IsOwedBelow, IsWaiting, InTurn, InTime, Times, frames_of, is_over, replied}
+use Rattle.sessions.specs.Turns.{Exchange, SessionState, HasFirst, StopsNext, IsOwedBelow, OnlyLastIsDear, StopsBehindDear, IsWaiting, InTurn, InTime, Times, frames_of, is_over, replied}
 use Rattle.sessions.specs.declared.replying.NextError.{NextError}
 use Rattle.sessions.specs.declared.replying.NextError.TheVariants.{OutOfMemory as NoMemory, PutOff as NotYet}
 use Rattle.sessions.specs.declared.visiting.TheConstants.{MOST_OWED, READ_PIECE}
@@ -18,7 +18,7 @@ use Rattle.sessions.specs.declared.visiting.Flushed.{Flushed}
 use Rattle.sessions.specs.declared.visiting.Why.{Why}
 use Rattle.sessions.specs.declared.visiting.Why.TheVariants.{End, Read, Write, Frame, OutOfMemory}
 use Rattle.sessions.specs.declared.visiting.Then.{Then}
-use Rattle.sessions.specs.declared.visiting.Then.TheVariants.{Again, Idle, PutOff, Over}
+use Rattle.sessions.specs.declared.visiting.Then.TheVariants.{Again, Dear, Idle, PutOff, Over}
 
 -- what a visit or a send moved: the bytes that came, the frames that were answered with their replies, the bytes that were sent
 pub record Moved : Type 0 where
@@ -40,12 +40,13 @@ pub record Moves (s : State) (old : SessionState) (moved : Moved) (after : State
 abbrev pub WantsMore : SessionState → Type 0
 WantsMore st = IsIncomplete st.held × (length st.owed < MOST_OWED)
 
--- One piece comes at the most, and only where more is wanted and may be read; and each frame is answered while less is owed
--- than may be.
+-- One piece comes at the most, and only where more is wanted and may be read; each frame is answered while less is owed than
+-- may be; and of all only the last may be dear.
 pub record IsBounded (seat : Seat) (old : SessionState) (moved : Moved) : Type 0 where
   pub piece : length moved.came ≤ READ_PIECE
   pub comes : 0 < length moved.came → WantsMore old × (seat.may_read ≡ true) × (seat.at_end ≡ false)
   pub answers : IsOwedBelow MOST_OWED old.owed moved.exchanges
+  pub dear : OnlyLastIsDear moved.exchanges
 
 -- When a visit stopped answering: what the broker is then, and the clock.
 pub record Moment : Type 0 where
@@ -64,9 +65,10 @@ Waits at seat now = (has_ended seat ≡ false) × IsWaiting at.clock at.state no
 abbrev pub HasStop : SessionState → Type 0
 HasStop now = (why : NextError) × StopsNext now why
 
--- frames were answered until none was complete, the first one couldn't be, or waits, or so much was owed
-abbrev pub IsDone : Moment → Seat → SessionState → Type 0
-IsDone at seat new = IsIncomplete new.held ⊎ (HasStop new ⊎ (Waits at seat new ⊎ (MOST_OWED ≤ length new.owed)))
+-- these frames were answered until none was complete, the first one couldn't be, or waits, so much was owed, or the last was dear
+abbrev pub IsDone : Moment → Seat → List Exchange → SessionState → Type 0
+IsDone at seat es new =
+    IsIncomplete new.held ⊎ (HasStop new ⊎ (Waits at seat new ⊎ ((MOST_OWED ≤ length new.owed) ⊎ StopsBehindDear MOST_OWED es new)))
 
 -- nothing was moved, and the session is as it was
 abbrev pub MovesNothing : (old : SessionState) (moved : Moved) (new : SessionState) → Type 0
@@ -74,7 +76,7 @@ MovesNothing old moved new = (new ≡ old) × (moved.came ≡ []) × (moved.exch
 
 -- what came left a reader, and all was answered that could be
 abbrev pub IsServed : Moment → Seat → (moved : Moved) (new : SessionState) (left left' : Option (List ℕ)) → Type 0
-IsServed at seat moved new left left' = Consumes left left' moved.came × IsDone at seat new
+IsServed at seat moved new left left' = Consumes left left' moved.came × IsDone at seat moved.exchanges new
 
 -- What left a reader came and was served. But a failed read moves nothing, and what came is lost where memory lacks for
 -- it: then the session is over.
@@ -95,6 +97,18 @@ pub record Learns (old new : Seat) (moved : Moved) (left' : Option (List ℕ)) :
   pub ended : old.at_end ≡ true → new.at_end ≡ true
   pub ends : new.at_end ≡ true → (old.at_end ≡ true) ⊎ (moved.came ≡ []) × IsAtEnd left'
   pub closing : new.is_closing ≡ old.is_closing
+
+-- where a visit goes on so, a read was made: some bytes came, or one would wait now, or the input has ended; else it failed, or
+-- memory lacked for what it brought
+abbrev pub HasRead : Moved → Seat → Then → Type 0
+HasRead moved seat (Over (Read why)) = ⊤
+HasRead moved seat (Over OutOfMemory) = ⊤
+HasRead moved seat _ = (0 < length moved.came) ⊎ ((seat.may_read ≡ false) ⊎ (seat.at_end ≡ true))
+
+-- a visit reads where more is wanted and may be read, unless the read was interrupted
+abbrev pub Reads : Seat → SessionState → Moved → Seat → Visit → Type 0
+Reads seat old moved seat' visit =
+    WantsMore old → seat.may_read ≡ true → seat.at_end ≡ false → visit.was_interrupted ≡ false → HasRead moved seat' visit.then
 
 -- ---- how it goes on
 
@@ -129,12 +143,13 @@ pub record IsIdle (at : Moment) (seat : Seat) (now : SessionState) : Type 0 wher
       → (seat.may_read ≡ false) ⊎ ((seat.at_end ≡ true) ⊎ HasStop now)
   pub not_over : now.owed ≡ [] → (seat.at_end ≡ false) × (IsIncomplete now.held ⊎ Waits at seat now)
 
--- what is to be done is what a visit says
-abbrev pub GoesOn : Moment → Seat → SessionState → Then → Type 0
-GoesOn at seat now Again = HasMore seat now
-GoesOn at seat now Idle = IsIdle at seat now
-GoesOn at seat now (PutOff place) = StopsNext now (NotYet place)
-GoesOn at seat now (Over why) = IsOver seat now why
+-- what is to be done, behind these frames, is what a visit says
+abbrev pub GoesOn : Moment → Seat → List Exchange → SessionState → Then → Type 0
+GoesOn at seat es now Again = HasMore seat now
+GoesOn at seat es now Dear = StopsBehindDear MOST_OWED es now
+GoesOn at seat es now Idle = IsIdle at seat now
+GoesOn at seat es now (PutOff place) = StopsNext now (NotYet place)
+GoesOn at seat es now (Over why) = IsOver seat now why
 
 -- for which partition's place the first frame is put off, if it is
 abbrev pub then_place : Then → Option Place
@@ -146,11 +161,13 @@ pub record IsMade (clock : ℕ) (s : State) (seat seat' : Seat) (old : SessionSt
   pub counts : visit.answered ≡ length moved.exchanges
   pub sends_nothing : moved.sent ≡ []
   pub bounded : IsBounded seat old moved
+  pub reads : Reads seat old moved seat' visit
   pub in_time : InTime (has_ended seat') (is_over clock old.due) s moved.exchanges after
   pub times : Times clock MOST_OWED old moved.exchanges after new.owed new
   pub serves : Serves (record { state = after; clock = clock }) seat' old moved new left left' visit.then
   pub learns : Learns seat seat' moved left'
-  pub goes_on : GoesOn (record { state = after; clock = clock }) seat' new visit.then
+  pub goes_on : GoesOn (record { state = after; clock = clock }) seat' moved.exchanges new visit.then
+  pub dear_again : StopsBehindDear MOST_OWED moved.exchanges new → visit.then ≡ Dear
 
 -- ---- sends
 
@@ -173,6 +190,12 @@ TellsSent old seat sent now (Ok flushed) =
 TellsSent old seat sent now (Err (Write why)) = IsFault why × (seat.may_write ≡ true) × (0 < length now.owed)
 TellsSent old seat sent now (Err _) = ⊥
 
+-- Where something was owed, and a write might be made and may be still, some of it left, or it tells that its writes were
+-- interrupted.
+abbrev pub GetsOn : (old : SessionState) → Seat → (sent : List ℕ) → Result Flushed Why → Type 0
+GetsOn old seat sent (Ok flushed) = flushed.was_interrupted ≡ false → seat.may_write ≡ true → 0 < length old.owed → 0 < length sent
+GetsOn old seat sent (Err why) = ⊤
+
 -- A front of what was owed was sent, where it might be written, and nothing else became of the session, nor of what is known
 -- of its connection but whether a write may be made.
 pub record SendsTo (seat : Seat) (old : SessionState) (seat' : Seat) (new : SessionState) (taken taken' : Option (List ℕ)) (result : Result Flushed Why) : Type 0 where
@@ -185,3 +208,4 @@ pub record SendsTo (seat : Seat) (old : SessionState) (seat' : Seat) (new : Sess
   pub writes : seat'.may_write ≡ true → seat.may_write ≡ true
   pub write_waits : seat'.may_write ≡ false → (seat.may_write ≡ false) ⊎ (0 < length new.owed)
   pub tells : TellsSent old seat' sent new result
+  pub gets_on : GetsOn old seat' sent result

@@ -15,6 +15,7 @@ mod session;
 mod sessions;
 mod visiting;
 mod waiting;
+mod waits;
 
 pub use broker_node::{
     Answer, Config, ConfigError, ErrorCode, GROUP_TOPIC, MAX_FETCH_BYTES, MAX_HOST_BYTES,

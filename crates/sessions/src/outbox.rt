@@ -3,10 +3,11 @@
 ghost use Rattle.std.specs.Prelude.{◌≡◌, ◌<◌, ◌≤◌, true, [], length, take, drop, IfOk, IfErr, IfSome, OnErr};
 ghost use Rattle.std.specs.Io.KnownBytes.{Appends, Keeps};
 ghost use Rattle.frame_fields.specs.Frames.{IsIncomplete};
-ghost use Rattle.sessions.specs.Turns.{AnswersFirst, MatchNext, StopsFirst, WaitsFirst, next_place};
+ghost use Rattle.sessions.specs.Turns.{StopsFirst, WaitsFirst, next_place};
+ghost use Rattle.sessions.specs.Steps.{AnswersDear, MatchCame};
 
 use crate::handler::Handler;
-use crate::replying::{Next, NextError, answer_first};
+use crate::replying::{Came, NextError, answer_held};
 use broker_node::Node;
 use bytes::BytesMut;
 use segment::BatchStore;
@@ -17,6 +18,14 @@ use std::mem::swap;
 
 /// The room that an empty buffer keeps, in bytes; what it has beyond goes back.
 const KEPT_ROOM: usize = 4_096;
+
+/// The room that any buffer keeps, in bytes, however little of it is used.
+const SPARE_ROOM: usize = 131_072;
+
+/// Whether some bytes take so little of a buffer's room that they are put into a buffer of their own size.
+pub(crate) fn is_small_part(bytes: usize, room: usize) -> bool {
+    room > SPARE_ROOM && bytes < room / 4
+}
 
 /// Replies that are owed: what is being sent, how much of it is, and what follows. Where all was sent the
 /// two change places, so no byte is moved.
@@ -58,16 +67,23 @@ impl<A: Allocator + Copy> Outbox<A> {
         self.sending.len() - self.sent + self.behind.len()
     }
 
-    /// Answers the first frame that is held, as [`answer_first`] does: its reply is owed behind what was.
+    /// How many bytes of memory its buffers take. What was sent of a buffer is still there.
+    pub(crate) fn room(&self) -> usize
+        ensures { length self.now ≤ result }
+    {
+        self.sending.len().saturating_add(self.behind.len())
+    }
+
+    /// Answers the first frame that is held, as [`answer_held`] does: its reply is owed behind what was.
     pub(crate) fn answer<S: BatchStore, H: Handler<S>>(
         &mut self,
         node: &mut Node<S>,
         handler: &mut H,
         held: &mut BytesMut<A>,
         may_wait: bool,
-    ) -> Result<Next, NextError>
-        ensures answers { IfOk result (λ next. MatchNext next
-            (AnswersFirst may_wait node.old node.new held.old.items held.new.items
+    ) -> Result<Came, NextError>
+        ensures answers { IfOk result (λ came. MatchCame came
+            (λ dear. AnswersDear dear may_wait node.old node.new held.old.items held.new.items
             self.old self.new)
             ((node.new ≡ node.old) × (held.new ≡ held.old) × (self.new ≡ self.old)
             × IsIncomplete held.new.items)
@@ -80,7 +96,7 @@ impl<A: Allocator + Copy> Outbox<A> {
         ensures puts_off { IfErr result (λ why. IfSome (next_place why) (H.puts_off handler.new)) }
         ensures keeps { H.keeps handler.old node.old handler.new node.new }
     {
-        answer_first(node, handler, held, &mut self.behind, may_wait)
+        answer_held(node, handler, held, &mut self.behind, may_wait)
     }
 
     /// Makes one write, of the front of what is owed, and gives how many bytes left.
@@ -114,6 +130,27 @@ impl<A: Allocator + Copy> Outbox<A> {
         self.behind.clear();
         if self.behind.capacity() > KEPT_ROOM {
             self.behind = Vec::new(self.alloc);
+        }
+    }
+
+    /// Gives back room of which little is used. Where memory lacks for a smaller buffer, it stays.
+    pub(crate) fn release(&mut self)
+        ensures { self.new ≡ self.old }
+    {
+        self.turn_over();
+        let left = self.sending.len() - self.sent;
+        if is_small_part(left, self.sending.len()) {
+            self.drop_sent();
+        }
+    }
+
+    /// Moves what is being sent, without its front that was, to a buffer of its size, if there is memory for one.
+    fn drop_sent(&mut self)
+        ensures { self.new ≡ self.old }
+    {
+        if let Ok(sending) = Vec::from_slice(self.alloc, &self.sending[self.sent..]) {
+            self.sending = sending;
+            self.sent = 0;
         }
     }
 }

@@ -5,10 +5,10 @@ ghost use Rattle.frame_fields.specs.Frames.{IsIncomplete, IsWithinLimit};
 ghost use Rattle.request_frames.specs.Views.{request_value};
 ghost use Rattle.sessions.specs.Turns.{AnswersFirst, MatchNext, StopsFirst, WaitsFirst, next_place};
 ghost use Rattle.fetch_waits.specs.Waiting.{body_waits};
-ghost use Rattle.sessions.specs.Steps.{AnswersFrame, BodyWaits, FrameWaits, StopsAnswer};
+ghost use Rattle.sessions.specs.Steps.{AnswersDear, AnswersFrame, BodyWaits, FrameWaits, MatchCame, MatchHandled, StopsAnswer};
 
 use crate::handler::{Handler, Unhandled};
-use broker_node::Node;
+use broker_node::{Node, is_dear};
 use broker_state::Place;
 use bytes::BytesMut;
 use fetch_waits::fetch_waits;
@@ -24,6 +24,26 @@ pub enum Next {
     Answered,
     /// It isn't complete.
     Short,
+    /// It is a Fetch that waits, for so many milliseconds at the most.
+    Waits(u32),
+}
+
+/// What came of the first frame that is held, where it counts whether it is dear.
+#[derive(Drop)]
+pub(crate) enum Came {
+    /// It was answered, and left; and whether it is dear.
+    Answered(bool),
+    /// It isn't complete.
+    Short,
+    /// It is a Fetch that waits, for so many milliseconds at the most.
+    Waits(u32),
+}
+
+/// What came of a frame.
+#[derive(Drop)]
+enum Handled {
+    /// It was answered; and whether it is dear.
+    Answered(bool),
     /// It is a Fetch that waits, for so many milliseconds at the most.
     Waits(u32),
 }
@@ -68,17 +88,47 @@ pub fn answer_first<S: BatchStore, H: Handler<S>, A: Allocator + Copy, B: Alloca
     ensures puts_off { IfErr result (λ why. IfSome (next_place why) (H.puts_off handler.new)) }
     ensures keeps { H.keeps handler.old node.old handler.new node.new }
 {
+    match answer_held(node, handler, held, out, may_wait)? {
+        Came::Answered(_) => Ok(Next::Answered),
+        Came::Short => Ok(Next::Short),
+        Came::Waits(most) => Ok(Next::Waits(most)),
+    }
+}
+
+/// Handles the first frame that is held, if it is complete, as [`answer_first`] does, and tells whether it is dear.
+#[tactic(auto, using(crate::proofs::Turning::first_waits))]
+pub(crate) fn answer_held<S: BatchStore, H: Handler<S>, A: Allocator + Copy, B: Allocator + Copy>(
+    node: &mut Node<S>,
+    handler: &mut H,
+    held: &mut BytesMut<A>,
+    out: &mut Vec<u8, B>,
+    may_wait: bool,
+) -> Result<Came, NextError>
+    ensures answers { IfOk result (λ came. MatchCame came
+        (λ dear. AnswersDear dear may_wait node.old node.new held.old.items held.new.items
+        out.old.items out.new.items)
+        ((node.new ≡ node.old) × (held.new ≡ held.old) × (out.new ≡ out.old)
+        × IsIncomplete held.new.items)
+        (λ most. (node.new ≡ node.old) × (held.new ≡ held.old) × (out.new ≡ out.old)
+        × ((may_wait ≡ true) × ((0 < most) × WaitsFirst node.old held.old.items most)))) }
+    ensures stops { IfErr result (StopsFirst held.old.items) }
+    ensures unchanged_on_error { OnErr result ((node.new ≡ node.old) × (held.new ≡ held.old)
+        × (out.new.items ≡ out.old.items)) }
+    ensures puts_off { IfErr result (λ why. IfSome (next_place why) (H.puts_off handler.new)) }
+    ensures keeps { H.keeps handler.old node.old handler.new node.new }
+{
     let frame = match first_frame(held.as_slice()) {
         Ok(Some(frame)) => frame,
-        Ok(None) => return Ok(Next::Short),
+        Ok(None) => return Ok(Came::Short),
         Err(why) => return Err(NextError::Frame(why)),
     };
     let whole = SIZE_BYTES + frame.len();
-    if let Some(most) = answer(node, handler, frame, out, may_wait)? {
-        return Ok(Next::Waits(most));
-    }
+    let is_dear = match answer(node, handler, frame, out, may_wait)? {
+        Handled::Answered(is_dear) => is_dear,
+        Handled::Waits(most) => return Ok(Came::Waits(most)),
+    };
     held.advance(whole);
-    Ok(Next::Answered)
+    Ok(Came::Answered(is_dear))
 }
 
 /// How long a request waits at the most, in milliseconds, if it may, and is a Fetch that waits.
@@ -97,18 +147,18 @@ fn wait_of<S: BatchStore>(node: &Node<S>, request: &Request<'_>, may_wait: bool)
 }
 
 /// Handles a frame, and puts its reply, if it has one, behind the output. Where it may wait, and does,
-/// nothing is done, and it gives for how many milliseconds at the most.
+/// nothing is done.
 fn answer<S: BatchStore, H: Handler<S>, B: Allocator + Copy>(
     node: &mut Node<S>,
     handler: &mut H,
     frame: &[u8],
     out: &mut Vec<u8, B>,
     may_wait: bool,
-) -> Result<Option<u32>, NextError>
-    ensures answers { IfOk result (λ wait. IfNone wait
-        (AnswersFrame may_wait node.old node.new frame.now out.old.items out.new.items)) }
-    ensures waits { IfOk result (λ wait. IfSome wait (λ most. (node.new ≡ node.old)
-        × (out.new ≡ out.old) × ((may_wait ≡ true)
+) -> Result<Handled, NextError>
+    ensures answers { IfOk result (λ handled. MatchHandled handled
+        (λ dear. AnswersFrame dear may_wait node.old node.new frame.now
+        out.old.items out.new.items)
+        (λ most. (node.new ≡ node.old) × (out.new ≡ out.old) × ((may_wait ≡ true)
         × ((0 < most) × FrameWaits node.old frame.now most)))) }
     ensures stops { IfErr result (StopsAnswer frame.now) }
     ensures unchanged_on_error { OnErr result
@@ -122,10 +172,10 @@ fn answer<S: BatchStore, H: Handler<S>, B: Allocator + Copy>(
         Err(why) => return Err(NextError::Frame(why)),
     };
     if let Some(most) = wait_of(node, &request, may_wait) {
-        return Ok(Some(most));
+        return Ok(Handled::Waits(most));
     }
     match handler.handle(node, frame, &request, out) {
-        Ok(_) => Ok(None),
+        Ok(_) => Ok(Handled::Answered(is_dear(&request.body))),
         Err(Unhandled::OutOfMemory) => Err(NextError::OutOfMemory),
         Err(Unhandled::PutOff(place)) => Err(NextError::PutOff(place)),
     }

@@ -1,15 +1,17 @@
 //! The session of one client.
 
-ghost use Rattle.std.specs.Prelude.{◌≡◌, ◌⊎◌, ◌<◌, ◌≤◌, ◌&&◌, length, not, drop, MatchBool, MatchOption, IfOk, IfErr, IfSome, OnErr};
+ghost use Rattle.std.specs.Prelude.{◌≡◌, ◌⊎◌, ◌<◌, ◌≤◌, ◌&&◌, ℕ, None, length, not, drop, MatchBool, MatchOption, IfOk, IfErr, IfSome, IsSome, OnErr};
 ghost use Rattle.std.specs.Io.KnownBytes.{Keeps, IsAtEnd};
 ghost use Rattle.frame_fields.specs.Frames.{IsIncomplete};
 ghost use Rattle.request_frames.specs.Requests.{key_of, version_of};
-ghost use Rattle.sessions.specs.Turns.{HasFirst, MatchNext, StopsNext, is_over, new_session, next_place};
-ghost use Rattle.sessions.specs.Steps.{AnswersNext, FailsToReceive, Receives, Sends, TurnsUntil, WaitsNext, stop_place};
+ghost use Rattle.sessions.specs.Turns.{HasFirst, StopsNext, WaitsFirst, is_over, new_session, next_place};
+ghost use Rattle.sessions.specs.Waiting.{unnamed_at};
+ghost use Rattle.sessions.specs.Asleep.{KeepsWatch, OthersWait};
+ghost use Rattle.sessions.specs.Steps.{AnswersNext, FailsToReceive, IsLeftOff, MatchCame, Receives, Sends, TurnsUntil, WaitsNext, stop_place};
 
 use crate::handler::Handler;
-use crate::outbox::Outbox;
-use crate::replying::{Next, NextError};
+use crate::outbox::{Outbox, is_small_part};
+use crate::replying::{Came, NextError};
 use crate::waiting::Waiting;
 use broker_node::Node;
 use bytes::BytesMut;
@@ -25,6 +27,8 @@ use std::marker::Model;
 pub struct Session<A: Allocator + Copy> {
     alloc: A,
     held: BytesMut<A>,
+    /// How many bytes the buffer of what is held had room for at the most.
+    room: usize,
     owed: Outbox<A>,
     answered: u64,
     due: Option<u128>,
@@ -48,6 +52,8 @@ pub(crate) enum Stop {
     Short,
     /// As much is owed as may be.
     Full,
+    /// The last frame that was answered is dear, and another is held.
+    Dear,
     /// The first frame that is held waits.
     Waits,
     /// The first frame that is held isn't answered.
@@ -84,6 +90,7 @@ impl<A: Allocator + Copy> Session<A> {
         Session {
             alloc,
             held: BytesMut::new(alloc),
+            room: 0,
             owed: Outbox::new(alloc),
             answered: 0,
             due: None,
@@ -102,6 +109,16 @@ impl<A: Allocator + Copy> Session<A> {
         ensures { result ≡ length self.now.owed }
     {
         self.owed.len()
+    }
+
+    /// How many bytes of memory are kept for what is held and owed: behind a visit or a send less than four times as much, or no
+    /// more than 131,072 bytes for either, unless memory lacked.
+    pub fn kept(&self) -> usize
+        ensures held { length self.now.held ≤ result }
+        ensures owed { length self.now.owed ≤ result }
+    {
+        let held = self.room.max(self.held.len());
+        held.saturating_add(self.owed.room())
     }
 
     /// How many frames were answered: the number of the first one that is held, from 0.
@@ -175,14 +192,17 @@ impl<A: Allocator + Copy> Session<A> {
             Err(why) => return Err(ReceiveError::Read(why.kind())),
         };
         match self.held.extend_from_slice(&piece[..count]) {
-            Ok(()) => Ok(count),
+            Ok(()) => {
+                self.room = self.room.max(self.held.capacity());
+                Ok(count)
+            }
             Err(_) => Err(ReceiveError::OutOfMemory),
         }
     }
 
-    /// Answers complete frames in order, until none is left, the first one waits, or so many bytes are
-    /// owed.
-    #[tactic(auto, using(crate::proofs::Turning::turning_none, crate::proofs::Turning::turning_then, crate::proofs::Turning::turn_stops, crate::proofs::Turning::less_is_held, crate::proofs::Turning::not_put_off))]
+    /// Answers complete frames in order, until none is left, the first one waits, so many bytes are
+    /// owed, or one was dear.
+    #[tactic(auto, using(crate::proofs::Turning::turning_none, crate::proofs::Turning::turning_then, crate::proofs::Turning::turn_stops, crate::proofs::Turning::less_is_held, crate::proofs::Turning::not_put_off, crate::proofs::Turning::none_put_off))]
     pub(crate) fn turn<S: BatchStore, H: Handler<S>>(
         &mut self,
         node: &mut Node<S>,
@@ -195,25 +215,56 @@ impl<A: Allocator + Copy> Session<A> {
             self.new result }
         ensures puts_off { IfSome (stop_place result) (H.puts_off handler.new) }
         ensures keeps { H.keeps handler.old node.old handler.new node.new }
+        ensures watches { KeepsWatch now.number node.old waiting.old self.old node.new waiting.new self.new }
+        ensures others { OthersWait now.number waiting.old.waits waiting.new.waits }
+        ensures sleeps { result ≡ Stop.Waits → IsSome (unnamed_at waiting.new.waits now.number) }
     {
         while self.owed.len() < most_owed {
-            waiting.look(node, self.held.as_slice());
+            // Called for its contract alone: of a sound broker it is known what a request leaves.
+            node.state().know_sound();
+            let noted = waiting.note(node, self.held.as_slice());
             match self.answer_next(node, handler, now) {
-                Ok(Next::Answered) => waiting.leave(now.number),
-                Ok(Next::Short) => return Stop::Short,
-                Ok(Next::Waits(_)) => return self.wait(node, waiting, now.number),
+                Ok(Came::Answered(is_dear)) => {
+                    waiting.pass(node, now.number, noted);
+                    if is_dear {
+                        return self.leave_off(most_owed);
+                    }
+                }
+                Ok(Came::Short) => return Stop::Short,
+                Ok(Came::Waits(_)) => return self.wait(node, waiting, now.number),
                 Err(why) => return Stop::Over(why),
             }
         }
         Stop::Full
     }
 
+    /// Why a turn stops behind a frame that is dear.
+    fn leave_off(&self, most_owed: usize) -> Stop
+        ensures stops { IsLeftOff most_owed self.now result }
+        ensures puts_off { stop_place result ≡ None }
+    {
+        if self.owed.len() >= most_owed {
+            return Stop::Full;
+        }
+        if self.is_short() {
+            return Stop::Short;
+        }
+        Stop::Dear
+    }
+
     /// Has the first frame that is held wait for its partitions. Without memory for that it can't be
     /// answered.
     fn wait<S: BatchStore>(&self, node: &Node<S>, waiting: &mut Waiting<A>, number: u64) -> Stop
-        ensures { (result ≡ Stop.Waits) ⊎ (result ≡ Stop.Over NextError.OutOfMemory) }
+        ensures stops { (result ≡ Stop.Waits) ⊎ (result ≡ Stop.Over NextError.OutOfMemory) }
+        ensures watches { (most : ℕ) → WaitsFirst node.now self.now.held most
+            → KeepsWatch number node.now waiting.old self.now node.now waiting.new self.now }
+        ensures others { OthersWait number waiting.old.waits waiting.new.waits }
+        ensures sleeps { result ≡ Stop.Waits → IsSome (unnamed_at waiting.new.waits number) }
     {
-        match waiting.join(node, number, self.due, self.held.as_slice()) {
+        let Some(due) = self.due else {
+            return Stop::Over(NextError::OutOfMemory);
+        };
+        match waiting.join(node, number, due, self.held.as_slice()) {
             Ok(()) => Stop::Waits,
             Err(_) => Stop::Over(NextError::OutOfMemory),
         }
@@ -226,9 +277,9 @@ impl<A: Allocator + Copy> Session<A> {
         node: &mut Node<S>,
         handler: &mut H,
         now: Now,
-    ) -> Result<Next, NextError>
-        ensures answers { IfOk result (λ next. MatchNext next
-            (AnswersNext now.has_ended (is_over now.clock self.old.due)
+    ) -> Result<Came, NextError>
+        ensures answers { IfOk result (λ came. MatchCame came
+            (λ dear. AnswersNext dear now.has_ended (is_over now.clock self.old.due)
             node.old self.old node.new self.new)
             ((node.new ≡ node.old) × (self.new ≡ self.old) × IsIncomplete self.new.held)
             (WaitsNext now.clock now.has_ended node.old self.old node.new self.new)) }
@@ -242,19 +293,19 @@ impl<A: Allocator + Copy> Session<A> {
             return Err(NextError::OutOfMemory);
         };
         let may_wait = self.may_wait(now);
-        let next = self.owed.answer(node, handler, &mut self.held, may_wait)?;
-        match next {
-            Next::Answered => {
+        let came = self.owed.answer(node, handler, &mut self.held, may_wait)?;
+        match came {
+            Came::Answered(_) => {
                 self.answered = answered;
                 self.due = None;
             }
-            Next::Short => {}
-            Next::Waits(most) => {
+            Came::Short => {}
+            Came::Waits(most) => {
                 let until = u128::from(now.clock) + u128::from(most);
                 self.due = Some(self.due.unwrap_or(until));
             }
         }
-        Ok(next)
+        Ok(came)
     }
 
     /// Makes one write, of the front of what is owed, and gives how many bytes left.
@@ -271,13 +322,26 @@ impl<A: Allocator + Copy> Session<A> {
         self.owed.send(to)
     }
 
-    /// Gives back the room of buffers in which nothing is held or owed.
+    /// Gives back room of which little is used by what is held and owed. Where memory lacks for a smaller buffer, it stays.
     pub(crate) fn release(&mut self)
         ensures { self.new ≡ self.old }
     {
-        self.owed.turn_over();
+        self.owed.release();
         if self.held.is_empty() {
             self.held = BytesMut::new(self.alloc);
+            self.room = 0;
+        } else if is_small_part(self.held.len(), self.room) {
+            self.hold_anew();
+        }
+    }
+
+    /// Moves what is held to a buffer of its size, if there is memory for one.
+    fn hold_anew(&mut self)
+        ensures { self.new ≡ self.old }
+    {
+        if let Ok(held) = BytesMut::copy_from_slice(self.alloc, self.held.as_slice()) {
+            self.held = held;
+            self.room = self.held.capacity();
         }
     }
 }

@@ -1,14 +1,14 @@
 //! A broker, and the sessions of its clients.
 
-ghost use Rattle.std.specs.Prelude.{◌≡◌, None, IfNone, IfOk, IfSome, MatchBool, OnErr};
+ghost use Rattle.std.specs.Prelude.{◌≡◌, ℕ, true, false, None, IfNone, IfOk, IfSome, MatchBool, OnErr};
 ghost use Rattle.std.specs.Option.{option_copied};
-ghost use Rattle.sessions.specs.Orders.{IsInOrder, SendsAt, Step, VisitsAt, new_world, session_at};
+ghost use Rattle.sessions.specs.Orders.{GoesOnBy, IsInOrder, NobodyIsDue, OthersSleepOn, SendsAt, SleepsWhereItWaits, Step, VisitsAt, is_asleep, new_world, session_at};
 ghost use Rattle.sessions.specs.Orders.Event.{Closes, Opens};
 ghost use Rattle.sessions.specs.Visits.{then_place};
 
 use crate::handler::Handler;
 use crate::session::Session;
-use crate::visiting::{Flushed, READ_PIECE, Seat, Visit, Why, send_session, visit_session};
+use crate::visiting::{Flushed, READ_PIECE, Seat, Then, Visit, Why, send_session, visit_session};
 use crate::waiting::Waiting;
 use broker_node::Node;
 use indexmap::IndexMap;
@@ -43,14 +43,19 @@ pub struct Sessions<S: BatchStore, A: Allocator + Copy> {
 impl<S: BatchStore, A: Allocator + Copy> Model for Sessions<S, A> {
     ghost use Rattle.std.specs.Prelude.{◌≡◌, length};
     ghost use Rattle.sessions.specs.declared.visiting.TheConstants.{READ_PIECE};
-    ghost use Rattle.sessions.specs.Orders.{World, IsReached};
+    ghost use Rattle.sessions.specs.Orders.{SessionsState};
+    ghost use Rattle.sessions.specs.Waiting.{names_of};
+    ghost use Rattle.sessions.specs.Watched.{IsWatched};
 
-    ghost Value = { World };
+    ghost Value = { SessionsState };
 
-    ghost view = { λ b. record { state = b.node; sessions = b.sessions.entries; next = b.next } };
+    ghost view = { λ b. record {
+      world = record { state = b.node; sessions = b.sessions.entries; next = b.next };
+      waits = names_of b.waiting.waits;
+    } };
 
-    ghost invariant = { λ b. (length b.piece.items ≡ READ_PIECE) × IsReached
-        (record { state = b.node; sessions = b.sessions.entries; next = b.next }) };
+    ghost invariant = { λ b. (length b.piece.items ≡ READ_PIECE)
+        × IsWatched (record { state = b.node; sessions = b.sessions.entries; next = b.next }) b.waiting };
 }
 
 impl<S: BatchStore + Drop, A: Allocator + Copy> Sessions<S, A> {
@@ -60,7 +65,8 @@ impl<S: BatchStore + Drop, A: Allocator + Copy> Sessions<S, A> {
     ///
     /// Out of memory.
     pub fn new(alloc: A, node: Node<S>) -> Result<Sessions<S, A>, AllocError>
-        ensures { IfOk result (λ sessions. sessions ≡ new_world node) }
+        ensures is_new { IfOk result (λ sessions. sessions.world ≡ new_world node) }
+        ensures none_sleeps { IfOk result (λ sessions. (k : ℕ) → is_asleep sessions k ≡ false) }
     {
         let piece = vec![in alloc; 0; READ_PIECE]?;
         Ok(Sessions {
@@ -81,7 +87,9 @@ impl<S: BatchStore, A: Allocator + Copy> Sessions<S, A> {
     ///
     /// Out of memory, or 2^64 - 1 sessions were opened: nothing has changed.
     pub fn open(&mut self) -> Result<u64, AllocError>
-        ensures opens { IfOk result (λ number. Step self.old (Opens number) self.new) }
+        ensures opens { IfOk result (λ number. Step self.old.world (Opens number) self.new.world) }
+        ensures goes_on { IfOk result (λ number. GoesOnBy (Opens number) self.old.world self.new.world) }
+        ensures asleep { (k : ℕ) → is_asleep self.new k ≡ is_asleep self.old k }
         ensures unchanged_on_error { OnErr result (self.new ≡ self.old) }
     {
         let number = self.next;
@@ -94,8 +102,8 @@ impl<S: BatchStore, A: Allocator + Copy> Sessions<S, A> {
     }
 
     /// Visits the session with this number: makes at most one read, where a read may be made and no
-    /// complete frame is held, and answers complete frames in order, until 256 KiB or more are owed. It sends
-    /// nothing. `None` if there is no such session. `clock` is what the caller's clock says, in
+    /// complete frame is held, and answers complete frames in order, until 256 KiB or more are owed, or one
+    /// was dear. It sends nothing. `None` if there is no such session. `clock` is what the caller's clock says, in
     /// milliseconds: a Fetch that waits is answered once it says so much more than it did at the visit
     /// that first came to that frame, or once what it waits for is there, or the input has ended. The
     /// handler is asked for each request that is handled; a frame that it puts off stays the first one.
@@ -107,11 +115,13 @@ impl<S: BatchStore, A: Allocator + Copy> Sessions<S, A> {
         seat: &mut Seat,
         from: &mut R,
     ) -> Option<Visit>
-        ensures visits { IfSome result (VisitsAt number clock seat.old self.old seat.new self.new
+        ensures visits { IfSome result (VisitsAt number clock seat.old self.old.world seat.new self.new.world
             (R.remaining from.old) (R.remaining from.new)) }
+        ensures others_sleep { OthersSleepOn number self.old self.new }
+        ensures sleeps { IfSome result (λ visit. visit.then ≡ Then.Idle → SleepsWhereItWaits number self.new) }
         ensures puts_off { IfSome result (λ visit. IfSome (then_place visit.then) (H.puts_off handler.new)) }
-        ensures keeps { H.keeps handler.old self.old.state handler.new self.new.state }
-        ensures none_is_absent { IfNone result (session_at self.old number ≡ None) }
+        ensures keeps { H.keeps handler.old self.old.world.state handler.new self.new.world.state }
+        ensures none_is_absent { IfNone result (session_at self.old.world number ≡ None) }
         ensures none_changes_nothing { IfNone result ((self.new ≡ self.old)
             × (seat.new ≡ seat.old) × (from.new ≡ from.old)) }
     {
@@ -144,9 +154,10 @@ impl<S: BatchStore, A: Allocator + Copy> Sessions<S, A> {
         seat: &mut Seat,
         to: &mut W,
     ) -> Option<Result<Flushed, Why>>
-        ensures sends { IfSome result (SendsAt number seat.old self.old seat.new self.new
+        ensures sends { IfSome result (SendsAt number seat.old self.old.world seat.new self.new.world
             (W.contents to.old) (W.contents to.new)) }
-        ensures none_is_absent { IfNone result (session_at self.old number ≡ None) }
+        ensures asleep { (k : ℕ) → is_asleep self.new k ≡ is_asleep self.old k }
+        ensures none_is_absent { IfNone result (session_at self.old.world number ≡ None) }
         ensures none_changes_nothing { IfNone result ((self.new ≡ self.old)
             × (seat.new ≡ seat.old) × (to.new ≡ to.old)) }
     {
@@ -159,27 +170,33 @@ impl<S: BatchStore, A: Allocator + Copy> Sessions<S, A> {
     /// Closes the session with this number, with all that it holds and owes, and tells whether there was
     /// one.
     pub fn close(&mut self, number: u64) -> bool
-        ensures { MatchBool result (Step self.old (Closes number) self.new)
-            ((session_at self.old number ≡ None) × (self.new ≡ self.old)) }
+        ensures closes { MatchBool result (Step self.old.world (Closes number) self.new.world)
+            ((session_at self.old.world number ≡ None) × (self.new ≡ self.old)) }
+        ensures goes_on { result ≡ true → GoesOnBy (Closes number) self.old.world self.new.world }
+        ensures sleeps_no_more { result ≡ true → is_asleep self.new number ≡ false }
+        ensures others_sleep { OthersSleepOn number self.old self.new }
     {
+        let Some(_closed) = self.sessions.swap_remove(&number) else {
+            return false;
+        };
         self.waiting.leave(number);
-        match self.sessions.swap_remove(&number) {
-            Some(_) => true,
-            None => false,
-        }
+        true
     }
 
-    /// The number of a session whose frame waits and may be due: a partition that it asks for
-    /// may have changed, or its time is over by the clock. It is to be
-    /// visited: that finds whether it is due. It may wait no more, too, or be closed.
+    /// The number of a session that slept and may be due: a partition that it asks for may have changed, or its time is over by the
+    /// clock. It sleeps no more, and is to be visited: that finds whether it is due. `None` where no Fetch of a session that sleeps
+    /// could be answered yet.
     pub fn next_woken(&mut self, clock: u64) -> Option<u64>
-        ensures { self.new ≡ self.old }
+        ensures changes_nothing { self.new.world ≡ self.old.world }
+        ensures names { IfSome result (λ number. (is_asleep self.new number ≡ false)
+            × OthersSleepOn number self.old self.new) }
+        ensures sleeps_on { IfNone result ((k : ℕ) → is_asleep self.new k ≡ is_asleep self.old k) }
+        ensures nobody_is_due { IfNone result (NobodyIsDue clock self.new) }
     {
         self.waiting.next_woken(clock)
     }
 
-    /// For how many partitions the first frame of a session waits; 0 where it doesn't. Each takes some 64
-    /// bytes of memory.
+    /// For how many partitions the first frame of a session waits; 0 where it doesn't.
     pub fn awaited(&self, number: u64) -> usize {
         self.waiting.places(number)
     }
@@ -191,23 +208,21 @@ impl<S: BatchStore, A: Allocator + Copy> Sessions<S, A> {
 
     /// The broker.
     pub fn node(&self) -> &Node<S>
-        ensures { result.now ≡ self.now.state }
+        ensures { result.now ≡ self.now.world.state }
     {
         &self.node
     }
 
-    /// A law: whatever calls were made since the broker had no client, all frames that were answered are one
-    /// list, as [`many_clients_are_one_list`](crate::many_clients_are_one_list) says.
+    /// A law: whatever events the broker and its clients went by since it had none, all frames that were answered are one list,
+    /// as [`many_clients_are_one_list`](crate::many_clients_are_one_list) says. Each call goes on by an event, as its contract
+    /// says.
     pub fn are_one_list(&self)
-        ensures { IsInOrder self.now }
-    {
-        // What is known of the fields is known where one of them is looked at.
-        let _next = self.next;
-    }
+        ensures { IsInOrder self.now.world }
+    {}
 
     /// The session with this number.
     pub fn session(&self, number: u64) -> Option<&Session<A>>
-        ensures { option_copied result ≡ session_at self.now number }
+        ensures { option_copied result ≡ session_at self.now.world number }
     {
         self.sessions.get(&number)
     }

@@ -1,10 +1,12 @@
 //! A visit of a session: what may be read is read, and what is complete is answered. What is owed is sent by a call of its own.
 
-ghost use Rattle.std.specs.Prelude.{◌≡◌, ◌⊎◌, ◌<◌, ◌≤◌, true, false, length, None, IfErr, IfSome, MatchBool, OnErr, OnOk};
+ghost use Rattle.std.specs.Prelude.{◌≡◌, ◌≢◌, ◌⊎◌, ◌<◌, ◌≤◌, true, false, ℕ, List, [], length, None, IfErr, IfSome, IsSome, MatchBool, OnErr, OnOk, IfOk};
 ghost use Rattle.frame_fields.specs.Frames.{IsIncomplete};
-ghost use Rattle.sessions.specs.Turns.{SessionState, StopsNext, next_place};
+ghost use Rattle.sessions.specs.Turns.{Exchange, SessionState, StopsNext, WaitsFirst, next_place};
+ghost use Rattle.sessions.specs.Waiting.{unnamed_at};
+ghost use Rattle.sessions.specs.Asleep.{KeepsWatch, OthersWait};
 ghost use Rattle.sessions.specs.Visits.{GoesOn, IsReady, Moment, SendsTo, StaysIdle, WantsMore, has_ended, then_place};
-ghost use Rattle.sessions.specs.Steps.{ComesIn, FailsToRead, GoesOut, IsFailure, IsNoRead, StopsTurn, VisitsSession, WriteFault, Writes, frees, stop_place};
+ghost use Rattle.sessions.specs.Steps.{ComesIn, HasGot, FailsToRead, GoesOut, IsFailure, IsNoRead, MayIdle, StopsTurn, VisitsSession, WriteFault, Writes, frees, stop_place};
 
 use crate::handler::Handler;
 use crate::replying::NextError;
@@ -45,6 +47,8 @@ pub struct Seat {
 pub struct Visit {
     /// How many frames were answered.
     pub answered: u64,
+    /// Whether its read was interrupted: then nothing came, and nothing is known of what is there. Another visit reads again.
+    pub was_interrupted: bool,
     /// What is to be done with the session.
     pub then: Then,
 }
@@ -54,6 +58,9 @@ pub struct Visit {
 pub enum Then {
     /// More can be read: another visit, after the others.
     Again,
+    /// The last frame that was answered is dear, as [`is_dear`](broker_node::is_dear) says, and another is held: another
+    /// visit, after the others.
+    Dear,
     /// There is nothing to do until a read may be made again, some of what is owed has left, or a frame that
     /// waits is due.
     Idle,
@@ -69,6 +76,8 @@ pub enum Then {
 pub struct Flushed {
     /// How many bytes left.
     pub bytes: usize,
+    /// Whether its writes were interrupted: nothing left, though something is owed and a write may be made.
+    pub was_interrupted: bool,
     /// Whether a visit may have something to do now, which it couldn't do while so much was owed.
     pub is_ready: bool,
 }
@@ -133,8 +142,8 @@ fn failure_of(kind: ErrorKind) -> Failure
 
 /// What is to be done with a session that holds no complete frame.
 fn after_short<A: Allocator + Copy>(seat: &Seat, session: &Session<A>) -> Then
-    ensures goes_on { (at : Moment) → IsIncomplete session.now.held
-        → GoesOn at seat.now session.now result }
+    ensures goes_on { (at : Moment) → (es : List Exchange) → IsIncomplete session.now.held
+        → GoesOn at seat.now es session.now result }
     ensures reads_nothing { IsNoRead result }
     ensures puts_off { then_place result ≡ None }
 {
@@ -153,10 +162,11 @@ fn after_short<A: Allocator + Copy>(seat: &Seat, session: &Session<A>) -> Then
 
 /// What is to be done with a session whose first frame isn't answered.
 fn after_stop<A: Allocator + Copy>(why: NextError, session: &Session<A>) -> Then
-    ensures goes_on { (at : Moment) → (seat : Seat) → StopsNext session.now why
-        → GoesOn at seat session.now result }
+    ensures goes_on { (at : Moment) → (seat : Seat) → (es : List Exchange)
+        → StopsNext session.now why → GoesOn at seat es session.now result }
     ensures reads_nothing { IsNoRead result }
     ensures puts_off { then_place result ≡ next_place why }
+    ensures idles { result ≡ Then.Idle → 0 < length session.now.owed }
 {
     match why {
         NextError::PutOff(place) => Then::PutOff(place),
@@ -179,14 +189,17 @@ fn after_stop<A: Allocator + Copy>(why: NextError, session: &Session<A>) -> Then
 
 /// What is to be done with a session whose turn stopped so.
 fn what_then<A: Allocator + Copy>(seat: &Seat, session: &Session<A>, stop: Stop) -> Then
-    ensures goes_on { (at : Moment)
-        → StopsTurn MOST_OWED at.clock (has_ended seat.now) at.state session.now stop
-        → GoesOn at seat.now session.now result }
+    ensures goes_on { (at : Moment) → (es : List Exchange)
+        → StopsTurn MOST_OWED at.clock (has_ended seat.now) at.state es session.now stop
+        → GoesOn at seat.now es session.now result }
     ensures reads_nothing { IsNoRead result }
     ensures puts_off { then_place result ≡ stop_place stop }
+    ensures idles { result ≡ Then.Idle → MayIdle session.now.owed stop }
+    ensures dear { stop ≡ Stop.Dear → result ≡ Then.Dear }
 {
     match stop {
         Stop::Full => Then::Idle,
+        Stop::Dear => Then::Dear,
         Stop::Short => after_short(seat, session),
         Stop::Waits => Then::Idle,
         Stop::Over(why) => after_stop(why, session),
@@ -212,14 +225,18 @@ fn wants_more<A: Allocator + Copy>(seat: &Seat, session: &Session<A>) -> bool
     seat.may_read && !seat.at_end && session.owed() < MOST_OWED && session.is_short()
 }
 
-/// Makes one read, if one may be made, where no complete frame is held and not too much is owed.
-#[tactic(auto, using(crate::proofs::Passing::nothing_comes, crate::proofs::Passing::something_comes, crate::proofs::Passing::no_change))]
+/// Makes one read, if one may be made, where no complete frame is held and not too much is owed. Gives whether
+/// it was interrupted.
+#[tactic(auto, using(crate::proofs::Passing::nothing_comes, crate::proofs::Passing::something_comes, crate::proofs::Passing::no_change, crate::proofs::Passing::has_got, crate::proofs::Passing::not_due))]
 fn read_once<A: Allocator + Copy, R: Read>(
     session: &mut Session<A>,
     seat: &mut Seat,
     from: &mut R,
     piece: &mut [u8],
-) -> Result<(), Why>
+) -> Result<bool, Why>
+    ensures gets { IfOk result (λ was_interrupted. WantsMore session.old → seat.old.may_read ≡ true
+        → seat.old.at_end ≡ false → was_interrupted ≡ false
+        → HasGot session.old seat.new session.new) }
     ensures comes { length piece.old ≡ READ_PIECE
         → OnOk result (ComesIn seat.old seat.new session.old session.new
         (R.remaining from.old) (R.remaining from.new)) }
@@ -232,19 +249,19 @@ fn read_once<A: Allocator + Copy, R: Read>(
     ensures closing { seat.new.is_closing ≡ seat.old.is_closing }
 {
     if !wants_more(seat, session) {
-        return Ok(());
+        return Ok(false);
     }
     match session.receive(from, piece) {
         Ok(count) => {
             seat.at_end = count == 0;
-            Ok(())
+            Ok(false)
         }
         Err(ReceiveError::OutOfMemory) => Err(Why::OutOfMemory),
         Err(ReceiveError::Read(kind)) => match failure_of(kind) {
-            Failure::Again => Ok(()),
+            Failure::Again => Ok(true),
             Failure::Wait => {
                 seat.may_read = false;
-                Ok(())
+                Ok(false)
             }
             Failure::Fault(kind) => Err(Why::Read(kind)),
         },
@@ -322,8 +339,15 @@ fn is_ready<A: Allocator + Copy>(seat: &Seat, session: &Session<A>, owing: usize
     !session.is_short()
 }
 
+/// Whether nothing left of what was owed, though something was, and a write may be made.
+fn is_stuck(may_write: bool, owing: usize, owed: usize) -> bool
+    ensures { result ≡ false → may_write ≡ true → 0 < owing → owed ≢ owing }
+{
+    may_write && owing > 0 && owed == owing
+}
+
 /// Sends a session what it is owed, by at most four writes; nothing is read or answered.
-#[tactic(auto, using(crate::proofs::Sending::sent_to))]
+#[tactic(auto, using(crate::proofs::Sending::sent_to, crate::proofs::Sending::gets_on))]
 pub(crate) fn send_session<A: Allocator + Copy, W: Write>(
     session: &mut Session<A>,
     seat: &mut Seat,
@@ -337,6 +361,7 @@ pub(crate) fn send_session<A: Allocator + Copy, W: Write>(
     session.release();
     Ok(Flushed {
         bytes: owing - session.owed(),
+        was_interrupted: is_stuck(seat.may_write, owing, session.owed()),
         is_ready: is_ready(seat, session, owing),
     })
 }
@@ -358,16 +383,22 @@ pub(crate) fn visit_session<S: BatchStore, H: Handler<S>, A: Allocator + Copy, R
         (R.remaining from.old) (R.remaining from.new) result }
     ensures puts_off { IfSome (then_place result.then) (H.puts_off handler.new) }
     ensures keeps { H.keeps handler.old node.old handler.new node.new }
+    ensures watches { length piece.old ≡ READ_PIECE
+        → KeepsWatch number node.old waiting.old session.old node.new waiting.new session.new }
+    ensures others { OthersWait number waiting.old.waits waiting.new.waits }
+    ensures sleeps { length piece.old ≡ READ_PIECE → result.then ≡ Then.Idle → (most : ℕ) → WaitsFirst node.new session.new.held most
+        → session.new.owed ≡ [] → IsSome (unnamed_at waiting.new.waits number) }
 {
-    match read_once(session, seat, from, piece) {
-        Ok(()) => {}
+    let was_interrupted = match read_once(session, seat, from, piece) {
+        Ok(was_interrupted) => was_interrupted,
         Err(why) => {
             return Visit {
                 answered: 0,
+                was_interrupted: false,
                 then: Then::Over(why),
             };
         }
-    }
+    };
     let before = session.answered();
     let now = Now {
         number,
@@ -378,6 +409,7 @@ pub(crate) fn visit_session<S: BatchStore, H: Handler<S>, A: Allocator + Copy, R
     session.release();
     Visit {
         answered: session.answered() - before,
+        was_interrupted,
         then: what_then(seat, session, stop),
     }
 }

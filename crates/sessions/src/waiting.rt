@@ -1,121 +1,253 @@
-//! The sessions whose first frame waits: by partition, and by time. No clause depends on them: they say
-//! which session may be due, and a visit finds whether it is.
+//! The sessions whose first frame waits: by partition, and by time.
+//!
+//! One that sleeps has counted what is missing, and what each of its partitions may grow by. Behind a frame only the partitions
+//! that it may have changed are looked at, and of those that wait only who stands there. Who may be due is woken; that takes no
+//! memory, so it can't fail. A visit finds whether it is due.
 
+ghost use Rattle.std.specs.Prelude.{◌≡◌, ◌≢◌, ◌<◌, ◌≤◌, ◌⊎◌, ℕ, List, [], ◌∷◌, length, map, true, false, is_some, slice_get, None, Some, All, IsSome, IfNone, IfSome, IfOk, MatchOption, OnOk, OnErr};
+ghost use Rattle.std.specs.Map.{keys_of};
+ghost use Rattle.frame_fields.specs.Arrays.{values};
+ghost use Rattle.frame_fields.specs.Types.{topic, topic_request};
+ghost use Rattle.request_frames.specs.Produce.{produce_partition, produce_partition_value};
+ghost use Rattle.request_frames.specs.Views.{request_body, request_value};
+ghost use Rattle.frame_fields.specs.Frames.{IsFirstFrame};
+ghost use Rattle.request_frames.specs.Fetch.{FetchValue, fetch_partition, fetch_partition_value, fetch_view};
+ghost use Rattle.request_frames.specs.Requests.{RequestValue, IsRequest};
+ghost use Rattle.request_frames.specs.Views.{request_value};
+ghost use Rattle.log_requests.specs.Fetch.Entries.{fetch_entry_value};
+ghost use Rattle.broker_state.specs.State.{State, content_at};
+ghost use Rattle.broker_node.specs.Effects.{TopicPartition, effect, places, produced_to};
+ghost use Rattle.fetch_waits.specs.Sleeping.{Contents};
+ghost use Rattle.fetch_waits.specs.Waiting.{awaited_bytes, fetch_waits};
+ghost use Rattle.sessions.specs.Waiting.{asleep_at, key_of, share_in, stand_at, unnamed_at, wait_at, with_entry};
+ghost use Rattle.sessions.specs.declared.waits.PartitionKey.{PartitionKey};
+ghost use Rattle.sessions.specs.Asleep.{AllWaitOn, AreMarked, AsksFirst, IsAppend, Leaves, OthersWait, has_time};
+ghost use Rattle.sessions.specs.Joining.{AreCounted, CountsMore, EndsAt, HasPut, Joins, Knows, PutsAt, SleepsSo, Stays, as_it_was, entries_in, entries_of, is_time, new_stand, share_with};
+ghost use Rattle.sessions.specs.Growing.{Counts, Grew, GrowsOn, KeepsDues, KeepsStands, Looks, LooksAt, Marks, produced_in};
+
+use crate::waits::{ByNumber, Growth, PartitionKey, Share, Wait, Waits};
 use broker_node::{MayChange, Node, what_may_change};
-use broker_state::{BrokerState, MAX_PARTITIONS};
-use frame_fields::{Topic, Topics, first_frame};
-use indexmap::{IndexMap, IndexSet};
-use request_frames::{FetchPartition, ProducePartition, Request, RequestBody, parse};
+use broker_state::{BrokerState, Place};
+use fetch_waits::{Counted, awaited_bytes, count_behind, count_entry};
+use frame_fields::{Array, Topic, Topics, first_frame};
+use indexmap::IndexMap;
+use request_frames::{FetchPartition, FetchRequest, ProducePartition, Request, RequestBody, parse};
 use segment::BatchStore;
 use std::alloc::{AllocError, Allocator};
-use std::collections::{BTreeSet, VecDeque};
+use std::collections::BTreeSet;
 use std::hash::{BuildHasherDefault, FoldHasher};
+use std::marker::Model;
 
-/// Numbers, with something for each.
-type ByNumber<V, A> = IndexMap<u64, V, BuildHasherDefault<FoldHasher>, A>;
+/// Partitions, with something for each.
+type ByPartition<V, A> = IndexMap<PartitionKey, V, BuildHasherDefault<FoldHasher>, A>;
 
-/// Numbers, each once.
-type Numbers<A> = IndexSet<u64, BuildHasherDefault<FoldHasher>, A>;
-
-/// What a session waits for.
+/// Those that wait for a partition.
 #[derive(Drop)]
-struct Wait<A: Allocator + Copy> {
-    /// When its time is over, and its number.
-    due: (u128, u64),
-    /// Its partitions.
-    places: Vec<u64, A>,
-    /// Whether it is to be visited: it then needs no other change of its partitions.
-    is_woken: bool,
+struct Stand<A: Allocator + Copy> {
+    /// Where its log ended when it was counted.
+    end: i64,
+    /// By how many bytes it grew since the first that stands here came.
+    grown: u64,
+    /// What each waits for here, by its number.
+    shares: ByNumber<Share, A>,
+}
+
+/// What a frame that is to be handled may do to the partitions that are marked.
+#[derive(Clone, Copy)]
+pub(crate) enum Noted {
+    /// It may append to them, and nothing else.
+    Appends,
+    /// It may do anything.
+    Changes,
 }
 
 /// The sessions that wait.
 #[derive(Drop)]
 pub(crate) struct Waiting<A: Allocator + Copy> {
     alloc: A,
-    /// Each, by its number.
-    waits: ByNumber<Wait<A>, A>,
-    /// The numbers of those that wait for a partition.
-    by_place: ByNumber<Numbers<A>, A>,
-    /// When their times are over, with their numbers.
+    /// What they wait for.
+    waits: Waits<A>,
+    /// Where they wait. Those partitions stand first that the frame may change which is being handled.
+    by_partition: ByPartition<Stand<A>, A>,
+    /// How many these are.
+    marked: usize,
+    /// When their times are over, with their numbers. Who is woken may be missing.
     by_time: BTreeSet<(u128, u64), A>,
-    /// The numbers of those that are to be visited, and of some that wait no more.
-    woken: VecDeque<u64, A>,
 }
 
-/// The number of a partition among all of a broker, if it has it.
-fn place_of<S: BatchStore>(state: &BrokerState<S>, topic: &[u8], partition: i32) -> Option<u64> {
-    let place = state.place_of(topic, partition)?;
-    let before = (place.topic as u64).checked_mul(MAX_PARTITIONS as u64)?;
-    before.checked_add(place.partition as u64)
+impl<A: Allocator + Copy> Model for Stand<A> {
+    ghost use Rattle.sessions.specs.Waiting.{StandState};
+
+    ghost Value = { StandState };
+
+    ghost view = { λ s. record { end = s.end; grown = s.grown; shares = s.shares.entries } };
 }
 
-/// Adds a session to those that wait for a partition.
-fn add_at<A: Allocator + Copy>(
-    alloc: A,
-    by_place: &mut ByNumber<Numbers<A>, A>,
-    place: u64,
-    number: u64,
-) -> Result<(), AllocError> {
-    if !by_place.contains_key(&place) {
-        by_place.insert(place, IndexSet::new(alloc))?;
-    }
-    if let Some(there) = by_place.get_mut(&place) {
-        there.insert(number)?;
-    }
-    Ok(())
+impl<A: Allocator + Copy> Model for Waiting<A> {
+    ghost use Rattle.sessions.specs.Waiting.{WaitingState};
+
+    ghost Value = { WaitingState };
+
+    ghost view = { λ w. record {
+      waits = w.waits;
+      stands = w.by_partition.entries;
+      marked = w.marked;
+      times = w.by_time.keys;
+    } };
 }
 
 /// The first frame that is held, as a request, if it is one.
-fn first_request(held: &[u8]) -> Option<Request<'_>> {
-    let frame = first_frame(held).ok()??;
-    parse(frame).ok()
+#[tactic(auto, using(crate::proofs::Requested::is_short, crate::proofs::Requested::has_no_size))]
+fn first_request(held: &[u8]) -> Option<Request<'_>>
+    ensures reads { (frame rest : List ℕ) (q : RequestValue) → IsFirstFrame frame held.now rest
+        → IsRequest frame q → MatchOption result ⊥ (λ request. request_value request ≡ q) }
+{
+    let frame = match first_frame(held) {
+        Ok(Some(frame)) => frame,
+        Ok(None) => return None,
+        Err(_) => return None,
+    };
+    match parse(frame) {
+        Ok(request) => Some(request),
+        Err(_) => None,
+    }
 }
 
-/// Puts the numbers of a topic's partitions that are asked for behind others.
-fn put_places<S: BatchStore, A: Allocator + Copy>(
-    state: &BrokerState<S>,
-    topic: Topic<'_, FetchPartition>,
-    places: &mut Vec<u64, A>,
-) -> Result<(), AllocError> {
-    for entry in topic.partitions {
-        if let Some(place) = place_of(state, topic.name, entry.partition) {
-            places.push(place)?;
+/// What a request may do to the partitions that it may change. Of a kind that isn't named here nothing is known.
+fn effect_of(body: &RequestBody<'_>) -> Noted
+    ensures { result ≡ Noted.Appends → IsAppend (effect (request_body body.now)) }
+{
+    match body {
+        RequestBody::Produce(_) | RequestBody::OffsetCommit(_) | RequestBody::ForgetGroup(_) => {
+            Noted::Appends
         }
+        _ => Noted::Changes,
     }
-    Ok(())
 }
 
-/// The numbers of the partitions for which a request waits.
-fn places_of<S: BatchStore, A: Allocator + Copy>(
-    alloc: A,
-    state: &BrokerState<S>,
-    request: &Request<'_>,
-) -> Result<Vec<u64, A>, AllocError> {
-    let mut places = Vec::new(alloc);
-    if let RequestBody::Fetch(asked) = &request.body {
-        for topic in Topics::of(&asked.topics) {
-            put_places(state, topic, &mut places)?;
+impl Share {
+    /// What a session waits for that has one more entry of the partition, the one with this number among all.
+    fn with_entry(&self, upto: u64, entry: usize) -> Result<Share, AllocError>
+        ensures { IfOk result (λ share. share ≡ share_with upto entry self.now) }
+    {
+        let Some(entries) = self.entries.checked_add(1) else {
+            return Err(AllocError);
+        };
+        Ok(Share {
+            entries,
+            upto: self.upto.min(upto),
+            first: self.first.min(entry),
+        })
+    }
+}
+
+impl<A: Allocator + Copy> Stand<A> {
+    /// Nobody waits yet for the partition of an entry.
+    fn new(alloc: A, counted: &Counted) -> Stand<A>
+        ensures { result ≡ new_stand counted.now.end }
+    {
+        Stand {
+            end: counted.end,
+            grown: 0,
+            shares: IndexMap::new(alloc),
         }
     }
-    Ok(places)
+
+    /// Adds one more entry of a session, the one with this number among all of them, from 1.
+    fn put(&mut self, number: u64, room: Option<usize>, entry: usize) -> Result<(), AllocError>
+        ensures stays { Stays number self.old self.new }
+        ensures puts { OnOk result (HasPut number room entry self.old self.new) }
+    {
+        let upto = self.grown.saturating_add(room.unwrap_or(0) as u64);
+        let share = match self.shares.get(&number) {
+            Some(share) => share.with_entry(upto, entry)?,
+            None => Share {
+                entries: 1,
+                upto,
+                first: entry,
+            },
+        };
+        self.shares.insert(number, share)?;
+        Ok(())
+    }
+
+    /// Removes what a session waits for here, and gives whether nobody waits here any more.
+    fn remove(&mut self, number: u64) -> bool
+        ensures stays { (self.new.end ≡ self.old.end) × (self.new.grown ≡ self.old.grown) }
+        ensures shares { (k : ℕ) → k ≢ number → share_in self.new k ≡ share_in self.old k }
+        ensures none { result ≡ true → self.new.shares ≡ [] }
+    {
+        self.shares.swap_remove(&number);
+        self.shares.is_empty()
+    }
+
+    /// Counts what came to the partition at a place since it was counted, and gives by how much it grew, if that is known.
+    fn count<S: BatchStore>(&mut self, state: &BrokerState<S>, place: Place) -> Option<Growth>
+        ensures counts { Counts state.now place self.old self.new }
+        ensures grew { IfSome result (Grew state.now place self.old self.new) }
+    {
+        let behind = count_behind(state, place, self.end)?;
+        self.end = behind.end;
+        let more = behind.bytes?;
+        self.grown = self.grown.checked_add(more as u64)?;
+        Some(Growth {
+            more,
+            grown: self.grown,
+        })
+    }
+}
+
+/// Has those look at what they wait for that stand at a partition.
+fn grow_all<A: Allocator + Copy>(waits: &mut Waits<A>, stand: &Stand<A>, growth: Option<Growth>)
+    ensures grows { (k : ℕ) → GrowsOn (share_in stand.now k) growth
+        (asleep_at waits.old k) (asleep_at waits.new k) }
+    ensures dues { KeepsDues waits.old waits.new }
+{
+    for (number, share) in &stand.shares {
+        waits.grow(*number, share, growth);
+    }
+}
+
+/// Counts what came to the partition at a place, and wakes those of who stand there that may be due by what was done to it.
+fn look<S: BatchStore, A: Allocator + Copy>(
+    waits: &mut Waits<A>,
+    stand: &mut Stand<A>,
+    state: &BrokerState<S>,
+    place: Place,
+    noted: Noted,
+)
+    ensures counts { Counts state.now place stand.old stand.new }
+    ensures each { (k : ℕ) → Looks state.now noted place stand.old stand.new
+        (share_in stand.old k) (asleep_at waits.old k) (asleep_at waits.new k) }
+    ensures dues { KeepsDues waits.old waits.new }
+{
+    let growth = stand.count(state, place);
+    match (noted, growth) {
+        (Noted::Appends, Some(Growth { more: 0, .. })) => {}
+        (Noted::Appends, growth) => grow_all(waits, stand, growth),
+        (Noted::Changes, _) => grow_all(waits, stand, None),
+    }
 }
 
 impl<A: Allocator + Copy> Waiting<A> {
     /// No session waits. It takes no memory.
-    pub(crate) fn new(alloc: A) -> Waiting<A> {
+    pub(crate) fn new(alloc: A) -> Waiting<A>
+        ensures waits { (k : ℕ) → wait_at result.waits k ≡ None }
+        ensures stands { (key : PartitionKey) → stand_at result key ≡ None }
+    {
         Waiting {
             alloc,
-            waits: IndexMap::new(alloc),
-            by_place: IndexMap::new(alloc),
+            waits: Waits::new(alloc),
+            by_partition: IndexMap::new(alloc),
+            marked: 0,
             by_time: BTreeSet::new(alloc),
-            woken: VecDeque::new(alloc),
         }
     }
 
     // ---- those that wait
 
-    /// Has a session wait for the partitions of the first frame that it holds, until a time; also one that
-    /// does, was visited, and isn't due.
+    /// Has a session wait for the partitions of the first frame that it holds, a Fetch that waits, until a time. One that sleeps
+    /// sleeps on; one that was woken, and isn't due, is counted anew.
     ///
     /// # Errors
     ///
@@ -124,82 +256,278 @@ impl<A: Allocator + Copy> Waiting<A> {
         &mut self,
         node: &Node<S>,
         number: u64,
-        due: Option<u128>,
+        due: u128,
         held: &[u8],
-    ) -> Result<(), AllocError> {
-        let joined = self
-            .add(node.state(), number, due, held)
-            .and_then(|()| self.stand(number));
+    ) -> Result<(), AllocError>
+        ensures waits { OnOk result (IsSome (unnamed_at self.new.waits number)) }
+        ensures waits_not { OnErr result (wait_at self.new.waits number ≡ None) }
+        ensures due { IfSome (asleep_at self.new.waits number) (λ wait.
+            (wait.due.0 ≡ due) ⊎ (asleep_at self.old.waits number ≡ Some wait)) }
+        ensures others { (k : ℕ) → k ≢ number
+            → wait_at self.new.waits k ≡ wait_at self.old.waits k }
+        ensures asleep { (k : ℕ) → k ≢ number
+            → asleep_at self.new.waits k ≡ asleep_at self.old.waits k }
+        ensures wait_on { (asked : ℕ → FetchValue) → AllWaitOn node.now (content_at node.now) self.old asked
+            → AsksFirst held.now (asked number) → fetch_waits node.now (asked number) ≡ true
+            → AllWaitOn node.now (content_at node.now) self.new asked }
+    {
+        if self.waits.is_asleep(number) {
+            return Ok(());
+        }
+        self.leave(number);
+        let joined = self.add_first(node.state(), number, due, held);
         if joined.is_err() {
+            // What it has counted so far says nothing.
+            self.waits.wake(number);
             self.leave(number);
         }
         joined
     }
 
-    /// Adds a session that doesn't wait yet, with what it waits for.
+    /// Adds a session that doesn't wait, with what the first frame that it holds waits for.
+    fn add_first<S: BatchStore>(
+        &mut self,
+        state: &BrokerState<S>,
+        number: u64,
+        due: u128,
+        held: &[u8],
+    ) -> Result<(), AllocError>
+        requires { wait_at self.old.waits number ≡ None }
+        ensures joins { Joins state.now number (due, number) self.old self.new }
+        ensures waits { OnOk result (IsSome (unnamed_at self.new.waits number)) }
+        ensures listed { OnOk result (is_time (due, number) self.new ≡ true) }
+        ensures counts { OnOk result ((q : FetchValue) → AsksFirst held.now q
+            → AreCounted state.now self.new number (awaited_bytes q) (entries_in q.topics)) }
+    {
+        let Some(request) = first_request(held) else {
+            return Err(AllocError);
+        };
+        match &request.body {
+            RequestBody::Fetch(asked) => self.add(state, number, due, asked),
+            _ => Err(AllocError),
+        }
+    }
+
+    /// Adds a session that doesn't wait, with what its Fetch waits for.
     fn add<S: BatchStore>(
         &mut self,
         state: &BrokerState<S>,
         number: u64,
-        due: Option<u128>,
-        held: &[u8],
-    ) -> Result<(), AllocError> {
-        if self.waits.contains_key(&number) {
-            return Ok(());
-        }
-        let (Some(due), Some(request)) = (due, first_request(held)) else {
-            return Ok(());
-        };
-        self.woken.reserve(self.waits.len() + 1)?;
+        due: u128,
+        asked: &FetchRequest<'_>,
+    ) -> Result<(), AllocError>
+        requires { wait_at self.old.waits number ≡ None }
+        ensures joins { Joins state.now number (due, number) self.old self.new }
+        ensures waits { OnOk result (IsSome (unnamed_at self.new.waits number)) }
+        ensures listed { OnOk result (is_time (due, number) self.new ≡ true) }
+        ensures counts { OnOk result (AreCounted state.now self.new number
+            (awaited_bytes (fetch_view asked.now)) (entries_in (fetch_view asked.now).topics)) }
+    {
         let wait = Wait {
             due: (due, number),
-            places: places_of(self.alloc, state, &request)?,
-            is_woken: true,
+            places: Vec::new(self.alloc),
+            missing: awaited_bytes(asked),
+            forced: 0,
+            is_named: false,
         };
-        self.waits.insert(number, wait)?;
+        self.waits.add(number, wait)?;
+        self.by_time.insert((due, number))?;
+        self.add_topics(state, number, asked)
+    }
+
+    /// Has a session that waits stand at the partitions that its Fetch asks for.
+    fn add_topics<S: BatchStore>(
+        &mut self,
+        state: &BrokerState<S>,
+        number: u64,
+        asked: &FetchRequest<'_>,
+    ) -> Result<(), AllocError>
+        ensures joins { (due : ℕ × ℕ) → Joins state.now number due self.old self.new }
+        ensures counts { OnOk result ((awaited : ℕ) → AreCounted state.now self.old number awaited []
+            → AreCounted state.now self.new number awaited (entries_in (fetch_view asked.now).topics)) }
+    {
+        let mut count = 0;
+        for topic in Topics::of(&asked.topics) {
+            count = self.add_topic(state, number, topic, count)?;
+        }
         Ok(())
     }
 
-    /// Has a session that was woken, or was added, stand where it waits.
-    fn stand(&mut self, number: u64) -> Result<(), AllocError> {
-        let Some(wait) = self.waits.get_mut(&number) else {
+    /// Has a session that waits stand at a topic's partitions that are asked for behind so many others, and gives how many are
+    /// with them.
+    fn add_topic<S: BatchStore>(
+        &mut self,
+        state: &BrokerState<S>,
+        number: u64,
+        topic: Topic<'_, FetchPartition>,
+        before: usize,
+    ) -> Result<usize, AllocError>
+        ensures joins { (due : ℕ × ℕ) → Joins state.now number due self.old self.new }
+        ensures counts { IfOk result (λ count. CountsMore state.now number self.old self.new before count
+            (entries_of topic.entry.name.now
+            (map fetch_partition_value (values fetch_partition topic.entry.partitions)))) }
+    {
+        let mut count = before;
+        for entry in topic.partitions {
+            count = self.add_asked(state, number, topic.name, entry, count)?;
+        }
+        Ok(count)
+    }
+
+    /// Has a session that waits stand at the partition of an entry that stands behind so many others, and gives how many they
+    /// are with it.
+    fn add_asked<S: BatchStore>(
+        &mut self,
+        state: &BrokerState<S>,
+        number: u64,
+        topic: &[u8],
+        entry: FetchPartition,
+        before: usize,
+    ) -> Result<usize, AllocError>
+        ensures joins { (due : ℕ × ℕ) → Joins state.now number due self.old self.new }
+        ensures counts { IfOk result (λ count. CountsMore state.now number self.old self.new before count
+            (entries_of topic.now (fetch_entry_value entry ∷ []))) }
+    {
+        let Some(count) = before.checked_add(1) else {
+            return Err(AllocError);
+        };
+        let Some(counted) = count_entry(state, topic, entry) else {
+            // Then it doesn't wait: a visit finds that.
+            self.waits.wake(number);
+            return Ok(count);
+        };
+        self.add_counted(number, &counted, count)?;
+        Ok(count)
+    }
+
+    /// Has a session that waits stand at the partition of one of its entries, the one with this number, from 1.
+    fn add_counted(
+        &mut self,
+        number: u64,
+        counted: &Counted,
+        entry: usize,
+    ) -> Result<(), AllocError>
+        ensures joins { (s : State) (due : ℕ × ℕ)
+            → EndsAt s (key_of counted.now.place) counted.now.end
+            → Joins s number due self.old self.new }
+        ensures sleeps { OnOk result (SleepsSo (with_entry counted.now.bytes counted.now.room entry)
+            number self.old self.new) }
+        ensures puts { OnOk result ((s : State)
+            → EndsAt s (key_of counted.now.place) counted.now.end
+            → PutsAt number (key_of counted.now.place) counted.now.room entry self.old self.new) }
+    {
+        self.waits
+            .take_off(number, counted.bytes, counted.room, entry);
+        let place = PartitionKey::of(counted.place);
+        self.add_place(number, place, counted)?;
+        self.put_at(number, place, counted.room, entry)
+    }
+
+    /// Adds a partition to those of a session, if it isn't among them, and to those that are waited for.
+    fn add_place(
+        &mut self,
+        number: u64,
+        place: PartitionKey,
+        counted: &Counted,
+    ) -> Result<(), AllocError>
+        ensures joins { (s : State) (due : ℕ × ℕ) → EndsAt s place counted.now.end
+            → Joins s number due self.old self.new }
+        ensures sleeps { OnOk result (SleepsSo as_it_was number self.old self.new) }
+        ensures is_there { OnOk result (IsSome (stand_at self.new place)) }
+    {
+        if self.stands_at(number, place) {
+            return Ok(());
+        }
+        self.waits.add_place(number, place)?;
+        self.know_place(place, counted)
+    }
+
+    /// Adds a partition to those that are waited for, if it isn't among them.
+    fn know_place(&mut self, place: PartitionKey, counted: &Counted) -> Result<(), AllocError>
+        ensures knows { Knows place counted.now.end self.old self.new }
+        ensures is_there { OnOk result (IsSome (stand_at self.new place)) }
+    {
+        if self.by_partition.contains_key(&place) {
+            return Ok(());
+        }
+        let stand = Stand::new(self.alloc, counted);
+        self.by_partition.insert(place, stand)?;
+        Ok(())
+    }
+
+    /// Puts one more entry of a session at a partition that is waited for, the one with this number, from 1.
+    fn put_at(
+        &mut self,
+        number: u64,
+        place: PartitionKey,
+        room: Option<usize>,
+        entry: usize,
+    ) -> Result<(), AllocError>
+        ensures joins { (s : State) (due : ℕ × ℕ) → Joins s number due self.old self.new }
+        ensures waits { self.new.waits ≡ self.old.waits }
+        ensures puts { OnOk result (IsSome (stand_at self.old place)
+            → PutsAt number place room entry self.old self.new) }
+    {
+        let Some(stand) = self.by_partition.get_mut(&place) else {
             return Ok(());
         };
-        if !wait.is_woken {
-            return Ok(());
+        stand.put(number, room, entry)
+    }
+
+    /// Whether a session stands at a partition.
+    fn stands_at(&self, number: u64, place: PartitionKey) -> bool
+        ensures { result ≡ true → IsSome (stand_at self.now place) }
+    {
+        match self.by_partition.get(&place) {
+            Some(stand) => stand.shares.contains_key(&number),
+            None => false,
         }
-        for place in &wait.places {
-            add_at(self.alloc, &mut self.by_place, *place, number)?;
-        }
-        self.by_time.insert(wait.due)?;
-        wait.is_woken = false;
-        Ok(())
     }
 
     /// Has a session wait no more.
-    pub(crate) fn leave(&mut self, number: u64) {
-        if let Some(wait) = self.waits.swap_remove(&number) {
+    pub(crate) fn leave(&mut self, number: u64)
+        ensures waits_no_more { wait_at self.new.waits number ≡ None }
+        ensures others { (k : ℕ) → k ≢ number
+            → wait_at self.new.waits k ≡ wait_at self.old.waits k }
+        ensures asleep { (k : ℕ) → k ≢ number
+            → asleep_at self.new.waits k ≡ asleep_at self.old.waits k }
+        ensures wait_on { (s : State) (now : Contents) (asked : ℕ → FetchValue)
+            → AllWaitOn s now self.old asked → AllWaitOn s now self.new asked }
+    {
+        if let Some(wait) = self.waits.remove(number) {
             self.by_time.remove(&wait.due);
-            for place in &wait.places {
-                self.remove_at(*place, number);
-            }
+            self.remove_from(&wait.places, number);
+        }
+    }
+
+    /// Removes a session from those that wait for some partitions.
+    fn remove_from(&mut self, places: &[PartitionKey], number: u64)
+        ensures waits { self.new.waits ≡ self.old.waits }
+        ensures times { self.new.times ≡ self.old.times }
+        ensures stands { KeepsStands (λ k. k ≢ number) self.old self.new }
+    {
+        for place in places {
+            self.remove_at(*place, number);
         }
     }
 
     /// Removes a session from those that wait for a partition.
-    fn remove_at(&mut self, place: u64, number: u64) {
-        let Some(there) = self.by_place.get_mut(&place) else {
+    fn remove_at(&mut self, place: PartitionKey, number: u64)
+        ensures waits { self.new.waits ≡ self.old.waits }
+        ensures times { self.new.times ≡ self.old.times }
+        ensures stands { KeepsStands (λ k. k ≢ number) self.old self.new }
+    {
+        let Some(stand) = self.by_partition.get_mut(&place) else {
             return;
         };
-        there.swap_remove(&number);
-        if there.is_empty() {
-            self.by_place.swap_remove(&place);
+        if stand.remove(number) {
+            self.by_partition.swap_remove(&place);
         }
     }
 
     /// For how many partitions a session waits; 0 where it doesn't.
     pub(crate) fn places(&self, number: u64) -> usize {
-        match self.waits.get(&number) {
+        match self.waits.get(number) {
             Some(wait) => wait.places.len(),
             None => 0,
         }
@@ -207,86 +535,178 @@ impl<A: Allocator + Copy> Waiting<A> {
 
     // ---- those that are woken
 
-    /// Has those visited that wait for what the first frame that is held, before it is answered, may change.
-    pub(crate) fn look<S: BatchStore>(&mut self, node: &Node<S>, held: &[u8]) {
-        if self.waits.is_empty() {
-            return;
+    /// Marks what the first frame that is held may change, before it is handled, and gives what it may do there.
+    pub(crate) fn note<S: BatchStore>(&mut self, node: &Node<S>, held: &[u8]) -> Noted
+        ensures marks { (frame rest : List ℕ) (q : RequestValue) → IsFirstFrame frame held.now rest
+            → IsRequest frame q → AreMarked node.now self.new (places (effect q.body))
+            × (result ≡ Noted.Appends → IsAppend (effect q.body)) }
+        ensures waits { self.new.waits ≡ self.old.waits }
+        ensures wait_on { (s : State) (now : Contents) (asked : ℕ → FetchValue)
+            → AllWaitOn s now self.old asked → AllWaitOn s now self.new asked }
+    {
+        self.marked = 0;
+        if self.by_partition.is_empty() {
+            return Noted::Changes;
         }
-        if let Some(request) = first_request(held) {
-            self.look_at(node.state(), &request.body);
-        }
+        let Some(request) = first_request(held) else {
+            return Noted::Changes;
+        };
+        self.mark_all(node.state(), &request.body);
+        effect_of(&request.body)
     }
 
-    /// Has those visited that wait for a partition that a request may change.
-    fn look_at<S: BatchStore>(&mut self, state: &BrokerState<S>, body: &RequestBody<'_>) {
+    /// Marks the partitions that a request may change.
+    fn mark_all<S: BatchStore>(&mut self, state: &BrokerState<S>, body: &RequestBody<'_>)
+        ensures marks { Marks state.now self.old self.new (places (effect (request_body body.now))) }
+    {
         match what_may_change(body) {
             MayChange::Nothing | MayChange::NextId => {}
-            MayChange::One(topic, partition) => self.wake(state, topic, partition),
-            MayChange::Produced(topics) => {
-                for topic in Topics::of(topics) {
-                    self.wake_topic(state, topic);
-                }
-            }
+            MayChange::One(topic, partition) => self.mark(state, topic, partition),
+            MayChange::Produced(topics) => self.mark_topics(state, topics),
         }
     }
 
-    /// Has those visited that wait for a topic's partitions to which a request appends.
-    fn wake_topic<'a, S: BatchStore>(
+    /// Marks the partitions to which a request appends.
+    fn mark_topics<'a, S: BatchStore>(
+        &mut self,
+        state: &BrokerState<S>,
+        topics: &Array<'a, Topic<'a, ProducePartition<'a>>>,
+    )
+        ensures marks { Marks state.now self.old self.new (produced_to (map
+            (topic_request produce_partition produce_partition_value)
+            (values (topic produce_partition) topics.now))) }
+    {
+        for topic in Topics::of(topics) {
+            self.mark_topic(state, topic);
+        }
+    }
+
+    /// Marks a topic's partitions to which a request appends.
+    fn mark_topic<'a, S: BatchStore>(
         &mut self,
         state: &BrokerState<S>,
         topic: Topic<'a, ProducePartition<'a>>,
-    ) {
+    )
+        ensures marks { Marks state.now self.old self.new (produced_in topic.entry.name.now
+            (map produce_partition_value (values produce_partition topic.entry.partitions))) }
+    {
         for entry in topic.partitions {
-            self.wake(state, topic.name, entry.index);
+            self.mark(state, topic.name, entry.index);
         }
     }
 
-    /// Has those visited that wait for a partition. Until they wait again they don't stand there.
-    fn wake<S: BatchStore>(&mut self, state: &BrokerState<S>, topic: &[u8], partition: i32) {
-        let Some(place) = place_of(state, topic, partition) else {
+    /// Marks a partition, if any session stands there.
+    fn mark<S: BatchStore>(&mut self, state: &BrokerState<S>, topic: &[u8], partition: i32)
+        ensures marks { Marks state.now self.old self.new
+            (record { topic = topic.now; partition = partition } ∷ []) }
+    {
+        let Some(place) = state.place_of(topic, partition) else {
             return;
         };
-        let Some(there) = self.by_place.swap_remove(&place) else {
+        let Some(index) = self.by_partition.get_index_of(&PartitionKey::of(place)) else {
             return;
         };
-        for number in &there {
-            self.wake_one(*number);
+        if index < self.marked {
+            return;
         }
+        // The count of all is what says that the sum fits.
+        let _all = self.by_partition.len();
+        self.by_partition.swap_indices(index, self.marked);
+        self.marked += 1;
     }
 
-    /// Has a session visited, if it waits.
-    fn wake_one(&mut self, number: u64) {
-        if let Some(wait) = self.waits.get_mut(&number)
-            && !wait.is_woken
-        {
-            wait.is_woken = true;
-            // Without memory for it, it is found to be due at another visit.
-            let _ = self.woken.push_back(number);
+    /// Has a session wait no more whose first frame was handled, and wakes those that may be due by what that frame changed of
+    /// the partitions that are marked.
+    pub(crate) fn pass<S: BatchStore>(&mut self, node: &Node<S>, number: u64, noted: Noted)
+        ensures waits_no_more { wait_at self.new.waits number ≡ None }
+        ensures others { OthersWait number self.old.waits self.new.waits }
+        ensures wait_on { (s : State) (ps : List TopicPartition) (asked : ℕ → FetchValue)
+            → AllWaitOn s (content_at s) self.old asked → AreMarked s self.old ps
+            → Leaves s noted ps node.now
+            → AllWaitOn node.now (content_at node.now) self.new asked }
+    {
+        for index in 0..self.marked {
+            self.look_at(node.state(), index, noted);
         }
+        self.marked = 0;
+        self.leave(number);
+    }
+
+    /// Wakes those that may be due by what was done to a partition, the one with this index among those that are waited for.
+    fn look_at<S: BatchStore>(&mut self, state: &BrokerState<S>, index: usize, noted: Noted)
+        ensures looks { MatchOption (slice_get (keys_of self.old.stands) index)
+            (self.new ≡ self.old) (λ key. LooksAt state.now noted key self.old self.new) }
+        ensures keys { keys_of self.new.stands ≡ keys_of self.old.stands }
+        ensures dues { KeepsDues self.old.waits self.new.waits }
+    {
+        let Some((key, _)) = self.by_partition.get_index(index) else {
+            return;
+        };
+        let place = key.place();
+        let Some(stand) = self.by_partition.get_index_mut(index) else {
+            return;
+        };
+        look(&mut self.waits, stand, state, place, noted);
     }
 
     /// When the first time will be over, in milliseconds.
-    pub(crate) fn next_due(&self) -> Option<u128> {
-        let (due, _) = self.by_time.first()?;
-        Some(*due)
+    pub(crate) fn next_due(&self) -> Option<u128>
+        ensures { MatchOption result (self.now.times ≡ [])
+            (λ due. All (λ time. due ≤ time.0) self.now.times) }
+    {
+        match self.by_time.first() {
+            Some((due, _)) => Some(*due),
+            None => None,
+        }
     }
 
-    /// The number of a session that is to be visited, as what it waits for may be there, or its time is
-    /// over; or of one that waits no more.
-    pub(crate) fn next_woken(&mut self, clock: u64) -> Option<u64> {
-        for _ in 0..self.by_time.len() {
-            match self.next_due() {
-                Some(due) if due <= u128::from(clock) => self.wake_first(),
-                _ => break,
-            }
+    /// Whether a time is over.
+    fn has_due(&self, clock: u64) -> bool
+        ensures { result ≡ false → All (λ time. clock < time.0) self.now.times }
+    {
+        match self.next_due() {
+            Some(due) => due <= u128::from(clock),
+            None => false,
         }
-        self.woken.pop_front()
     }
 
-    /// Has the session visited whose time is over first.
-    fn wake_first(&mut self) {
-        if let Some((_, number)) = self.by_time.pop_first() {
-            self.wake_one(number);
+    /// The number of a session that is to be visited, as what it waits for may be there, or its time is over. It isn't named
+    /// again before it was.
+    pub(crate) fn next_woken(&mut self, clock: u64) -> Option<u64>
+        ensures none_is_woken { IfNone result (self.new.waits.woken ≡ 0) }
+        ensures none_is_due { All (λ time. clock < time.0) self.new.times }
+        ensures was_woken { IfSome result (λ number. asleep_at self.new.waits number ≡ None) }
+        ensures waits { (k : ℕ) → MatchOption result
+            (wait_at self.new.waits k ≡ wait_at self.old.waits k)
+            (λ number. k ≢ number → wait_at self.new.waits k ≡ wait_at self.old.waits k) }
+        ensures names { IfSome result (λ number. unnamed_at self.new.waits number ≡ None) }
+        ensures still_none { (k : ℕ) → wait_at self.old.waits k ≡ None → wait_at self.new.waits k ≡ None }
+        ensures slept { (k : ℕ) → IfSome (asleep_at self.new.waits k)
+            (λ wait. asleep_at self.old.waits k ≡ Some wait) }
+        ensures wait_on { (s : State) (now : Contents) (asked : ℕ → FetchValue)
+            → AllWaitOn s now self.old asked → AllWaitOn s now self.new asked }
+    {
+        while let Some(number) = self.pop_due(clock) {
+            self.waits.wake(number);
         }
+        self.waits.name_one()
+    }
+
+    /// The number of the session whose time is over first, if one's is. It is told so once.
+    fn pop_due(&mut self, clock: u64) -> Option<u64>
+        ensures waits { self.new.waits ≡ self.old.waits }
+        ensures stands { self.new.stands ≡ self.old.stands }
+        ensures times { (due : ℕ × ℕ) → MatchOption result (self.new.times ≡ self.old.times)
+            (λ number. due.1 ≢ number → has_time due self.old.times ≡ true
+            → has_time due self.new.times ≡ true) }
+        ensures shorter { IfSome result (λ number.
+            length self.new.times < length self.old.times) }
+        ensures none_is_due { IfNone result (All (λ time. clock < time.0) self.new.times) }
+    {
+        if !self.has_due(clock) {
+            return None;
+        }
+        let (_, number) = self.by_time.pop_first()?;
+        Some(number)
     }
 }

@@ -112,6 +112,7 @@ fn waits<S: BatchStore, A: Allocator + Copy, B: Allocator + Copy>(
                 Visit {
                     answered: 0,
                     then: Then::Idle,
+                    ..
                 },
             ),
             1,
@@ -121,6 +122,7 @@ fn waits<S: BatchStore, A: Allocator + Copy, B: Allocator + Copy>(
                 Visit {
                     answered: 0,
                     then: Then::Over(Why::OutOfMemory),
+                    ..
                 },
             ),
             0,
@@ -145,6 +147,7 @@ fn answers<S: BatchStore, A: Allocator + Copy, B: Allocator + Copy>(
             Visit {
                 answered: 0,
                 then: Then::Over(Why::OutOfMemory),
+                ..
             },
         ) => Came::Lacked,
         _ => Came::Wrong,

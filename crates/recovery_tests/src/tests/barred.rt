@@ -47,6 +47,7 @@ fn visited<S: BatchStore, A: Allocator + Copy, D: Disk>(
             Visit {
                 answered,
                 then: Then::PutOff(place),
+                ..
             },
         ) => (answered, Some((place.topic, place.partition))),
         Some(visit) => (visit.answered, None),

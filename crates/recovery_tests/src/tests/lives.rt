@@ -2,7 +2,7 @@
 //! replies leave. A life says what it knows of the frames that may change the broker: how many were handled, how many are
 //! in the journal's file, and how many are on the disk for certain.
 
-use kept_starts::sessions::Seat;
+use kept_starts::sessions::{Seat, Then};
 use kept_starts::{
     CommitError, Disk, JournalError, Keeper, Keeping as Kept, Role, RotationFault, Sent,
     StartFault, Started, start,
@@ -148,7 +148,7 @@ fn synced<S: BatchStore, A: Allocator + Copy, D: Disk>(
     }
 }
 
-/// Visits a session to which frames came, and tells how many were answered.
+/// Visits a session to which frames came, and again behind each that is dear, and tells how many were answered.
 fn answered<S: BatchStore, A: Allocator + Copy, D: Disk>(
     keeper: &mut Keeper<S, A, D>,
     number: u64,
@@ -157,10 +157,15 @@ fn answered<S: BatchStore, A: Allocator + Copy, D: Disk>(
     let mut seat = Seat::new();
     seat.may_read = true;
     let mut from = frames;
-    match keeper.answer(number, 0, &mut seat, &mut from) {
-        Some(visit) => Some(visit.answered),
-        None => None,
+    let mut count = 0u64;
+    for _ in 0..frames.len().saturating_add(1) {
+        let visit = keeper.answer(number, 0, &mut seat, &mut from)?;
+        count = count.saturating_add(visit.answered);
+        if !matches!(visit.then, Then::Dear) {
+            break;
+        }
     }
+    Some(count)
 }
 
 /// What comes of sending a session what it is owed.

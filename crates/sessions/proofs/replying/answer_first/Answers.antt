@@ -1,14 +1,8 @@
-use Rattle.std.proofs.Common.{◌≡◌, ◌+◌, length, rules}
-use Rattle.std.specs.Prelude.{drop}
-use Rattle.frame_fields.specs.declared.frame.TheConstants.{SIZE_BYTES}
-use Rattle.frame_fields.specs.Frames.{IsFirstFrame}
-use Rattle.sessions.specs.Steps.{AnswersFrame}
-use Rattle.sessions.proofs.Turning.{first_answered}
+use Rattle.std.proofs.Common.{rules}
+use Rattle.sessions.specs.Steps.{AnswersDear}
 use Rattle.sessions.proofs.replying.answer_first.Goals as goal
 
-pub returns-clause-answers : goal.returns-clause-answers
-returns-clause-answers g c =
-    let same : c.advance.new.self.items ≡ drop (SIZE_BYTES + length c.in-Ok-Some.frame.now) c.args.held.now.items = search rules in
-    let first : IsFirstFrame c.in-Ok-Some.frame.now c.args.held.now.items (drop (SIZE_BYTES + length c.in-Ok-Some.frame.now) c.args.held.now.items) = search rules in
-    let answered : AnswersFrame c.args.may_wait c.args.node.now c.answer.new.node c.in-Ok-Some.frame.now c.args.out.now.items c.answer.new.out.items = search rules in
-    first_answered c.args.may_wait _ _ c.in-Ok-Some.frame.now _ _ _ _ _ same first answered
+pub returns-in-Answered-clause-answers : goal.returns-in-Answered-clause-answers
+returns-in-Answered-clause-answers g c =
+    let answered : AnswersDear c.in-Answered.field-0 c.args.may_wait c.args.node.now c.answer_held.new.node c.args.held.now.items c.answer_held.new.held.items c.args.out.now.items c.answer_held.new.out.items = search rules in
+    answered.answer

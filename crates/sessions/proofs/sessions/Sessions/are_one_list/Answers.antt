@@ -1,7 +1,5 @@
-use Rattle.std.proofs.Common.{subst}
-use Rattle.sessions.specs.Orders.{IsReached}
 use Rattle.sessions.proofs.OneOrder.{in_order}
 use Rattle.sessions.proofs.sessions.Sessions.are_one_list.Goals as goal
 
 pub returns : goal.returns
-returns g c = in_order c.args.self.now (subst IsReached c.self.view_is c.self.invariant.1)
+returns g c = in_order c.args.self.now.world
