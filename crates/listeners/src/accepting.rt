@@ -36,6 +36,58 @@ pub(crate) struct Acceptor {
     paused_until: Option<Instant>,
 }
 
+/// Where a broker is to listen. A socket is bound at once where the system chooses the port, since clients are told that by the
+/// broker; else once the broker can answer.
+#[derive(Drop)]
+pub(crate) struct Entrance {
+    address: SocketAddr,
+    /// The most connections at once.
+    most: usize,
+    /// The socket, where it is bound already: then the address is its own.
+    bound: Option<Acceptor>,
+}
+
+impl Entrance {
+    /// A place at this address, for so many connections at once at the most.
+    ///
+    /// # Errors
+    ///
+    /// The system chooses the port, and the address isn't this machine's, or it allows no socket more.
+    pub(crate) fn new<R: Net>(rt: &R, address: SocketAddr, most: usize) -> Result<Entrance> {
+        if address.port() != 0 {
+            return Ok(Entrance {
+                address,
+                most,
+                bound: None,
+            });
+        }
+        let acceptor = Acceptor::bind(rt, address, most)?;
+        Ok(Entrance {
+            address: acceptor.address(),
+            most,
+            bound: Some(acceptor),
+        })
+    }
+
+    /// The address at which it listens, or will.
+    pub(crate) fn address(&self) -> SocketAddr {
+        self.address
+    }
+
+    /// Listens from now on, if it doesn't yet.
+    ///
+    /// # Errors
+    ///
+    /// As of [`Acceptor::bind`].
+    pub(crate) fn open<R: Net>(self, rt: &R) -> Result<Acceptor> {
+        let bound = self.bound;
+        match bound {
+            Some(acceptor) => Ok(acceptor),
+            None => Acceptor::bind(rt, self.address, self.most),
+        }
+    }
+}
+
 /// Whether a failed accept says that the socket itself is none to accept from.
 fn is_broken(why: &Error) -> bool {
     match why.raw_os_error() {
@@ -82,10 +134,15 @@ impl Acceptor {
         self.paused_until = None;
     }
 
+    /// Whether so many connections are as many as there may be at once.
+    pub(crate) fn is_full(&self, count: usize) -> bool {
+        count >= self.most
+    }
+
     /// When a client is to be accepted, where so many connections are open: at once, after a pause, or
     /// not until an event or an end of a connection is noted.
     pub(crate) fn due(&self, count: usize, now: Instant) -> Option<Instant> {
-        if !self.may_accept || count >= self.most {
+        if !self.may_accept || self.is_full(count) {
             return None;
         }
         Some(self.paused_until.unwrap_or(now))

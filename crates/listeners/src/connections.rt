@@ -1,22 +1,25 @@
 //! The connections that are open, and which of them are to be visited.
 
+use crate::addresses::Addresses;
 use crate::ending::{Ended, Ending, ending_of};
 use crate::incoming::Incoming;
+use crate::parting::{Dropped, Parting};
 use crate::serving_sessions::{ServedSessions, Unkept};
 use indexmap::IndexMap;
-use kept_starts::sessions::{Flushed, Seat, Then, Why};
+use kept_starts::sessions::{Seat, Then, Why};
 use kept_starts::{Missed, Place, Sent};
 use mio::event::Event;
 use mio::net::TcpStream;
 use mio::{Interest, Registry, Token};
 use std::alloc::Global;
 use std::collections::VecDeque;
-use std::io::Result;
-use std::net::SocketAddr;
+use std::io::{Error, Result};
+use std::net::{Shutdown, SocketAddr};
 use std::time::{Duration, Instant};
 
-/// How many bytes a partition counts for which a frame waits: what the sessions keep of it takes as much.
-const AWAITED_BYTES: u64 = 64;
+/// How many bytes a partition counts for which a frame waits: where none waits for it beside, what the sessions keep of it takes as
+/// much, as measured.
+const AWAITED_BYTES: u64 = 640;
 
 /// A connection that is open.
 #[derive(Drop)]
@@ -34,10 +37,14 @@ struct Connection {
     is_put_off: bool,
     /// Whether an event said that it has failed.
     is_failed: bool,
-    /// How many bytes it holds and is owed, and what is kept of a frame that waits.
-    held: u64,
-    /// When a frame was answered or a byte left, or when it was opened.
+    /// Whether an event said that something urgent came: then a read may end at its mark, though more is there.
+    is_urgent: bool,
+    /// How many bytes of memory are kept for what it holds and is owed, and for a frame that waits.
+    kept: u64,
+    /// When a frame was answered or a byte left, by the clock behind that, or when it was opened.
     moved: Instant,
+    /// Its end, where its session is over and it isn't closed yet.
+    parting: Option<Parting>,
 }
 
 impl Connection {
@@ -51,8 +58,10 @@ impl Connection {
             is_outgoing: false,
             is_put_off: false,
             is_failed: false,
-            held: 0,
+            is_urgent: false,
+            kept: 0,
             moved: now,
+            parting: None,
         }
     }
 }
@@ -66,8 +75,14 @@ pub(crate) struct Connections<B: ServedSessions> {
     ready: VecDeque<u64>,
     /// The numbers of those to which something is sent at the end of the round, likewise.
     outgoing: VecDeque<u64>,
-    /// How many bytes all hold and are owed.
-    held: u64,
+    /// The numbers of those whose session is over, in the order in which they are closed, and of some that are closed.
+    parting: VecDeque<u64>,
+    /// How many connections each address has, and how many bytes are kept for these.
+    addresses: Addresses,
+    /// How many bytes are kept for all.
+    kept: u64,
+    /// The number of the connection on which something moved since the clock was read last, if one did.
+    moving: Option<u64>,
 }
 
 /// Has a connection visited, where there is room for its number.
@@ -84,6 +99,11 @@ fn make_outgoing(outgoing: &mut VecDeque<u64>, number: u64, connection: &mut Con
     }
 }
 
+/// Whether input may be left unread where a session is over for this.
+fn leaves_input(why: &Why) -> bool {
+    matches!(why, Why::Frame(_) | Why::OutOfMemory)
+}
+
 /// The token of a connection. No two have the same, since no number is used twice.
 fn token_of(number: u64) -> Token {
     Token(number as usize)
@@ -97,7 +117,10 @@ impl<B: ServedSessions + Drop> Connections<B> {
             by_number: IndexMap::new(alloc),
             ready: VecDeque::new(alloc),
             outgoing: VecDeque::new(alloc),
-            held: 0,
+            parting: VecDeque::new(alloc),
+            addresses: Addresses::new(alloc),
+            kept: 0,
+            moving: None,
         }
     }
 }
@@ -136,9 +159,14 @@ impl<B: ServedSessions> Connections<B> {
         self.sessions.is_tending()
     }
 
-    /// How many are open.
+    /// How many are open, with those whose session is over and that aren't closed yet.
     pub(crate) fn count(&self) -> usize {
         self.by_number.len()
+    }
+
+    /// How many of them are of a client's IP address.
+    pub(crate) fn count_of(&self, client: SocketAddr) -> u32 {
+        self.addresses.count(client.ip())
     }
 
     /// How many are to be visited, and perhaps some that have ended.
@@ -146,9 +174,9 @@ impl<B: ServedSessions> Connections<B> {
         self.ready.len()
     }
 
-    /// How many bytes all hold and are owed.
-    pub(crate) fn held(&self) -> u64 {
-        self.held
+    /// How many bytes of memory are kept for what all hold and are owed, and for frames that wait.
+    pub(crate) fn kept(&self) -> u64 {
+        self.kept
     }
 
     /// Opens a connection, to be visited once something came.
@@ -178,10 +206,27 @@ impl<B: ServedSessions> Connections<B> {
         registry.register(
             &mut added.stream,
             token_of(number),
-            Interest::READABLE | Interest::WRITABLE,
+            Interest::READABLE | Interest::WRITABLE | Interest::PRIORITY,
         )?;
+        let address = added.address.ip();
         self.by_number.insert(number, added)?;
+        if let Err(why) = self.addresses.add(address) {
+            self.by_number.swap_remove(&number);
+            return Err(Error::from(why));
+        }
         Ok(())
+    }
+
+    /// The end of a connection to a client that was accepted, and that isn't opened, since its address has as many as it may
+    /// have. It has a number as any other; there is none where memory lacks for that.
+    pub(crate) fn turn_away(&mut self, address: SocketAddr) -> Option<Ended> {
+        let number = self.sessions.open().ok()?;
+        self.sessions.close(number);
+        Some(Ended {
+            number,
+            address,
+            why: Ending::MostPerAddress,
+        })
     }
 
     /// Notes what an event says of a connection, which is to be visited if there is something to do.
@@ -192,6 +237,7 @@ impl<B: ServedSessions> Connections<B> {
         };
         let is_error = event.is_error();
         connection.is_failed |= is_error;
+        connection.is_urgent |= event.is_priority();
         if is_error || event.is_read_closed() {
             connection.seat.is_closing = true;
         }
@@ -201,7 +247,7 @@ impl<B: ServedSessions> Connections<B> {
         if is_error || event.is_writable() || event.is_write_closed() {
             connection.seat.may_write = true;
         }
-        if connection.seat.may_read || connection.held > 0 {
+        if connection.seat.may_read || connection.kept > 0 {
             make_ready(&mut self.ready, number, connection);
         }
     }
@@ -228,18 +274,22 @@ impl<B: ServedSessions> Connections<B> {
     /// end, if that was its last visit.
     pub(crate) fn visit_next(&mut self, now: Instant, clock: u64) -> Option<Ended> {
         let number = self.ready.pop_front()?;
-        if let Some(why) = self.failure(number) {
+        let connection = self.by_number.get(&number)?;
+        if connection.parting.is_some() {
+            self.drop_input(number, now);
+            return None;
+        }
+        if let Some(why) = self.failure(number, connection) {
             return self.end(number, why);
         }
-        match self.visit(number, now, clock) {
+        match self.visit(number, clock) {
             Some(why) => self.end_over(number, why),
-            None => self.send(number, now),
+            None => self.send(number),
         }
     }
 
     /// Why a connection has failed whose frame waits: nothing that is held behind it is answered.
-    fn failure(&self, number: u64) -> Option<Ending> {
-        let connection = self.by_number.get(&number)?;
+    fn failure(&self, number: u64, connection: &Connection) -> Option<Ending> {
         if !connection.is_failed || self.sessions.awaited(number) == 0 {
             return None;
         }
@@ -248,7 +298,7 @@ impl<B: ServedSessions> Connections<B> {
     }
 
     /// Visits a connection, if it is open, and gives why it is over, if it is.
-    fn visit(&mut self, number: u64, now: Instant, clock: u64) -> Option<Why> {
+    fn visit(&mut self, number: u64, clock: u64) -> Option<Why> {
         let connection = self.by_number.get_mut(&number)?;
         connection.is_ready = false;
         connection.is_put_off = false;
@@ -256,42 +306,49 @@ impl<B: ServedSessions> Connections<B> {
         let visit = self
             .sessions
             .visit(number, clock, &mut connection.seat, &mut from)?;
-        let is_drained = from.is_drained() && !connection.seat.is_closing;
+        let may_leave_some = connection.seat.is_closing || connection.is_urgent;
+        let is_drained = from.is_drained() && !may_leave_some;
         if is_drained {
             connection.seat.may_read = false;
         }
         if visit.answered > 0 {
-            connection.moved = now;
+            self.moving = Some(number);
         }
         self.go_on(number, visit.then, is_drained)
     }
 
-    /// Counts anew what a connection holds and is owed.
-    fn count_held(&mut self, number: u64) -> Option<()> {
+    /// Counts anew what is kept for a connection.
+    fn count_kept(&mut self, number: u64) -> Option<()> {
         let awaited = (self.sessions.awaited(number) as u64).saturating_mul(AWAITED_BYTES);
-        let session = self.sessions.session(number)?;
-        let held = (session.held() as u64)
-            .saturating_add(session.owed() as u64)
-            .saturating_add(awaited);
+        let kept = self.sessions.session(number)?.kept() as u64;
+        self.note_kept(number, awaited.saturating_add(kept))
+    }
+
+    /// Notes that so many bytes are kept for a connection.
+    fn note_kept(&mut self, number: u64, kept: u64) -> Option<()> {
         let connection = self.by_number.get_mut(&number)?;
-        self.held = self
-            .held
-            .saturating_sub(connection.held)
-            .saturating_add(held);
-        connection.held = held;
+        let before = connection.kept;
+        if kept == before {
+            return None;
+        }
+        connection.kept = kept;
+        self.kept = self.kept.saturating_sub(before).saturating_add(kept);
+        self.addresses
+            .count_kept(connection.address.ip(), before, kept);
         None
     }
 
-    /// Has a connection visited again where a visit left something to do: a read, unless all was read that was there. Gives
-    /// why it is over, if it is.
+    /// Has a connection visited again where a visit left something to do: a read, unless all was read that was there, or
+    /// a frame that is held behind one that was dear. Gives why it is over, if it is.
     fn go_on(&mut self, number: u64, then: Then, is_drained: bool) -> Option<Why> {
         match then {
-            Then::Again if !is_drained => {
+            Then::Again if is_drained => None,
+            Then::Again | Then::Dear => {
                 let connection = self.by_number.get_mut(&number)?;
                 make_ready(&mut self.ready, number, connection);
                 None
             }
-            Then::Again | Then::Idle => None,
+            Then::Idle => None,
             Then::PutOff(place) => self.put_off(number, place),
             Then::Over(why) => Some(why),
         }
@@ -314,24 +371,28 @@ impl<B: ServedSessions> Connections<B> {
     }
 
     /// Sends the first of the connections that wait for it what it is owed. Gives its end, if a write failed.
-    pub(crate) fn send_next(&mut self, now: Instant) -> Option<Ended> {
+    pub(crate) fn send_next(&mut self) -> Option<Ended> {
         let number = self.outgoing.pop_front()?;
         let connection = self.by_number.get_mut(&number)?;
         connection.is_outgoing = false;
-        self.send(number, now)
+        self.send(number)
     }
 
     /// Sends a connection what it is owed, if a write may be made. Gives its end, if one failed.
-    fn send(&mut self, number: u64, now: Instant) -> Option<Ended> {
-        let failed = self.send_some(number, now);
-        self.count_held(number);
-        self.end_over(number, failed?)
+    fn send(&mut self, number: u64) -> Option<Ended> {
+        let owed = self.sessions.session(number)?.owed();
+        match self.send_some(number, owed) {
+            Some(why) => self.end_over(number, why),
+            None => {
+                self.count_kept(number)?;
+                None
+            }
+        }
     }
 
-    /// Sends a connection what it is owed, if a write may be made, or has that sent once it is kept. Gives why the connection
-    /// is over, if a write failed.
-    fn send_some(&mut self, number: u64, now: Instant) -> Option<Why> {
-        let owed = self.sessions.session(number)?.owed();
+    /// Sends a connection some of so many bytes that it is owed, if a write may be made, or has them sent once what they tell of
+    /// is kept. Gives why the connection is over, if a write failed.
+    fn send_some(&mut self, number: u64, owed: usize) -> Option<Why> {
         let connection = self.by_number.get_mut(&number)?;
         if owed == 0 || !connection.seat.may_write {
             return None;
@@ -339,7 +400,14 @@ impl<B: ServedSessions> Connections<B> {
         let mut to = &connection.stream;
         match self.sessions.send(number, &mut connection.seat, &mut to)? {
             Sent::Bytes(flushed) => {
-                self.go_on_sent(number, now, flushed);
+                if flushed.bytes > 0 {
+                    self.moving = Some(number);
+                }
+                // Where more is owed, the writer took no more, or it took as much as a send gives it.
+                let can_send_more = flushed.bytes < owed && connection.seat.may_write;
+                if flushed.is_ready || can_send_more {
+                    make_ready(&mut self.ready, number, connection);
+                }
                 None
             }
             Sent::HeldBack => {
@@ -350,64 +418,142 @@ impl<B: ServedSessions> Connections<B> {
         }
     }
 
-    /// Has a connection visited again to which something was sent, where a visit has something to do then, or more can be
-    /// sent.
-    fn go_on_sent(&mut self, number: u64, now: Instant, flushed: Flushed) -> Option<()> {
-        let owed = self.sessions.session(number)?.owed();
-        let connection = self.by_number.get_mut(&number)?;
-        if flushed.bytes > 0 {
-            connection.moved = now;
-        }
-        if flushed.is_ready || (owed > 0 && connection.seat.may_write) {
-            make_ready(&mut self.ready, number, connection);
-        }
-        None
-    }
-
-    /// Ends a connection whose session is over.
+    /// Ends a connection whose session is over: at once, unless input may be left unread.
     fn end_over(&mut self, number: u64, why: Why) -> Option<Ended> {
+        let leaves_input = leaves_input(&why);
         let why = ending_of(self.sessions.session(number)?, why);
+        if leaves_input {
+            return self.part(number, why);
+        }
         self.end(number, why)
     }
 
     /// Ends a connection.
     fn end(&mut self, number: u64, why: Ending) -> Option<Ended> {
         self.sessions.close(number);
-        let connection = self.by_number.swap_remove(&number)?;
-        self.held = self.held.saturating_sub(connection.held);
+        let address = self.close(number)?;
         Some(Ended {
             number,
-            address: connection.address,
+            address,
             why,
         })
     }
 
-    /// Ends the connection that holds the most.
+    /// Closes a connection, if it is open, and gives its client's address.
+    fn close(&mut self, number: u64) -> Option<SocketAddr> {
+        let connection = self.by_number.swap_remove(&number)?;
+        self.kept = self.kept.saturating_sub(connection.kept);
+        self.addresses
+            .remove(connection.address.ip(), connection.kept);
+        Some(connection.address)
+    }
+
+    /// Ends a session, and sends its client no more. What it still sends is dropped, until the connection is closed.
+    fn part(&mut self, number: u64, why: Ending) -> Option<Ended> {
+        self.sessions.close(number);
+        self.note_kept(number, 0);
+        let connection = self.by_number.get_mut(&number)?;
+        connection.parting = Some(Parting::new());
+        let address = connection.address;
+        make_ready(&mut self.ready, number, connection);
+        let is_shut = connection.stream.shutdown(Shutdown::Write).is_ok();
+        let is_to_be_read = is_shut && connection.is_ready;
+        if !is_to_be_read || self.parting.push_back(number).is_err() {
+            self.close(number);
+        }
+        Some(Ended {
+            number,
+            address,
+            why,
+        })
+    }
+
+    /// Drops some of what came over a connection whose session is over, and closes it where that is its end.
+    fn drop_input(&mut self, number: u64, now: Instant) -> Option<()> {
+        let connection = self.by_number.get_mut(&number)?;
+        connection.is_ready = false;
+        let mut parting = connection.parting?;
+        let mut from = &connection.stream;
+        let dropped = parting.drop_input(now, &mut from);
+        connection.parting = Some(parting);
+        match dropped {
+            Dropped::Some => make_ready(&mut self.ready, number, connection),
+            Dropped::Nothing => {}
+            Dropped::Over => {
+                self.close(number)?;
+            }
+        }
+        None
+    }
+
+    /// When the first connection whose session is over is closed at the latest, once something of it was dropped.
+    pub(crate) fn part_at(&self) -> Option<Instant> {
+        let number = self.parting.front()?;
+        self.by_number.get(number)?.parting?.until()
+    }
+
+    /// Whether the first connection whose session is over has been so for too long, or is closed already.
+    fn is_first_parted(&self, now: Instant) -> bool {
+        let Some(number) = self.parting.front() else {
+            return false;
+        };
+        match self.by_number.get(number) {
+            Some(connection) => matches!(connection.parting, Some(parting) if parting.is_over(now)),
+            None => true,
+        }
+    }
+
+    /// Closes the connections whose sessions have been over for too long.
+    pub(crate) fn close_parted(&mut self, now: Instant) {
+        for _ in 0..self.parting.len() {
+            if !self.is_first_parted(now) {
+                break;
+            }
+            if let Some(number) = self.parting.pop_front() {
+                self.close(number);
+            }
+        }
+    }
+
+    /// Ends a connection of the address for whose connections most is kept: of these the one for which most is.
     pub(crate) fn end_largest(&mut self) -> Option<Ended> {
+        let address = self.addresses.largest()?;
         let mut largest = None;
         let mut most = 0;
         for (number, connection) in &self.by_number {
-            if connection.held >= most {
-                most = connection.held;
+            if connection.address.ip() == address && connection.kept >= most {
+                most = connection.kept;
                 largest = Some(*number);
             }
         }
         self.end(largest?, Ending::MostHeld)
     }
 
+    /// Whether something moved on a connection since the clock was read last.
+    pub(crate) fn is_moving(&self) -> bool {
+        self.moving.is_some()
+    }
+
+    /// Notes when something moved on the connection that was visited last, or to which something was sent.
+    pub(crate) fn note_moved(&mut self, now: Instant) -> Option<()> {
+        let number = self.moving.take()?;
+        let connection = self.by_number.get_mut(&number)?;
+        connection.moved = now;
+        None
+    }
+
     /// Ends the connection with this index among those that are open, if nothing moved on it for so
     /// many seconds. The last one comes in its place. One whose frame waits, or is put off, counts as moved until
-    /// now, and is visited: so it is found to be due at last, should memory have lacked to wake it.
+    /// now.
     pub(crate) fn end_if_idle(&mut self, index: usize, now: Instant, idle: u64) -> Option<Ended> {
         let (number, connection) = self.by_number.get_index(index)?;
-        if now.duration_since(connection.moved) < Duration::from_secs(idle) {
+        let is_moving = now.duration_since(connection.moved) < Duration::from_secs(idle);
+        if is_moving || connection.parting.is_some() {
             return None;
         }
         let number = *number;
         if connection.is_put_off || self.sessions.awaited(number) > 0 {
-            let waiting = self.by_number.get_mut(&number)?;
-            waiting.moved = now;
-            make_ready(&mut self.ready, number, waiting);
+            self.by_number.get_mut(&number)?.moved = now;
             return None;
         }
         self.end(number, Ending::Idle(idle))

@@ -40,9 +40,12 @@ pub(crate) enum Ending {
     /// No frame was answered and no byte left for so many seconds.
     #[error("idle for {0} s")]
     Idle(u64),
-    /// All connections held too much, and this one the most.
+    /// All connections held too much, those of its address the most, and this one the most of these.
     #[error("most held")]
     MostHeld,
+    /// Its address had as many connections as it may have.
+    #[error("most per address")]
+    MostPerAddress,
 }
 
 /// A connection that has ended.

@@ -4,7 +4,8 @@ use mio::net::TcpStream;
 use std::io::{Read, Result};
 
 /// The reader of a stream that remembers whether the last read took all that was there. Then no further
-/// read is worth its while before an event says that more came.
+/// read is worth its while before an event says that more came. Where something urgent came, a read may end
+/// before it, and then this isn't known.
 #[derive(Drop)]
 pub(crate) struct Incoming<'a> {
     stream: &'a TcpStream,

@@ -3,12 +3,14 @@
 #![tactic(auto)]
 
 mod accepting;
+mod addresses;
 mod connection;
 mod connections;
 mod ending;
 mod incoming;
 mod keeping;
 mod options;
+mod parting;
 mod reports;
 mod rounds;
 mod serving;

@@ -44,7 +44,9 @@ pub struct StartOptions {
     pub listen: SocketAddr,
     /// The most connections at once, from 1.
     pub most_connections: u32,
-    /// The most bytes that all connections together hold and are owed, from 1.
+    /// The most connections of one address at once, from 1; there is no such bound where this is `None`.
+    pub most_per_address: Option<u32>,
+    /// The most bytes of memory that are kept for what all connections together hold and are owed, from 1.
     pub most_held: u64,
     /// After how many seconds a connection ends on which nothing moved, from 1.
     pub idle: u64,

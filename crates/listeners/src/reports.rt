@@ -13,6 +13,9 @@ use std::time::{Duration, Instant};
 /// The most lines about ended connections in a second.
 const MOST_LINES: u32 = 100;
 
+/// For how long, in seconds, no two lines say that as many connections are open as there may be.
+const BETWEEN_FULL: u64 = 10;
+
 /// Why a call of the system failed: its kind in words, or what the system says where it has no kind.
 #[derive(Clone, Copy)]
 pub(crate) struct Reason<'a>(pub(crate) &'a Error);
@@ -66,6 +69,8 @@ pub(crate) struct Reports {
     unsaid: u64,
     /// Until when no failed accept is said.
     accepts_silent_until: Option<Instant>,
+    /// Until when it isn't said that as many connections are open as there may be.
+    full_silent_until: Option<Instant>,
 }
 
 impl Reports {
@@ -77,6 +82,7 @@ impl Reports {
             lines: 0,
             unsaid: 0,
             accepts_silent_until: None,
+            full_silent_until: None,
         }
     }
 
@@ -130,6 +136,18 @@ impl Reports {
         let why = Reason(why);
         is_unsaid(
             format!(in self.alloc; "accept {address}: {why}\n").ok(),
+            err,
+        );
+    }
+
+    /// Says that as many connections are open as there may be, at most once in ten seconds.
+    pub(crate) fn most_connected<E: Write>(&mut self, now: Instant, count: usize, err: &mut E) {
+        if !is_over(self.full_silent_until, now) {
+            return;
+        }
+        self.full_silent_until = now.checked_add(Duration::from_secs(BETWEEN_FULL));
+        is_unsaid(
+            format!(in self.alloc; "connections: {count}, the most; others wait\n").ok(),
             err,
         );
     }

@@ -21,10 +21,22 @@ const BETWEEN_LOOKS: u64 = 1;
 /// What bounds the connections of a broker.
 #[derive(Clone, Copy)]
 pub(crate) struct Bounds {
-    /// The most bytes that all hold and are owed.
+    /// The most connections of one address, where there is such a bound.
+    pub(crate) most_per_address: Option<u32>,
+    /// The most bytes of memory that are kept for what all hold and are owed.
     pub(crate) most_held: u64,
     /// After how many seconds without movement a connection ends.
     pub(crate) idle: u64,
+}
+
+impl Bounds {
+    /// Whether an address that has so many connections may have one more.
+    fn allow(&self, count: u32) -> bool {
+        match self.most_per_address {
+            Some(most) => count < most,
+            None => true,
+        }
+    }
 }
 
 /// A broker that listens, between two rounds.
@@ -105,11 +117,12 @@ impl<B: ServedSessions> Rounds<B> {
             self.wait(rt)?;
             self.accept(err)?;
             self.wake();
-            self.visit_ready(err);
-            self.release(err)?;
+            self.visit_ready(rt, err);
+            self.release(rt, err)?;
             self.tend(err)?;
             self.wake();
             self.look_for_idle(err);
+            self.connections.close_parted(self.now);
             self.reports.catch_up(self.now, err);
         }
         Ok(())
@@ -123,6 +136,7 @@ impl<B: ServedSessions> Rounds<B> {
         let accept_at = self.acceptor.due(self.connections.count(), self.now);
         let first = sooner(accept_at, sooner(self.look_at, self.reports.due()));
         let first = sooner(first, self.connections.settle_at());
+        let first = sooner(first, self.connections.part_at());
         let first = sooner(first, self.next_due())?;
         Some(first.duration_since(self.now))
     }
@@ -167,12 +181,22 @@ impl<B: ServedSessions> Rounds<B> {
                 break;
             }
             match self.acceptor.accept()? {
-                Accepted::Client(stream, address) => self.open(stream, address, err),
+                Accepted::Client(stream, address) => self.let_in(stream, address, err),
                 Accepted::Failed(why) => self.pause(&why, err),
                 Accepted::Nobody => {}
             }
         }
         Ok(())
+    }
+
+    /// Opens a connection to a client that was accepted, unless its address has as many as it may have: then it is closed.
+    fn let_in<E: Write>(&mut self, stream: TcpStream, address: SocketAddr, err: &mut E) {
+        if self.bounds.allow(self.connections.count_of(address)) {
+            self.open(stream, address, err);
+        } else {
+            let ended = self.connections.turn_away(address);
+            self.note_end(ended, err);
+        }
     }
 
     /// Opens a connection to a client that was accepted; where it can't, no other is accepted for a while.
@@ -183,6 +207,15 @@ impl<B: ServedSessions> Rounds<B> {
         }
         if self.look_at.is_none() {
             self.look_at = self.now.checked_add(Duration::from_secs(self.bounds.idle));
+        }
+        self.note_count(err);
+    }
+
+    /// Says that as many connections are open as there may be, if so.
+    fn note_count<E: Write>(&mut self, err: &mut E) {
+        let count = self.connections.count();
+        if self.acceptor.is_full(count) {
+            self.reports.most_connected(self.now, count, err);
         }
     }
 
@@ -200,15 +233,24 @@ impl<B: ServedSessions> Rounds<B> {
     }
 
     /// Visits each connection that is ready once, unless much is to be kept before.
-    fn visit_ready<E: Write>(&mut self, err: &mut E) {
+    fn visit_ready<R: Clock, E: Write>(&mut self, rt: &R, err: &mut E) {
         let clock = self.clock();
         for _ in 0..self.connections.ready_count() {
             if self.connections.is_full() {
                 break;
             }
             let ended = self.connections.visit_next(self.now, clock);
+            self.note_moved(rt);
             self.note_end(ended, err);
             self.keep_bounds(err);
+        }
+    }
+
+    /// Has the connection count as moved on which something just did, by the clock as it is now: the round may have been
+    /// long.
+    fn note_moved<R: Clock>(&mut self, rt: &R) {
+        if self.connections.is_moving() {
+            self.connections.note_moved(time(rt, self.now));
         }
     }
 
@@ -217,13 +259,18 @@ impl<B: ServedSessions> Rounds<B> {
     /// # Errors
     ///
     /// It can't be kept. Nothing is sent.
-    fn release<E: Write>(&mut self, err: &mut E) -> std::result::Result<(), Stop> {
+    fn release<R: Clock, E: Write>(
+        &mut self,
+        rt: &R,
+        err: &mut E,
+    ) -> std::result::Result<(), Stop> {
         match self.connections.settle(self.now) {
             Ok(()) => {}
             Err(why) => return Err(Stop::Keeping(why)),
         }
         for _ in 0..self.connections.outgoing_count() {
-            let ended = self.connections.send_next(self.now);
+            let ended = self.connections.send_next();
+            self.note_moved(rt);
             self.note_end(ended, err);
         }
         Ok(())
@@ -251,10 +298,10 @@ impl<B: ServedSessions> Rounds<B> {
         }
     }
 
-    /// Ends connections, the largest first, while all together hold too much.
+    /// Ends connections while too much is kept for all: of the address for whose connections most is, the largest first.
     fn keep_bounds<E: Write>(&mut self, err: &mut E) {
         for _ in 0..self.connections.count() {
-            if self.connections.held() <= self.bounds.most_held {
+            if self.connections.kept() <= self.bounds.most_held {
                 break;
             }
             let ended = self.connections.end_largest();

@@ -2,7 +2,7 @@
 
 ghost use Rattle.std.specs.Prelude.{◌+◌, ◌<◌, ◌≤◌};
 
-use crate::accepting::Acceptor;
+use crate::accepting::{Acceptor, Entrance};
 use crate::connections::Connections;
 use crate::keeping::{fail_keeping, fold, keeping_of, started_in};
 use crate::options::{KeptOptions, StartOptions};
@@ -160,26 +160,30 @@ fn start_unkept<R: Net + Clock, W: Write, E: Write>(
     rt: &R,
     alloc: Global,
     config: Config<Global>,
-    acceptor: Acceptor,
+    entrance: Entrance,
     bounds: Bounds,
     out: &mut W,
     err: &mut E,
 ) -> u8
     ensures is_status { result ≤ 4 }
 {
-    let address = acceptor.address();
+    let address = entrance.address();
     let node: Node<ProgramStore<Global>> = match Node::new(alloc, config) {
         Ok(node) => node,
         Err(why) => return refuse_configuration(why, err),
+    };
+    let sessions = match Sessions::new(alloc, node) {
+        Ok(sessions) => sessions,
+        Err(why) => return fail_at(alloc, address, &Error::from(why), err),
+    };
+    let acceptor = match entrance.open(rt) {
+        Ok(acceptor) => acceptor,
+        Err(why) => return fail_at(alloc, address, &why, err),
     };
     say(
         String::from_str(alloc, "nothing is kept on disk: --data DIR keeps it\n"),
         err,
     );
-    let sessions = match Sessions::new(alloc, node) {
-        Ok(sessions) => sessions,
-        Err(why) => return fail_at(alloc, address, &Error::from(why), err),
-    };
     match listen(rt, alloc, sessions, acceptor, bounds, out, err) {
         Ok(()) | Err(Stop::Keeping(_)) => FAILED,
         Err(Stop::Listening(why)) => fail_at(alloc, address, &why, err),
@@ -198,20 +202,24 @@ fn start_kept<
     config: Config<Global>,
     kept: &'a KeptOptions,
     snapshot_after: u64,
-    acceptor: Acceptor,
+    entrance: Entrance,
     bounds: Bounds,
     out: &mut W,
     err: &mut E,
 ) -> u8
     ensures is_status { result ≤ 4 }
 {
-    let address = acceptor.address();
+    let address = entrance.address();
     let keeping = keeping_of(kept, snapshot_after);
     let (folder, started) = match started_in(rt, alloc, &config, &kept.directory, keeping, err) {
         Ok(started) => started,
         Err(status) => return status,
     };
     let sessions = Kept::new(alloc, folder, started, kept.sync);
+    let acceptor = match entrance.open(rt) {
+        Ok(acceptor) => acceptor,
+        Err(why) => return fail_at(alloc, address, &why, err),
+    };
     match listen(rt, alloc, sessions, acceptor, bounds, out, err) {
         Ok(()) => FAILED,
         Err(Stop::Listening(why)) => fail_at(alloc, address, &why, err),
@@ -222,12 +230,13 @@ fn start_kept<
 /// Runs a broker that listens for many connections at once, and serves them side by side, each frame
 /// of any of them by itself. It goes on until it is ended from outside. Answers a status only where it
 /// can't: 2 the configuration is refused, and nothing listened; 3 out of memory; 4 it can't listen, or
-/// can no longer. Each comes with one line on `err`. Where it is to keep what it acknowledges in a directory, it
+/// can no longer. The last line on `err` says why. Where it is to keep what it acknowledges in a directory, it
 /// answers 1 too, where that is damaged or of a later program; 2, where it is of another configuration; and 4, where a
 /// call on its files fails, also later. Then what wasn't kept hasn't left. Where it is to take a snapshot alone, it does, listens
 /// nowhere, and answers 0.
 ///
-/// On `out` comes the line `listening ADDRESS:PORT` as soon as it listens. On `err` come lines on
+/// At a port that is given it listens once it can answer, so behind a recovery; where the system chooses the port, from the
+/// start. On `out` comes the line `listening ADDRESS:PORT` once it listens and can answer. On `err` come lines on
 /// connections that ended, at most 100 in a second, and on others that can't be accepted. Neither ends
 /// the broker by failing, and neither should be one that waits: [`PromptStream`](crate::PromptStream).
 pub fn start<
@@ -253,21 +262,22 @@ pub fn start<
         );
     }
     let bounds = Bounds {
+        most_per_address: options.most_per_address,
         most_held: options.most_held,
         idle: options.idle,
     };
     let files = open_files();
     let asked = u64::from(options.most_connections);
     let most = most_connections(files, asked);
-    let acceptor = match Acceptor::bind(rt, options.listen, most as usize) {
-        Ok(acceptor) => acceptor,
+    let entrance = match Entrance::new(rt, options.listen, most as usize) {
+        Ok(entrance) => entrance,
         Err(why) => return fail_at(alloc, options.listen, &why, err),
     };
     say_most(alloc, files, most, asked, err);
-    let config = config_at(options.config, acceptor.address().port());
+    let config = config_at(options.config, entrance.address().port());
     let after = options.snapshot_after;
     match options.kept {
-        Some(kept) => start_kept(rt, alloc, config, &kept, after, acceptor, bounds, out, err),
-        None => start_unkept(rt, alloc, config, acceptor, bounds, out, err),
+        Some(kept) => start_kept(rt, alloc, config, &kept, after, entrance, bounds, out, err),
+        None => start_unkept(rt, alloc, config, entrance, bounds, out, err),
     }
 }

@@ -29,7 +29,7 @@ use Rattle.clap.specs.declared.parser.matches.Found.{Found}
 use Rattle.clap.specs.declared.parser.matches.ArgMatches.{ArgMatches}
 use Rattle.clap.proofs.OnLiterals.{clap_on_literals}
 use Rattle.clap.proofs.WalkLemmas.{first_value-rows, raw_values-rows}
-use Rattle.tcp_edge.specs.CommandLine.{kbroker, AsksForHelp, AsksForTable, AsksForMerge, Finds, HasMistake, Names, NamesReplay, NamesSession, Roles, Stops, IsConfigOf, IsRoles, HasTopics, IsNumberOf, IsSignedOf, IsPort, topic_words}
+use Rattle.tcp_edge.specs.CommandLine.{kbroker, AsksForHelp, AsksForTable, AsksForMerge, Finds, HasMistake, Names, NamesReplay, NamesSession, Roles, Stops, IsConfigOf, IsRoles, HasTopics, IsGivenNumber, IsNumberOf, IsSignedOf, IsPort, topic_words}
 
 -- ---- the table
 
@@ -137,6 +137,14 @@ pub number_read : (E : Type 0) (G : List ℕ → Result ℕ E → Type 0) (bits 
 number_read E G bits None r parses none value = ap (λ (n : Option ℕ). unwrap_or n 0) (none refl)
 number_read E G bits (Some word) None parses none value = let read = value word refl in inr (parses word (Err read.0) read.1, refl)
 number_read E G bits (Some word) (Some n) parses none value = inl (parses word (Ok n) (value word refl))
+
+-- and so is one that needn't be given
+pub given_number_read : (E : Type 0) (G : List ℕ → Result ℕ E → Type 0) (bits : ℕ) (o : Option Text) (r : Option ℕ)
+    → ((word : Text) (x : Result ℕ E) → G word x → ParsesUnsigned bits 10 word x)
+    → (o ≡ None → r ≡ None) → ((word : Text) → o ≡ Some word → ReadsOne G word r) → IsGivenNumber bits o r
+given_number_read E G bits None r parses none value = none refl
+given_number_read E G bits (Some word) None parses none value = let read = value word refl in parses word (Err read.0) read.1
+given_number_read E G bits (Some word) (Some n) parses none value = parses word (Ok n) (value word refl)
 
 -- and so is a number that may have a sign
 pub signed_read : (E : Type 0) (G : List ℕ → Result ℤ E → Type 0) (o : Option Text) (r : Option ℤ)

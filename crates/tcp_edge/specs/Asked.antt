@@ -18,7 +18,7 @@ use Rattle.std.specs.declared.net.socket_addr.SocketAddr.{SocketAddr}
 use Rattle.tcp_edge.specs.declared.asked.ArgumentsFault.TheVariants.{Clap, Address, Kept, Topic}
 use Rattle.tcp_edge.specs.Addresses.{Advertises, HasNoAdvertised, HasNoListen, IsListen}
 use Rattle.tcp_edge.specs.Keeping.{HasFoldAlone, HasNoSyncWay, HasSyncAlone, IsKept}
-use Rattle.tcp_edge.specs.CommandLine.{HasTopics, IsConfigAt, IsConfigOf, IsNumberOf, IsPort, IsConnections, Finds, Names, Stops, topic_words}
+use Rattle.tcp_edge.specs.CommandLine.{HasTopics, IsConfigAt, IsConfigOf, IsGivenNumber, IsNumberOf, IsPort, IsConnections, Finds, Names, Stops, topic_words}
 
 -- a broker that listens: at first its configuration has the port that was asked for
 pub record IsListener (rows : List Row) (options : ServeOptions) : Type 0 where
@@ -35,6 +35,7 @@ pub record IsStarter (rows : List Row) (options : StartOptions) : Type 0 where
   pub advertises : Advertises rows options.listen host port
   pub config : IsConfigAt rows host port (config_value options.config)
   pub most_connections : IsNumberOf 32 (one_of (codes "most-connections") rows) options.most_connections
+  pub most_per_address : IsGivenNumber 32 (one_of (codes "most-per-address") rows) options.most_per_address
   pub most_held : IsNumberOf 64 (one_of (codes "most-held") rows) options.most_held
   pub idle : IsNumberOf 64 (one_of (codes "idle") rows) options.idle
   pub snapshot_after : IsNumberOf 64 (one_of (codes "snapshot-after") rows) options.snapshot_after

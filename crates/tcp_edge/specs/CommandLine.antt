@@ -59,6 +59,10 @@ most_connections_rule = record (option_rule (codes "most-connections") (parsers.
   defaults = codes "10000" ∷ [];
 }
 
+-- `--most-per-address N`, from 1 to the greatest number of `u32`
+abbrev pub most_per_address_rule : Rule
+most_per_address_rule = option_rule (codes "most-per-address") (parsers.Signed (pos 1) (pos 4294967295))
+
 -- `--most-held BYTES`, from 1 to the greatest number of `i64`; 1 GiB where it isn't given
 abbrev pub most_held_rule : Rule
 most_held_rule = record (option_rule (codes "most-held") (parsers.Signed (pos 1) (pos 9223372036854775807))) {
@@ -106,9 +110,9 @@ serve_app roles = with_rule (with_rule (with_rule (with_rule (with_rule (new_app
     port_rule) (role_rule roles)) first_producer_rule) connections_rule) topics_rule
 
 abbrev pub start_app : Roles → App
-start_app roles = with_rule (with_rule (with_rule (with_rule (with_rule (with_rule (with_rule (with_rule (with_rule (with_rule (with_rule (with_rule
-    (new_app (codes "start")) listen_rule) advertise_rule) (role_rule roles)) first_producer_rule) most_connections_rule) most_held_rule)
-    idle_rule) data_rule) sync_rule) snapshot_after_rule) fold_rule) topics_rule
+start_app roles = with_rule (with_rule (with_rule (with_rule (with_rule (with_rule (with_rule (with_rule (with_rule (with_rule (with_rule (with_rule (with_rule
+    (new_app (codes "start")) listen_rule) advertise_rule) (role_rule roles)) first_producer_rule) most_connections_rule) most_per_address_rule)
+    most_held_rule) idle_rule) data_rule) sync_rule) snapshot_after_rule) fold_rule) topics_rule
 
 -- added to a command, it is a subcommand with these rules
 abbrev pub IsSubcommand : App → Command → Type 0
@@ -208,6 +212,12 @@ abbrev pub IsNumberOf : ℕ → Option Text → ℕ → Type 0
 IsNumberOf bits None n = n ≡ 0
 IsNumberOf bits (Some word) n =
     (SaysNumber bits word × (n ≡ digits_value 10 (without_leading_plus word))) ⊎ (¬ SaysNumber bits word × (n ≡ 0))
+
+-- the number that the value of an argument says, if there is one and it says one, and else none
+abbrev pub IsGivenNumber : ℕ → Option Text → Option ℕ → Type 0
+IsGivenNumber bits None n = n ≡ None
+IsGivenNumber bits (Some word) None = ¬ SaysNumber bits word
+IsGivenNumber bits (Some word) (Some n) = SaysNumber bits word × (n ≡ digits_value 10 (without_leading_plus word))
 
 -- the port to listen at, and how many connections to serve
 abbrev pub IsPort : List Row → ℕ → Type 0

@@ -5,7 +5,7 @@ ghost use Rattle.std.specs.Bool.{MatchBool};
 ghost use Rattle.broker_state.specs.ConfigValues.{config_value};
 ghost use Rattle.clap.specs.Words.{Kinds, Row, Text, found_of, one_of, rows_of, subcommand_name_of, subcommand_rows_of};
 ghost use Rattle.tcp_edge.specs.Asked.{IfNamed, IsAsked, IsConfigFault, IsFaulty, IsListener, IsOutOfMemory, IsServeOptionsOf, IsServePortOf, IsStarter, IsStartFault, IsStartOptionsOf, IsStartSaid, IsStop};
-ghost use Rattle.tcp_edge.specs.CommandLine.{Finds, IsConfigAt, IsFirstProducer, IsNumberOf, IsPort, Names, Stops, role_of, topic_words};
+ghost use Rattle.tcp_edge.specs.CommandLine.{Finds, IsConfigAt, IsFirstProducer, IsGivenNumber, IsNumberOf, IsPort, Names, Stops, role_of, topic_words};
 
 use crate::addresses::{AddressFault, advertised_of, listen_of};
 use crate::commands::command;
@@ -179,6 +179,13 @@ fn count_of(matches: &ArgMatches<'_>, name: &str) -> u32
     matches.get_one::<u32>(name).unwrap_or(0)
 }
 
+/// A count, if there is one in the matches.
+fn given_count_of(matches: &ArgMatches<'_>, name: &str) -> Option<u32>
+    ensures { IsGivenNumber 32 (one_of name.now (rows_of (found_of matches.now))) result }
+{
+    matches.get_one::<u32>(name)
+}
+
 /// An amount of bytes or of seconds; 0 where there is none in the matches.
 fn amount_of(matches: &ArgMatches<'_>, name: &str) -> u64
     ensures { IsNumberOf 64 (one_of name.now (rows_of (found_of matches.now))) result }
@@ -211,6 +218,7 @@ fn start_options_of(alloc: Global, matches: &ArgMatches<'_>) -> Result<StartOpti
     ensures fault { IfErr result (IsStartFault (rows_of (found_of matches.now))) }
 {
     let most_connections = count_of(matches, "most-connections");
+    let most_per_address = given_count_of(matches, "most-per-address");
     let most_held = amount_of(matches, "most-held");
     let idle = amount_of(matches, "idle");
     let snapshot_after = amount_of(matches, "snapshot-after");
@@ -222,6 +230,7 @@ fn start_options_of(alloc: Global, matches: &ArgMatches<'_>) -> Result<StartOpti
         config,
         listen,
         most_connections,
+        most_per_address,
         most_held,
         idle,
         snapshot_after,

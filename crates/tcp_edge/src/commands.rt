@@ -2,7 +2,7 @@
 
 ghost use Rattle.std.specs.Prelude.{◌≡◌, [], IfOk, codes, false};
 ghost use Rattle.clap.specs.Words.{App, app_of, new_app, rule_of, with_subcommand};
-ghost use Rattle.tcp_edge.specs.CommandLine.{IsRoles, IsSubcommand, Roles, kbroker, session_app, serve_app, role_rule, first_producer_rule, top, topics_rule, port_rule, connections_rule, start_app, listen_rule, advertise_rule, most_connections_rule, most_held_rule, idle_rule, data_rule, sync_rule, snapshot_after_rule, fold_rule};
+ghost use Rattle.tcp_edge.specs.CommandLine.{IsRoles, IsSubcommand, Roles, kbroker, session_app, serve_app, role_rule, first_producer_rule, top, topics_rule, port_rule, connections_rule, start_app, listen_rule, advertise_rule, most_connections_rule, most_per_address_rule, most_held_rule, idle_rule, data_rule, sync_rule, snapshot_after_rule, fold_rule};
 
 use clap::builder::ValueParser;
 use clap::{Arg, ArgAction, Command, value_parser};
@@ -78,9 +78,13 @@ that it listens on";
 
 const HELP_MOST_CONNECTIONS: &str = "The maximum number of connections at once";
 
+const HELP_MOST_PER_ADDRESS: &str =
+    "The maximum number of connections at once from one IP address, above which a new one is \
+closed; without it, there is none";
+
 const HELP_MOST_HELD: &str =
-    "The maximum number of bytes of requests and replies that are buffered for all \
-connections together; above it, the connection with the most is closed";
+    "The maximum number of bytes of memory that are kept for requests and replies of \
+all connections together; above it, the connection with the most is closed, among those of the IP address with the most";
 
 const HELP_IDLE: &str =
     "The number of seconds without a request or a reply after which a connection is closed";
@@ -208,6 +212,18 @@ fn most_connections_arg<'a>(alloc: Global) -> Arg<'a>
         .default_value("10000")
 }
 
+/// The most connections of one address.
+fn most_per_address_arg<'a>(alloc: Global) -> Arg<'a>
+    ensures rule { rule_of result ≡ most_per_address_rule }
+    ensures local { result.global ≡ false }
+{
+    Arg::new(alloc, "most-per-address")
+        .long("most-per-address")
+        .value_name("N")
+        .help(HELP_MOST_PER_ADDRESS)
+        .value_parser(value_parser!(u32).range(1..))
+}
+
 /// The most bytes that are held.
 fn most_held_arg<'a>(alloc: Global) -> Arg<'a>
     ensures rule { rule_of result ≡ most_held_rule }
@@ -319,6 +335,7 @@ fn start<'a>(alloc: Global, roles: &'a [&'a str]) -> Result<Command<'a>, AllocEr
         .arg(role_arg(alloc, roles))?
         .arg(first_producer_arg(alloc))?
         .arg(most_connections_arg(alloc))?
+        .arg(most_per_address_arg(alloc))?
         .arg(most_held_arg(alloc))?
         .arg(idle_arg(alloc))?
         .arg(data_arg(alloc))?
