@@ -27,6 +27,7 @@ from cases.kept_runs import (
     JOURNAL,
     NO_MEMORY,
     OUT_OF_MEMORY,
+    REFUSED,
     SNAPSHOT,
     TOPICS,
     WAYS,
@@ -42,6 +43,7 @@ from cases.kept_runs import (
     has_what_was_acknowledged,
     in_use,
     lay,
+    missing,
     new,
     new_folder,
     recovered,
@@ -50,7 +52,22 @@ from cases.kept_runs import (
     write,
 )
 from cases.many_clients import frame
-from cases.started import LIMITED, NOTHING_KEPT, Fault, Started, ends_by_itself, holds, is_soon, reply, request, same, slow
+from cases.started import (
+    LIMITED,
+    NOTHING_KEPT,
+    SECONDS,
+    Client,
+    Fault,
+    Started,
+    ends_by_itself,
+    free_port,
+    holds,
+    is_soon,
+    reply,
+    request,
+    same,
+    slow,
+)
 from models import kept_files
 
 # ---- restarts
@@ -627,8 +644,11 @@ def without_memory(program):
             client.ask("listoffsets t:0 -1", f"listed t:0 0 -1 {len(frames)}")
 
 
+# ---- where it listens, and when
+
+
 def taken_port(program):
-    """Where another listens it ends as it does without a directory, and leaves that free and as it was."""
+    """Where another listens it recovers, and then ends as it does without a directory. That is left free, and nothing is lost."""
     journal = kept_files.journal([[request("produce t:0 batch a=1")]])
     with new_folder() as folder, socket.create_server(("127.0.0.1", 0)) as other:
         lay(folder, journal)
@@ -638,10 +658,54 @@ def taken_port(program):
                 raise Fault("it listens where another does")
         except Ended as ended:
             same("the status", ended.status, FAILED)
+            same("the first lines", ended.lines[:-1], [recovered(1)])
             holds(f"the last line: {ended.lines}", ended.lines[-1].startswith(f"kbroker: {at}: "))
         same("the journal", content(folder, JOURNAL), journal)
         with Kept(program, folder) as broker:
             same("the line", broker.said(), recovered(1))
+
+
+def refused_before_it_listens(program):
+    """A directory that is refused is so whatever stands at the port, and nothing is bound: not even one that another has."""
+    with new_folder() as folder, socket.create_server(("127.0.0.1", 0)) as other:
+        at = f"127.0.0.1:{other.getsockname()[1]}"
+        lay(folder, kept_files.journal([[request("produce t:0 batch a=1")]]) + bytes(9))
+        refused(program, folder, ANOTHER, another(folder, "topic t: 2 partitions"), topics=("t:1",), listen=at)
+        refused(program, folder, ANOTHER, another(folder, "role: leader"), "--role", "follower", listen=at)
+        os.remove(f"{folder}/{JOURNAL}")
+        refused(program, folder, REFUSED, missing(folder, JOURNAL), listen=at)
+
+
+def entered(port):
+    """A connection to a port of 127.0.0.1, or none while it is refused."""
+    try:
+        return socket.create_connection(("127.0.0.1", port))
+    except ConnectionRefusedError:
+        return None
+
+
+def let_in_behind_a_recovery(program):
+    """While a journal is read nobody is let in at a port that is given. Whoever is let in finds that it has recovered."""
+    rounds, port = [[request(f"produce t:0 batch k={number}") for number in range(1_000)]], free_port()
+    with new_folder() as folder:
+        lay(folder, kept_files.journal(rounds))
+        broker = Kept(program, folder, listen=f"127.0.0.1:{port}")
+        ways = {"stdin": subprocess.DEVNULL, "stdout": subprocess.DEVNULL, "stderr": subprocess.PIPE}
+        with subprocess.Popen(broker.command, executable=program, preexec_fn=broker.prepare, **ways) as process:
+            try:
+                late = time.monotonic() + SECONDS
+                while (first := entered(port)) is None:
+                    holds("nobody is let in", process.poll() is None and time.monotonic() < late)
+                    time.sleep(0.0005)
+                # It stays open while this is read: its end would be a line, too.
+                with first:
+                    os.set_blocking(process.stderr.fileno(), False)
+                    said = process.stderr.read() or b""
+                same("what is said when somebody is let in", said, f"{recovered(len(rounds[0]))}\n".encode())
+                with Client(("127.0.0.1", port)) as client:
+                    client.ask("listoffsets t:0 -1", f"listed t:0 0 -1 {len(rounds[0])}")
+            finally:
+                process.kill()
 
 
 # ---- what is so without a directory is so with one
@@ -671,11 +735,12 @@ AS_WITHOUT = [
     ("a trim makes a fetch due", waiting.trim_makes_due),
     ("a commit makes a fetch due", waiting.commit_makes_due),
     ("an import makes a fetch due", waiting.import_makes_due),
-    ("a cleaning makes a fetch due", waiting.clean_makes_due),
+    ("a cleaning while a fetch waits", waiting.clean_leaves_waiting),
     ("a fetch and a produce without acknowledgement", waiting.without_acknowledgement),
     ("large replies that nobody reads", limits.replies_unread),
     ("a client that stops behind more than a read", many_clients.half_close_behind_many_reads),
     ("clients that stop", many_clients.half_closes),
+    ("a refused frame before what isn't read", many_clients.refused_before_unread),
     ("resets", many_clients.resets),
     ("most bytes owed", limits.most_owed),
     ("large replies in pieces", limits.largest_replies),
@@ -709,6 +774,8 @@ CASES = [
     ("a directory of another configuration", other_configurations),
     ("a journal that takes more memory than there is", without_memory),
     ("a directory, and a port that is taken", taken_port),
+    ("a directory that is refused, and a port that is taken", refused_before_it_listens),
+    ("a port that is given, while a journal is read", let_in_behind_a_recovery),
     *((f"{name}, with a directory", with_a_directory(case)) for name, case in AS_WITHOUT),
     *kept_damage.CASES,
     *kept_calls.CASES,

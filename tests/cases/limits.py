@@ -11,7 +11,7 @@ import struct
 import time
 
 from cases.many_clients import LARGE, ONE_READ, fill, frame, large_reply, works
-from cases.started import SECONDS, Started, holds, is_soon, reply, request, same, slow
+from cases.started import KEEPS, SECONDS, Started, holds, is_soon, reply, request, same, slow, taken_unread
 from encoders import frames
 
 MEGABYTE = 1_000_000
@@ -60,11 +60,26 @@ def served_in_turn(broker, clients, most):
     holds("an end of another kind", all(why == "end" for _, _, why in broker.ends(len(clients)).told))
 
 
+def reached(most):
+    """The line that as many connections are open as there may be."""
+    return f"connections: {most}, the most; others wait"
+
+
 def most_connections(program):
-    """The most are three; six clients come."""
+    """The most are three; six clients come. That the most are there is said once, and again ten seconds later where it is so then."""
     with Started(program, "--most-connections", "3") as broker:
-        served_in_turn(broker, broker.clients(6), 3)
-        same("lines beside those of ends", broker.ends(6).others, [])
+        with broker.client() as first, broker.client() as second:
+            for it in (first, second):
+                it.ask("versions", "versions 0")
+            same("lines while fewer are open", broker.lines, [])
+        began, told = time.monotonic(), 0
+        while time.monotonic() < began + 11:
+            told += 6
+            served_in_turn(broker, broker.clients(6), 3)
+            broker.ends(told + 2)
+        seconds, others = time.monotonic() - began, broker.ends(told + 2).others
+        same("lines beside those of ends", set(others), {reached(3)})
+        holds(f"{len(others)} such lines in {seconds:.1f} s", 2 <= len(others) <= seconds / 10 + 1)
 
 
 def most_connections_reset(program):
@@ -81,6 +96,38 @@ def most_connections_reset(program):
         waiting[19].close()
 
 
+def most_per_address(program):
+    """Two of an address may be connected, others of it are closed at once; clients of another address are let in beside them, and one
+    of the first address once one of its is gone."""
+    with Started(program, "--most-per-address", "2") as broker:
+        first, second = broker.clients(2)
+        works(first, 0)
+        works(second, 1)
+        third = broker.client()
+        third.gets_to_the_end(b"", "what comes to one too many")
+        broker.tells(2, third, "most per address")
+        with broker.client(host="127.0.0.2") as other:
+            works(other, 2)
+        broker.tells(3, other, "end")
+        works(first, 3)
+        second.close()
+        broker.tells(1, second, "end")
+        with broker.client() as fourth:
+            works(fourth, 4)
+            works(first, 5)
+        for _ in range(300):
+            broker.client(host="127.0.0.2").close()
+        broker.ends(304)
+        with broker.client(host="127.0.0.2") as last:
+            works(last, 6)
+        first.close()
+    with Started(program) as broker:
+        clients = broker.clients(100)
+        for it in clients:
+            it.ask("versions", "versions 0")
+        same("lines without such a bound", broker.lines, [])
+
+
 def few_files(program):
     """Of the files that it may open it keeps 32 for others, and says at the start how many connections are left. What it might
     have if it asked for more doesn't count."""
@@ -88,14 +135,14 @@ def few_files(program):
         with Started(program, files=files) as broker:
             served_in_turn(broker, broker.clients(most + 3), most)
             line = f"connections: {most} of 10000, as the system allows {files} open files"
-            same("the lines at the start", broker.ends(most + 3).others, [line])
+            same("lines beside those of ends", broker.ends(most + 3).others[:2], [line, reached(most)])
 
 
 def enough_files(program):
-    """Nothing is said where the files are enough."""
+    """Nothing is said of files where they are enough."""
     with Started(program, "--most-connections", "8", files=40) as broker:
         served_in_turn(broker, broker.clients(9), 8)
-        same("lines beside those of ends", broker.ends(9).others, [])
+        same("lines beside those of ends", set(broker.ends(9).others), {reached(8)})
 
 
 def no_file_left(program):
@@ -148,6 +195,96 @@ def most_held(program):
         third.send(small[200_000:])
         third.gets(reply("produced t:0 0 1"))
         same("connections that ended", broker.ends(1).count(), 1)
+
+
+def within_bounds(broker, most, what):
+    """The broker's memory is within what is allowed for what is kept of its clients, and some."""
+    memory = broker.memory()
+    holds(f"{what} it has {memory} bytes of memory", memory <= 1.5 * most + 64 * MEGABYTE)
+
+
+@slow(KEEPS)
+def kept_behind_frames(program):
+    """Forty clients leave a byte each behind a frame of 8 MB that was answered: next to nothing is kept for them, and none of them
+    ends. Where each leaves 6 MB of such a frame those that hold the most end, and the memory stays within bounds too."""
+    most = 20 * MEGABYTE
+    frame, told = request(f"produce t:2 batch a={{v*{8 * MEGABYTE}}}"), reply("produced t:2 10 -1")
+    with Started(program, "--most-held", str(most)) as broker, broker.client() as other:
+        clients = broker.clients(40)
+        for it in clients:
+            it.send(frame + bytes(1))
+            it.gets(told)
+        works(other, 0, 5)
+        within_bounds(broker, most, "with a byte behind each of 40 frames of 8 MB")
+        same("lines while little is kept", broker.lines, [])
+        for it in clients:
+            with contextlib.suppress(ConnectionError):
+                it.send(frame[1 : 6 * MEGABYTE])
+        works(other, 5, 5)
+        within_bounds(broker, most, "with 6 MB of each of 40 frames")
+        holds("some end", is_soon(lambda: len(broker.lines) >= 35))
+        same("ends", {why for _, _, why in broker.ends(35).told}, {"most held"})
+        works(other, 10, 5)
+
+
+@slow(KEEPS)
+def kept_behind_replies(program):
+    """Thirty clients each leave less than 1 MB of a reply of 8 MB with the broker: little more is kept for them, and none ends."""
+    most, room, count = 40 * MEGABYTE, 4096, 8
+    unread = taken_unread(room) + 200_000
+    with Started(program, "--most-held", str(most)) as broker, broker.client() as other:
+        for number in range(count):
+            other.ask(f"produce t:0 batch a={{v*{MEGABYTE}}}", f"produced t:0 0 {number}")
+        fetch = request(f"fetch max=52428800 t:0 0 {LARGEST_FRAME}")
+        clients = [broker.client(room=room) for _ in range(30)]
+        for it in clients:
+            it.send(fetch)
+            size = int.from_bytes(it.receive(4), "big")
+            holds("the reply has all batches", size > count * MEGABYTE)
+            it.receive(size - unread)
+        works(other, 0, 5)
+        within_bounds(broker, most, "with some of each of 30 replies of 8 MB")
+        same("lines", broker.lines, [])
+        for it in clients:
+            it.receive(unread)
+            it.ask("versions", "versions 0")
+
+
+def most_held_by_address(program):
+    """A connection of one address holds a quarter of a megabyte, and thirty of another address a part of that each, more and more of
+    it, until more is held than is allowed. Then one of the thirty ends, or two, of those that hold the most, and not the one that holds
+    more than each of them. The room for what a connection holds may be up to twice as much, by how it came. Before, one of a further
+    address held more than any, and left."""
+    large, small = produce_of(300_000), produce_of(200_000)
+    with Started(program, "--most-held", "3000000") as broker, broker.client() as consumer, broker.client(host="127.0.0.3") as other:
+        works(consumer, 0, 5)
+        with broker.client(host="127.0.0.4") as gone:
+            gone.send(produce_of(2_000_000)[:1_400_000])
+            works(other, 5, 5)
+        broker.tells(2, gone, "end within frame 0")
+        broker.lines.clear()
+        consumer.send(large[:250_000])
+        many = broker.clients(30, host="127.0.0.2")
+        for it in many:
+            it.ask("versions", "versions 0")
+            it.send(small[:23_000])
+        works(other, 10, 5)
+        same("lines while less than the most is held", broker.lines, [])
+        sent = []
+        for number, it in enumerate(many):
+            if broker.lines:
+                break
+            it.send(small[23_000:120_000])
+            sent.append(it)
+            works(other, 15 + 5 * number, 5)
+        same("why some end of those that hold the most", {why for it in sent if (why := broker.ends(1).why(it))}, {"most held"})
+        same("why others end", [why for it in many[len(sent) :] if (why := broker.ends(1).why(it))], [])
+        for it in many:
+            it.close()
+        broker.ends(30)
+        consumer.send(large[250_000:])
+        consumer.gets(reply("produced t:0 0 0"))
+        same("why the one ends that held the most", broker.ends(30).why(consumer), None)
 
 
 def most_owed(program):
@@ -240,7 +377,7 @@ def largest_replies(program):
         slow.gets(told, "the next reply")
 
 
-@slow("the program's checks keep memory that is given back")
+@slow(KEEPS)
 def memory_comes_back(program):
     """Connections that came and went, each with a large frame that was cut, leave no memory taken."""
     with Started(program) as broker, broker.client() as other:
@@ -383,10 +520,14 @@ def many_refusals(program):
 CASES = [
     ("more connections than allowed", most_connections),
     ("connections that are reset while they wait", most_connections_reset),
+    ("more connections of an address than allowed", most_per_address),
     ("few open files", few_files),
     ("open files that are just enough", enough_files),
     ("accepting that fails for lack of files", no_file_left),
     ("more bytes held than allowed", most_held),
+    ("more bytes held than allowed, by address", most_held_by_address),
+    ("memory behind large frames", kept_behind_frames),
+    ("memory behind large replies", kept_behind_replies),
     ("more bytes owed than allowed", most_owed),
     ("sizes that are announced, and nothing behind them", announced_alone),
     ("large replies that nobody reads", replies_unread),

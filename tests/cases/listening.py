@@ -5,9 +5,11 @@ What must come is worked by hand.
 """
 import contextlib
 import os
+import re
 import signal
 import socket
 import struct
+import tempfile
 import time
 
 from cases.many_clients import fill, frame, works
@@ -28,6 +30,7 @@ from cases.started import (
     same,
 )
 from encoders import frames
+from runner.places import ROOT
 
 LARGEST_LINE = 4_096
 
@@ -231,6 +234,22 @@ def ordinary_port(program):
         tells_where(client, "127.0.0.1", 9092)
 
 
+def unit_of_systemd(program):
+    """The unit in examples/ starts a broker that no other machine reaches, and that keeps what it is sent."""
+    with open(f"{ROOT}/examples/kbroker.service", encoding="utf-8") as file:
+        words = re.search(r"^ExecStart=\S+ start (.*)$", file.read(), re.M)[1].replace("%H", "localhost").split()
+    topics = [words.pop(), words.pop()]
+    options = dict(zip(words[::2], words[1::2]))
+    host = options.pop("--listen").rpartition(":")[0]
+    with tempfile.TemporaryDirectory() as folder:
+        options["--data"] = f"{folder}/data"
+        for number in range(2):
+            with Started(program, *sum(options.items(), ()), listen=f"{host}:0", topics=topics) as broker:
+                holds(f"it is {broker.listening}", broker.listening.startswith("listening 127.0.0.1:"))
+                with broker.client() as client:
+                    client.ask("produce prices:3 batch apple=3", f"produced prices:3 0 {number}")
+
+
 # ---- standard streams
 
 
@@ -398,6 +417,7 @@ CASES = [
     ("a port that is free again at once", same_port_again),
     ("an end from outside", ended_from_outside),
     ("a stop from outside, and a go-on", stopped_and_continued),
+    ("the unit in examples", unit_of_systemd),
     ("standard error that is full", full_errors),
     ("standard error that nobody reads", closed_errors),
     ("standard output that nobody reads", closed_output),

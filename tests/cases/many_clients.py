@@ -7,13 +7,14 @@ import ctypes
 import functools
 import os
 import random
+import signal
 import socket
 import stat
 import struct
 import threading
 import time
 
-from cases.started import Started, holds, reply, request, same, taken_unread
+from cases.started import SECONDS, Started, holds, reply, request, same, taken_unread
 from encoders import frames
 
 LARGE = 1_000_000  # bytes of a value, of which one batch has one
@@ -157,6 +158,23 @@ def one_byte_at_a_time(program):
         other.ask("listoffsets t:0 -2", "listed t:0 0 -1 0")
 
 
+def urgent_bytes(program):
+    """TCP's urgent bytes stand within a request and behind one, and more behind them; all is there before it is read. A read ends
+    before such a byte, which is no part of the input, and what stands behind is answered too."""
+    with Started(program) as broker, broker.client() as client, broker.client() as other:
+        client.ask("versions", "versions 0")
+        data, told = request("listoffsets t:0 -1"), reply("listed t:0 0 -1 0")
+        for pieces in ([data[:9], data[9:]], [data, data], [data[:-1], data[-1:] + data]):
+            broker.process.send_signal(signal.SIGSTOP)
+            client.send(pieces[0])
+            client.socket.send(b"!", socket.MSG_OOB)
+            client.send(pieces[1])
+            broker.process.send_signal(signal.SIGCONT)
+            client.gets(told * (len(b"".join(pieces)) // len(data)), f"replies where a read ends after {len(pieces[0])} bytes")
+        broker.rests("urgent bytes came")
+        works(other, 0, 5)
+
+
 def large_frames_in_pieces(program):
     """Two clients send a large Produce each, by turns, in pieces of which several make one read and of which some are cut
     anywhere."""
@@ -234,6 +252,88 @@ def refused_behind_much(program):
             client.gets(large_reply(), f"reply {number}")
         client.gets_to_the_end(b"", "what comes behind them")
         broker.tells(1, client, "frame 12: UnknownApi (key 60, version 0)")
+
+
+def refused_before_unread(program):
+    """Behind a refused frame more is sent than the broker reads of it, by a client that reads late. The replies before it come to
+    their last byte, and then the end."""
+    with Started(program) as broker, broker.client() as other, broker.client(room=4096) as client:
+        fill(other)
+        client.send(request("fetch t:0 0") + frame(60, 0) + bytes(2 * ONE_READ))
+        works(other, 0, 5)
+        time.sleep(0.3)
+        client.gets(large_reply(), "the reply before the refused frame")
+        client.gets_to_the_end(b"", "what comes behind it")
+        broker.tells(1, client, "frame 1: UnknownApi (key 60, version 0)")
+        works(other, 5, 5)
+
+
+def sends_on(client):
+    """Sends a byte, whether or not the other side takes any."""
+    with contextlib.suppress(ConnectionError):
+        client.send(b"\0")
+
+
+def refused_and_open(program):
+    """A client whose frame is refused stays, and sends a byte now and then: for two seconds it counts as a connection, and then no
+    more. One that leaves once it is refused makes room at once."""
+    with Started(program, "--most-connections", "1") as broker:
+        with broker.client() as client, broker.client() as other:
+            began = time.monotonic()
+            client.send(frame(60, 0))
+            client.gets_to_the_end(b"")
+            other.send(request("versions"))
+            while other.gets_nothing(0.1):
+                sends_on(client)
+                holds("none is served in its place", time.monotonic() < began + SECONDS)
+            seconds = time.monotonic() - began
+            other.gets(reply("versions 0"))
+            holds(f"another is served in its place after {seconds:.1f} s", seconds >= 2)
+        took = []
+        for _ in range(5):
+            with broker.client() as client, broker.client() as other:
+                began = time.monotonic()
+                client.send(frame(60, 0))
+                client.gets_to_the_end(b"")
+                client.close()
+                other.ask("versions", "versions 0")
+                took.append(time.monotonic() - began)
+        holds(f"those that leave make room after {took} s", min(took) < 1.5)
+        ends = broker.ends(12)
+        same("ends", sorted(why for _, _, why in ends.told), ["end"] * 6 + ["frame 0: UnknownApi (key 60, version 0)"] * 6)
+
+
+def refused_and_resting(program):
+    """A client whose frame is refused stays, and sends nothing more: after two seconds another is served in its place, and its end is
+    one line, though seconds that are idle would end it before."""
+    with Started(program, "--most-connections", "1", "--idle", "1") as broker:
+        with broker.client() as client, broker.client() as other:
+            began = time.monotonic()
+            client.send(frame(60, 0))
+            client.gets_to_the_end(b"")
+            other.ask("versions", "versions 0")
+            seconds = time.monotonic() - began
+            holds(f"another is served in its place after {seconds:.1f} s", seconds >= 2)
+            why = "frame 0: UnknownApi (key 60, version 0)"
+            same("ends of the one", [it[2] for it in broker.ends(1).told if it[1] == client.address], [why])
+
+
+def refused_and_more_without_end(program):
+    """A client that sends behind a refused frame for as long as it is taken: that comes to an end, and costs no memory."""
+    with Started(program) as broker, broker.client() as other, broker.client() as client:
+        works(other, 0, 5)
+        before, sent = broker.memory(), 0
+        with contextlib.suppress(ConnectionError):
+            client.send(frame(60, 0))
+            while sent < 100 * LARGE:
+                client.send(bytes(LARGE))
+                sent += LARGE
+        holds(f"{sent} bytes were taken behind a refused frame", sent < 20 * LARGE)
+        works(other, 5, 5)
+        more = broker.memory() - before
+        holds(f"what comes behind a refused frame costs {more} bytes of memory", more < 4 * LARGE)
+        broker.tells(1, client, "frame 0: UnknownApi (key 60, version 0)")
+        same("lines", len(broker.lines), 1)
 
 
 # ---- ends
@@ -384,10 +484,15 @@ CASES = [
     ("sockets that send at once", without_delay),
     ("a client that doesn't read, and another", one_that_does_not_read),
     ("a client that sends a byte at a time, and another", one_byte_at_a_time),
+    ("urgent bytes between others", urgent_bytes),
     ("large frames that come in pieces, by turns", large_frames_in_pieces),
     ("frames that are refused", refused_frames),
     ("what stands behind a refused frame", refused_before_more),
     ("a refused frame behind large replies that are owed", refused_behind_much),
+    ("a refused frame before what isn't read", refused_before_unread),
+    ("a client that is refused and stays", refused_and_open),
+    ("a client that is refused and rests", refused_and_resting),
+    ("a client that sends on behind a refused frame", refused_and_more_without_end),
     ("ends between frames and within one", ordinary_ends),
     ("clients that stop and read on", half_closes),
     ("ends of clients that read late and are owed a little", ends_with_little_owed),

@@ -1,15 +1,17 @@
 """Random frames in random pieces on 40 connections of `kbroker start` at once.
 
 In the first run each connection works on a partition and for groups of its own, so what it must get doesn't depend on what the
-others do: the plain model of tests/models/broker.py says it, a model for each connection. Some end by a refused frame, some within a
-frame, some by a reset, some read late. In the second run all share partitions: what they get must agree with one order of all
-requests, which base offsets, producer ids and the logs at the end show.
+others do: the plain model of tests/models/broker.py says it, a model for each connection. Some end by a refused frame, of which some
+send more behind it, some within a frame, some by a reset, some read late; some Fetches wait for many partitions. Beside them are
+clients that end since they say nothing, or send large parts of frames. In the second run all share partitions: what they get must
+agree with one order of all requests, which base offsets, producer ids and the logs at the end show.
 """
 import contextlib
 import functools
 import random
 import select
 import struct
+import threading
 import time
 
 from cases.many_clients import REFUSED
@@ -21,6 +23,7 @@ from models import broker, wire
 
 COUNT = 40
 TOPIC = b"t"
+QUIET, QUIET_COUNT = b"w", 64  # a topic to which nothing is produced, and its partitions
 SHARED = [(b"u", 0), (b"u", 1)]
 PRODUCE, FETCH, LISTOFFSETS, METADATA, COMMIT, OFFSETS = (0, 3), (1, 4), (2, 1), (3, 1), (8, 2), (9, 1)
 COORDINATOR, VERSIONS, PRODUCER_ID = (10, 0), (wire.API_VERSIONS, 0), (22, 0)
@@ -49,7 +52,7 @@ class Draws:
 
     def __init__(self, index):
         self.numbers, self.index = Numbers(index + 1), index
-        self.node = broker.Broker(True, [(TOPIC, COUNT)])
+        self.node = broker.Broker(True, [(TOPIC, COUNT), (QUIET, QUIET_COUNT)])
         self.groups = [b"%d" % index, b"%d and more" % index, b""]
 
     def place(self):
@@ -101,6 +104,8 @@ class Draws:
             return [rarely(numbers, None, b"x"), acks, 1000, self.topics(lambda: [self.batch()])]
         if kind == FETCH:
             entries = self.topics(lambda: [self.offset(), numbers.one_of(LIMITS)])
+            if numbers.below(4) == 0:
+                entries.append([QUIET, [[it, 0, 1 << 20] for it in range(QUIET_COUNT)]])
             return [-1, numbers.one_of([0, 0, 1, 10]), numbers.one_of([1, 1, 0, 300]), numbers.one_of(LIMITS), 0, entries]
         if kind == LISTOFFSETS:
             return [-1, self.topics(lambda: [numbers.one_of([-1, -2, -3, 0, 10, 20])])]
@@ -203,6 +208,7 @@ def drive(talks):
 # ---- each on a partition of its own
 
 REQUESTS = 60
+BEHIND = 60_000  # bytes that stand behind a refused frame, once or twice
 
 
 @functools.cache
@@ -218,7 +224,8 @@ def parts_of(number):
     way = number % 4
     if way == 0:
         why, data = REFUSED[number // 4 % len(REFUSED)]
-        return sent + data, wanted, f"frame {count}: {why}", "a refused frame"
+        more = bytes(number % 3 * BEHIND)
+        return sent + data + more, wanted, f"frame {count}: {why}", "a refused frame"
     if way == 1:
         part = draws.frame()
         cut = 1 + draws.numbers.below(len(part) - 1)
@@ -228,20 +235,43 @@ def parts_of(number):
     return sent, wanted, "end", "stop"
 
 
+IDLE = 6  # seconds
+MOST_HELD = 24_000_000  # bytes; the talks hold and are owed less than half of that
+HOARDERS, HOARD = 6, 6_000_000  # clients of another address, and the bytes of a frame that each sends and doesn't go on with
+
+
+def hoard(clients):
+    """Each sends a large part of a frame, or as much of it as is taken."""
+    for it in clients:
+        with contextlib.suppress(ConnectionError):
+            it.send(struct.pack(">i", HOARD + 1) + bytes(HOARD))
+
+
 @slow(RANDOM)
 def own_partitions(program):
+    """Beside the talks are a client that says nothing behind a part of a frame, and some that hold too much together."""
     talks = [Talk(number, *parts_of(number)) for number in range(COUNT)]
-    arguments = ["--advertise", f"{broker.HOST.decode()}:{broker.PORT}"]
-    with Started(program, *arguments, topics=[f"t:{COUNT}"]) as started:
+    arguments = ["--advertise", f"{broker.HOST.decode()}:{broker.PORT}", "--idle", str(IDLE), "--most-held", str(MOST_HELD)]
+    with Started(program, *arguments, topics=[f"t:{COUNT}", f"{QUIET.decode()}:{QUIET_COUNT}"]) as started:
         for it in talks:
             it.begin(started)
+        silent, hoarders = started.client(), started.clients(HOARDERS, host="127.0.0.2")
+        silent.send(framed(VERSIONS, 1, [])[:-1])
+        hoarding = threading.Thread(target=hoard, args=[hoarders])
+        hoarding.start()
         drive(talks)
+        hoarding.join()
         for it in talks:
             it.check()
         for it in talks:
             started.tells(it.number, it.client, it.why)
-        for it in talks:
-            it.client.close()
+        started.tells(COUNT, silent, f"idle for {IDLE} s")
+        ends = started.ends(COUNT + 1 + HOARDERS).told
+        whys = [why for number, _, why in ends if number > COUNT]
+        most = whys.count("most held")
+        holds(f"ends of those that hold much: {whys}", 2 <= most < HOARDERS and whys.count(f"idle for {IDLE} s") == HOARDERS - most)
+        for it in [silent, *hoarders, *(it.client for it in talks)]:
+            it.close()
 
 
 # ---- all on shared partitions

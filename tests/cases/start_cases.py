@@ -3,6 +3,14 @@
 A case is a function of the program. It is bounded in time, and passes on a slow machine too: nothing has to be done at once, but
 for what must not be done before its time.
 """
-from cases import kept_cases, limits, listening, many_clients, random_clients, waiting
+from cases import dear_frames, kept_cases, limits, listening, many_clients, random_clients, waiting
 
-CASES = [*listening.CASES, *many_clients.CASES, *limits.CASES, *waiting.CASES, *random_clients.CASES, *kept_cases.CASES]
+CASES = [
+    *listening.CASES,
+    *many_clients.CASES,
+    *dear_frames.CASES,
+    *limits.CASES,
+    *waiting.CASES,
+    *random_clients.CASES,
+    *kept_cases.CASES,
+]

@@ -31,6 +31,7 @@ class Fault(Exception):
 
 RANDOM = "random runs and kills take minutes"
 LIMITED = "the program's checks take more memory than is allowed"
+KEEPS = "the program's checks keep memory that is given back"
 
 
 class CannotBeTried(Exception):
@@ -88,9 +89,11 @@ def reply(words):
 class Client:
     """A connection to a broker."""
 
-    def __init__(self, at, room=None):
-        """With `room`, so many bytes are taken that nobody reads, and no more."""
+    def __init__(self, at, room=None, host=None):
+        """With `room`, so many bytes are taken that nobody reads, and no more; with `host`, that is the client's own address."""
         self.socket = socket.socket(socket.AF_INET6 if ":" in at[0] else socket.AF_INET)
+        if host is not None:
+            self.socket.bind((host, 0))
         if room is not None:
             self.socket.setsockopt(socket.SOL_SOCKET, socket.SO_RCVBUF, room)
         self.socket.settimeout(SECONDS)
@@ -264,12 +267,12 @@ class Started:
         self.process.send_signal(by)
         return self.process.wait(SECONDS)
 
-    def client(self, room=None):
-        return Client(self.at, room)
+    def client(self, room=None, host=None):
+        return Client(self.at, room, host)
 
-    def clients(self, count):
+    def clients(self, count, host=None):
         """So many connections, each opened after the one before, which is the order in which they are accepted."""
-        return [self.client() for _ in range(count)]
+        return [self.client(host=host) for _ in range(count)]
 
     def ends(self, count=0, seconds=SECONDS):
         """What is said of connections' ends, once so many have ended."""

@@ -121,6 +121,63 @@ def least_bytes(program):
         consumer.gets(reply("fetched t:0 0 1 batch a=1"))
 
 
+def record(number, size):
+    """The words of a record whose value has so many bytes."""
+    return f"k{number}={{x*{size}}}"
+
+
+def stores(broker, place, sizes, first=0):
+    """Produces a batch with a record of each of these sizes to a partition that has so many."""
+    with broker.client() as producer:
+        for number, size in enumerate(sizes, first):
+            produce(producer, place, number, record(number, size))
+
+
+def given(place, end, sizes):
+    """What is answered of a partition: the first of its batches."""
+    return f"fetched {place} 0 {end} " + " + ".join(f"batch base:{number} {record(number, size)}" for number, size in enumerate(sizes))
+
+
+def limits_leave_out(program):
+    """Where a limit leaves out a batch that is there, it is answered at once, though what is given has fewer bytes than it asks
+    for: a partition's limit, that of the request, and that of each response, 8,388,608 bytes."""
+    some, much = [600] * 3, 52_428_800
+    for limit, stored, asked, wanted in (
+        ("a partition's, as of a consumer", {"t:0": [600_000] * 3}, f"max={much} min=700000 t:0 0 1048576", [given("t:0", 3, [600_000])]),
+        ("a partition's", {"t:0": some}, "min=900 t:0 0 800", [given("t:0", 3, [600])]),
+        ("a partition's, below its first batch", {"t:0": some}, "min=900 t:0 0 10", [given("t:0", 3, [600])]),
+        ("a partition's, below another's batch", {"t:0": [1], "t:1": some}, "min=900 t:0 0 | t:1 0 10", [given("t:0", 1, [1]), "t:1 0 3"]),
+        ("the request's", {"t:0": some}, "max=800 min=700 t:0 0", [given("t:0", 3, [600])]),
+        ("the request's, of two partitions", {"t:0": [600], "t:1": some}, "max=800 min=700 t:0 0 | t:1 0", [given("t:0", 1, [600]), "t:1 0 3"]),
+        ("the response's", {"t:0": [1_000_000] * 9}, f"max={much} min={much} t:0 0 {much}", [given("t:0", 9, [1_000_000] * 8)]),
+    ):
+        with Started(program) as broker, broker.client() as consumer:
+            for place, sizes in stored.items():
+                stores(broker, place, sizes)
+            consumer.send(request(f"fetch wait={LONG} {asked}"))
+            consumer.gets(reply(" | ".join(wanted)), f"the reply where the limit is {limit}")
+
+
+def all_is_given(program):
+    """Where no batch is left out it waits for as many bytes as it asks for, or as it takes, whatever the limits. The next batch makes
+    it due, be it left out or given."""
+    one, much = len(request(f"batch {record(0, 600)}")), 52_428_800
+    for in_all, least, limit, count in (
+        (much, 900, 800, 1),
+        (much, 900, one, 1),
+        (much, 900, 10, 1),
+        (one + 1, much, much, 1),
+        (2 * one, much, much, 2),
+        (much, 2 * one, much, 2),
+    ):
+        asked = f"max={in_all} min={least} t:0 0 {limit}"
+        with Started(program) as broker, broker.client() as consumer:
+            stores(broker, "t:0", [600])
+            waits(consumer, request(f"fetch wait={LONG} {asked}"))
+            stores(broker, "t:0", [600], 1)
+            consumer.gets(reply(given("t:0", 2, [600] * count)), f"the reply to {asked}")
+
+
 def trim_makes_due(program):
     """A start that is moved above the offset that is asked for."""
     with Started(program) as broker, broker.client() as consumer, broker.client() as other:
@@ -153,23 +210,16 @@ def import_makes_due(program):
         consumer.gets(reply("fetched t:0 0 1 batch base:0 a=1"))
 
 
-def clean_makes_due(program):
-    """What a cleaning takes from a batch makes room in the response for another batch: of another partition, within the bytes that
-    all may have, and of the same one, within its own. A cleaning that takes nothing doesn't."""
+def clean_leaves_waiting(program):
+    """A cleaning takes bytes away and adds none, so the Fetch waits on. It is answered with what is kept once more has come."""
     whole, thinned, behind = "a={x*400} a=1", "batch last:1 a=1;delta:1", "b={y*600}"
-    room = len(request(f"{thinned} && batch {behind}"))  # more than the whole batch, and less than that and the other one
-    for partition, base, entries, wanted in (
-        (1, 0, f"max={room} wait={LONG} min={room} t:0 0 | t:1 0", f"t:0 0 2 {thinned} | t:1 0 1 batch {behind}"),
-        (0, 2, f"wait={LONG} min={room} t:0 0 {room}", f"t:0 0 3 {thinned} + batch base:2 {behind}"),
-    ):
-        with Started(program) as broker, broker.client() as consumer, broker.client() as other:
-            produce(other, "t:0", 0, whole)
-            produce(other, f"t:{partition}", base, behind)
-            waits(consumer, request(f"fetch {entries}"))
-            other.ask("clean t:0 1 0", "cleaned 0 0 0 0")
-            holds("a reply comes to a cleaning that takes nothing", consumer.gets_nothing(BRIEF))
-            other.ask("clean t:0 2 0", "cleaned 0 1 0 0")
-            consumer.gets(reply(f"fetched {wanted}"))
+    with Started(program) as broker, broker.client() as consumer, broker.client() as other:
+        produce(other, "t:0", 0, whole)
+        waits(consumer, fetch("t:0 0", least=len(request(f"{thinned} && batch {behind}"))))
+        other.ask("clean t:0 2 0", "cleaned 0 1 0 0")
+        holds("a reply comes to a cleaning", consumer.gets_nothing(BRIEF))
+        produce(other, "t:0", 2, behind)
+        consumer.gets(reply(f"fetched t:0 0 3 {thinned} + batch base:2 {behind}"))
 
 
 def without_acknowledgement(program):
@@ -340,13 +390,43 @@ def a_thousand(program):
             it.close()
 
 
+def produced_to(broker, producer, place, first):
+    """The processor time of 500 produces to a partition, from this offset on."""
+    before = broker.processor_seconds()
+    for number in range(first, first + 500):
+        produce(producer, place, number, "c=3")
+    return broker.processor_seconds() - before
+
+
+def many_partitions(program):
+    """A produce beside a Fetch that waits for 4,031 partitions costs at most twice what it costs alone: to a partition for which that
+    doesn't wait, and to its own, where it lacks much, and where the next batch makes it due."""
+    places = [f"t{topic}:{number}" for topic in range(63) for number in range(64)]
+    asked = " | ".join(f"{place} 0" for place in places[1:])
+    one = len(request("batch c=3"))
+    with Started(program, topics=tuple(f"t{topic}:64" for topic in range(63))) as broker, broker.client() as producer:
+        alone = produced_to(broker, producer, places[0], 0)
+        # The last one finds the 500 batches that the one before it brought.
+        for least, place, first in ((1, places[0], 500), (8_388_608, places[1], 0), (1_001 * one, places[2], 0)):
+            with broker.client() as consumer:
+                comes_to_wait(consumer, request(f"fetch max=52428800 wait={LONG} min={least} {asked}"))
+                beside = produced_to(broker, producer, place, first)
+                words = f"500 produces take {alone} s of processor time, beside a fetch of 4,031 partitions with min {least} {beside} s"
+                holds(words, beside < 2 * alone + 0.1)
+                holds("a reply comes to what must wait", consumer.gets_nothing(BRIEF))
+                if least == 1_001 * one:
+                    produce(producer, place, 500, "c=3")
+                    consumer.receive(1)
+
+
 def most_held(program):
-    """What is kept of frames that wait counts as held; where all hold too much the largest ends."""
-    with Started(program, "--most-held", "400000") as broker, broker.client() as producer:
+    """What is kept of frames that wait counts as held, by partitions; where all hold too much the largest ends."""
+    places = [f"{topic}:{number} 0" for topic in "tu" for number in range(64)]
+    with Started(program, "--most-held", "130000", topics=("t:64", "u:64")) as broker, broker.client() as producer:
         waiting = broker.clients(3)
-        for entries, it in zip((1_000, 2_000), waiting):
-            comes_to_wait(it, fetch(f"each {entries} t:0 0"))
-        waiting[2].send(fetch("each 3000 t:0 0"))
+        for count, it in zip((40, 80), waiting):
+            comes_to_wait(it, fetch(" | ".join(places[:count])))
+        waiting[2].send(fetch(" | ".join(places[:120])))
         same("what a client gets that holds too much", waiting[2].rest(), b"")
         broker.tells(3, waiting[2], "most held")
         produce(producer, "t:0", 0, "a=1")
@@ -362,10 +442,12 @@ CASES = [
     ("a broker that rests while a fetch waits", rests_meanwhile),
     ("fetches' times in their order", times_in_their_order),
     ("the least bytes of a fetch", least_bytes),
+    ("a fetch of which a limit leaves out a batch", limits_leave_out),
+    ("a fetch that is given all that is there", all_is_given),
     ("a trim makes a fetch due", trim_makes_due),
     ("a commit makes a fetch due", commit_makes_due),
     ("an import makes a fetch due", import_makes_due),
-    ("a cleaning makes a fetch due", clean_makes_due),
+    ("a cleaning while a fetch waits", clean_leaves_waiting),
     ("a fetch and a produce without acknowledgement", without_acknowledgement),
     ("a fetch that waits behind large replies", behind_much),
     ("fetches that are answered at once", at_once),
@@ -376,5 +458,6 @@ CASES = [
     ("resets as fetches are woken", reset_as_it_is_woken),
     ("idle and waiting", idle),
     ("a thousand fetches that wait", a_thousand),
+    ("a produce beside a fetch of many partitions", many_partitions),
     ("more held than allowed, and waiting", most_held),
 ]

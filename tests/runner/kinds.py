@@ -14,6 +14,7 @@ FUNCTIONS = {
     TABLE: "the table itself",
     ("broker_node/src/changes.rt", "is_dear"): "which requests may take long, also of those that only read",
     ("broker_node/src/handling.rt", "reply_to"): "the dispatch: each kind goes to the function that answers it",
+    ("sessions/src/waiting.rt", "effect_of"): "which only append, so that it is told who waits on; of any other nothing is taken for known",
     ("request_frames/src/api.rt", "listed"): "the table of keys: those that a client is told of",
     ("request_frames/src/api.rt", "key"): "the table of keys",
     ("request_frames/src/api.rt", "version"): "the table of keys: the versions",

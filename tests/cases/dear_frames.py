@@ -1,0 +1,111 @@
+"""Frames that take long, to `kbroker start`: behind each the other clients have their turn, and idle counts from an answer on."""
+import itertools
+import signal
+import struct
+import time
+
+from cases.started import Fault, Started, holds, reply, request, same
+
+RECORDS, PIECE = 250, 20  # records of a batch, and batches that are sent in one piece
+CLEANED = reply("cleaned 0 0 0 0")  # where each record is the only one of its key
+IDLE = 3  # seconds
+NAMES = 2_700_000  # of a Metadata
+
+
+def fill(client, first, count=PIECE):
+    """Puts so many batches into partition 0, the first of which has this number; each record has a key of its own."""
+    bases = range(first * RECORDS, (first + count) * RECORDS, RECORDS)
+    keys = [[f"k{offset}=v" for offset in range(base, base + RECORDS)] for base in bases]
+    client.send(b"".join(request(f"produce t:0 batch {' '.join(it)}") for it in keys))
+    client.gets(b"".join(reply(f"produced t:0 0 {base}") for base in bases), "the replies to Produces")
+
+
+def cleans():
+    """Cleans, no two of which are the same: each has to look through the log."""
+    return (request(f"clean t:0 {upto} 0") for upto in itertools.count(1_000_000, -1))
+
+
+def many_in_one_piece(program):
+    """Thirty Cleans come in one piece, which one read takes, and then a Produce of another client, before the broker looks at either.
+    The record has the key of one that is there, so the first Clean behind it takes that one: few Cleans come before. All are
+    answered, though nothing more comes of the first client."""
+    count = 30
+    with Started(program) as broker, broker.client() as dear, broker.client() as other:
+        fill(dear, 0)
+        frames = cleans()
+        broker.process.send_signal(signal.SIGSTOP)
+        dear.send(b"".join(itertools.islice(frames, count)))
+        other.send(request("produce t:0 batch k0=w"))
+        broker.process.send_signal(signal.SIGCONT)
+        other.gets(reply(f"produced t:0 0 {PIECE * RECORDS}"))
+        told = [dear.receive(len(CLEANED)) for _ in range(count)]
+        others = [number for number, it in enumerate(told) if it != CLEANED]
+        same("the replies to Cleans that take something", [told[it] for it in others], [reply("cleaned 0 1 0 0")])
+        holds(f"{others[0]} of {count} Cleans were answered before another client's request", others[0] <= 2)
+
+
+def cheap_ones_behind(program):
+    """Behind a Clean stand requests of other kinds, another Clean, and the first half of a frame: all are answered, in order."""
+    with Started(program) as broker, broker.client() as client:
+        fill(client, 0)
+        frames, half = cleans(), request("versions")[:7]
+        client.send(next(frames) + request("versions") * 3 + next(frames) + next(frames) + request("versions") + half)
+        client.gets(CLEANED + reply("versions 0") * 3 + CLEANED * 2 + reply("versions 0"))
+        client.send(request("versions")[7:])
+        client.gets(reply("versions 0"))
+        client.send(next(frames) + request("versions"))
+        client.stop()
+        client.gets_to_the_end(CLEANED + reply("versions 0"))
+
+
+def long_one():
+    """A Metadata with so many names that it takes a while, with its size in front."""
+    one = request("metadata x")
+    body = one[4:-7] + struct.pack(">i", NAMES) + one[-3:] * NAMES
+    return struct.pack(">i", len(body)) + body
+
+
+def comes_behind(broker, dear, other, frame):
+    """The last byte of a long frame comes, and then another client's request, before the broker looks at either. Tells whether the
+    other one waits for the long one, as it does unless the broker looks at it first; then the broker stands still."""
+    dear.send(frame[:-1])
+    broker.rests("all of a long frame but its last byte came")
+    broker.process.send_signal(signal.SIGSTOP)
+    dear.send(frame[-1:])
+    other.send(request("versions"))
+    broker.process.send_signal(signal.SIGCONT)
+    waits = other.gets_nothing(0.05)
+    if waits:
+        broker.process.send_signal(signal.SIGSTOP)
+    return waits
+
+
+def not_idle_behind_others(program):
+    """While one client's frame is answered the broker stands still for longer than a client may be idle. Another one that is answered
+    behind that, in the same round, isn't idle half that time later."""
+    frame = long_one()
+    with Started(program, "--idle", str(IDLE)) as broker, broker.client() as dear, broker.client() as other:
+        for _ in range(20):
+            if comes_behind(broker, dear, other, frame):
+                break
+            other.gets(reply("versions 0"))
+            dear.receive(int.from_bytes(dear.receive(4), "big"))
+        else:
+            raise Fault("no request came behind a long frame")
+        time.sleep(IDLE + 0.5)
+        broker.process.send_signal(signal.SIGCONT)
+        other.gets(reply("versions 0"))
+        answered = time.monotonic()
+        dear.receive(int.from_bytes(dear.receive(4), "big"))
+        time.sleep(max(0, answered + IDLE / 2 - time.monotonic()))
+        ended = [line for line in broker.lines if other.address in line]
+        if time.monotonic() < answered + 0.9 * IDLE:  # (else the machine is too slow to tell)
+            same("the ends of a client that was answered a moment ago", ended, [])
+            other.ask("versions", "versions 0")
+
+
+CASES = [
+    ("many dear frames in one piece, and another client", many_in_one_piece),
+    ("other frames behind dear ones", cheap_ones_behind),
+    ("a client that was answered behind a long round", not_idle_behind_others),
+]
