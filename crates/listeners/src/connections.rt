@@ -14,7 +14,7 @@ use mio::{Interest, Registry, Token};
 use std::alloc::Global;
 use std::collections::VecDeque;
 use std::io::{Error, Result};
-use std::net::{Shutdown, SocketAddr};
+use std::net::{IpAddr, Shutdown, SocketAddr};
 use std::time::{Duration, Instant};
 
 /// How many bytes a partition counts for which a frame waits: where none waits for it beside, what the sessions keep of it takes as
@@ -78,7 +78,7 @@ pub(crate) struct Connections<B: ServedSessions> {
     /// The numbers of those whose session is over, in the order in which they are closed, and of some that are closed.
     parting: VecDeque<u64>,
     /// How many connections each address has, and how many bytes are kept for these.
-    addresses: Addresses,
+    addresses: Addresses<IpAddr>,
     /// How many bytes are kept for all.
     kept: u64,
     /// The number of the connection on which something moved since the clock was read last, if one did.
@@ -290,7 +290,7 @@ impl<B: ServedSessions> Connections<B> {
 
     /// Why a connection has failed whose frame waits: nothing that is held behind it is answered.
     fn failure(&self, number: u64, connection: &Connection) -> Option<Ending> {
-        if !connection.is_failed || self.sessions.awaited(number) == 0 {
+        if !connection.is_failed || !self.sessions.is_waiting(number) {
             return None;
         }
         let why = connection.stream.take_error().ok()??;
@@ -552,7 +552,7 @@ impl<B: ServedSessions> Connections<B> {
             return None;
         }
         let number = *number;
-        if connection.is_put_off || self.sessions.awaited(number) > 0 {
+        if connection.is_put_off || self.sessions.is_waiting(number) {
             self.by_number.get_mut(&number)?.moved = now;
             return None;
         }

@@ -55,6 +55,8 @@ pub(crate) trait ServedSessions {
 
     fn next_woken(&mut self, clock: u64) -> Option<u64>;
 
+    fn is_waiting(&self, number: u64) -> bool;
+
     fn awaited(&self, number: u64) -> usize;
 
     fn next_due(&self) -> Option<u128>;
@@ -112,6 +114,10 @@ impl<S: BatchStore> ServedSessions for Sessions<S, Global> {
 
     fn next_woken(&mut self, clock: u64) -> Option<u64> {
         self.next_woken(clock)
+    }
+
+    fn is_waiting(&self, number: u64) -> bool {
+        self.is_waiting(number)
     }
 
     fn awaited(&self, number: u64) -> usize {
@@ -262,6 +268,10 @@ impl<S: BatchStore + Drop, D: Directory + Drop> ServedSessions for Kept<S, D> {
             return self.put_off.pop_front();
         }
         self.keeper.next_woken(clock)
+    }
+
+    fn is_waiting(&self, number: u64) -> bool {
+        self.keeper.is_waiting(number)
     }
 
     fn awaited(&self, number: u64) -> usize {

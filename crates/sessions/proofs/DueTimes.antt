@@ -1,5 +1,5 @@
 -- Times that are over first, and those that aren't over.
-use Rattle.std.proofs.Common.{◌≡◌, ℕ, ◌<◌, ◌≤◌, arith, true, false, List, [], ◌∷◌, length, get_or, leb, nat_cmp, refl, ap}
+use Rattle.std.proofs.Common.{◌≡◌, ℕ, ◌<◌, ◌≤◌, arith, true, false, List, [], ◌∷◌, length, get_or, leb, nat_cmp, Option, Some, None, IfSome, MatchOption, refl, ap}
 use Rattle.std.specs.List.{All}
 use Rattle.std.specs.Ordering.{is_gt, ordering_then}
 use Rattle.std.proofs.lemmas.Bool.{false≢true}
@@ -27,3 +27,10 @@ pub none_at_all : (clock : ℕ) (times : List (ℕ × ℕ)) → times ≡ [] →
 none_at_all clock times none = λ k d l.
     let long : length times ≡ 0 = ap length none in
     absurd (omega (arith, long, l))
+
+-- none is over before the first
+pub before_first : (clock : ℕ) (first : Option ℕ) (times : List (ℕ × ℕ)) → MatchOption first (times ≡ []) (λ due. All (λ (t : ℕ × ℕ). due ≤ t.0) times) → IfSome first (λ due. clock < due) → All (λ (t : ℕ × ℕ). clock < t.0) times
+before_first clock None times none before = none_at_all clock times none
+before_first clock (Some due) times all before = λ k d l.
+    let from : due ≤ (get_or times k d).0 = all k d l in
+    omega (arith, from, before)

@@ -17,8 +17,8 @@ use Rattle.request_frames.specs.Requests.BodyValue.{fetch}
 use Rattle.broker_state.specs.State.{State}
 use Rattle.fetch_waits.specs.Waiting.{awaited_bytes}
 use Rattle.sessions.specs.Waiting.{WaitState, WaitingState, asleep_at, unnamed, unnamed_at, wait_at}
-use Rattle.sessions.specs.Asleep.{AsksFirst}
-use Rattle.sessions.specs.Joining.{AreCounted, Entry, Joins, entries_in, is_time}
+use Rattle.sessions.specs.Asleep.{AsksFirst, has_time}
+use Rattle.sessions.specs.Joining.{AreCounted, Entry, Joins, entries_in}
 use Rattle.sessions.proofs.Joining.{is_time_in}
 
 -- ---- times
@@ -66,7 +66,7 @@ module _ (r : Result (Unit {0}) AllocError) (s : State) (k : ℕ) (mid new : Wai
   on_ok (Ok x) p = p
   on_ok (Err e) p = tt
 
-  pub still_listed : (time : ℕ × ℕ) → is_time time mid ≡ true → OnOk r (is_time time new ≡ true)
+  pub still_listed : (time : ℕ × ℕ) → has_time time mid.times ≡ true → OnOk r (has_time time new.times ≡ true)
   still_listed time known = on_ok r ((joins time).times time known)
 
   pub still_waits : (wait : WaitState) → wait_at mid.waits k ≡ Some wait → wait.is_named ≡ false → OnOk r (is_some (unnamed_at new.waits k) ≡ true)

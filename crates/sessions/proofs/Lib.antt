@@ -18,6 +18,7 @@ mod Requested
 mod Joined
 mod DueTimes
 mod Booleans
+mod Standers
 mod Standing
 mod Sharing
 mod Marked

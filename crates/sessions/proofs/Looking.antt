@@ -2,6 +2,7 @@
 use Rattle.std.proofs.Common.{◌≡◌, ℕ, ℤ, ◌+◌, ◌*◌, ◌-◌, ◌<◌, ◌≤◌, ◌⊎◌, inl, inr, arith, Bool, true, false, List, length, Option, Some, None, sym, ap, subst, refl, ◌∙◌}
 use Rattle.std.specs.Prelude.{◌&&◌, nat_eq, bytes_eq, if◌then◌else◌}
 use Rattle.std.specs.List.{list_any}
+use Rattle.std.specs.Map.{lookup}
 use Rattle.std.specs.Option.{option_map}
 use Rattle.std.specs.Ordering.{int_eq}
 use Rattle.std.proofs.lemmas.Bool.{false≢true}
@@ -19,10 +20,10 @@ use Rattle.fetch_waits.proofs.Sleeping.{grows_nothing, less_room, sleeps_less}
 use Rattle.sessions.specs.declared.waits.PartitionKey.{PartitionKey}
 use Rattle.sessions.specs.declared.waits.Share.{Share}
 use Rattle.sessions.specs.declared.waiting.Noted.{Noted}
-use Rattle.sessions.specs.Waiting.{GoesOn, StandState, WaitState, WaitingState, asleep_at, is_same_key, kept, key_of, place_of, share_in, stand_at, wait_at}
+use Rattle.sessions.specs.Waiting.{GoesOn, StandState, StandersWait, WaitState, WaitingState, asleep_at, is_same_key, kept, key_of, place_of, share_at, share_in, stand_at, wait_at}
 use Rattle.sessions.specs.Asleep.{AllWaitOn, EndsAre, Stands, WaitsOn, count_in}
 use Rattle.sessions.specs.Growing.{Looks, LooksAt, Sees, StaysAsleep, is_at}
-use Rattle.sessions.proofs.Standing.{same_key}
+use Rattle.sessions.proofs.Standers.{places_kept, same_key, share_of}
 use Rattle.sessions.proofs.Growth.{FindsIn, at_place, by_one, came, find_in, fits_behind, one_at, one_grows, sleeps_by, sleeps_same}
 
 other_key : (x y : PartitionKey) → is_same_key x y ≡ false → is_same_key y x ≡ false
@@ -248,7 +249,16 @@ module _ (s after : State) (noted : Noted) (key : PartitionKey) (now next : Cont
   own_behind k wait own at = by (wait_at old.waits k) refl (sym (looks.dues k) ∙ ap (option_map kept) at) where
     by : (was : Option WaitState) → wait_at old.waits k ≡ was → option_map kept was ≡ Some (kept wait) → wait.due.1 ≡ k
     by None is same = absurd (none-some (kept wait) same)
-    by (Some was) is same = ap (λ (x : (ℕ × ℕ) × Bool). x.0.1) (sym (same_Some (kept was) (kept wait) same)) ∙ own was is
+    by (Some was) is same = ap (λ (x : (ℕ × ℕ) × Bool × List PartitionKey). x.0.1) (sym (same_Some (kept was) (kept wait) same)) ∙ own was is
+
+  standers_behind : StandersWait old → StandersWait new
+  standers_behind stand = record { none = λ other k away. by other k (is_same_key key other) refl (stand.none other k (places_kept other (wait_at old.waits k) (wait_at new.waits k) (sym (looks.dues k)) ∙ away)) } where
+    by : (other : PartitionKey) (k : ℕ) (b : Bool) → is_same_key key other ≡ b → share_at old other k ≡ None → share_at new other k ≡ None
+    by other k true is none =
+        let this = same_key key other is in
+        ap (λ (x : PartitionKey). share_at new x k) (sym this) ∙ ap (share_of k) looks.is ∙ ap (lookup (nat_eq k)) looks.counts.shares
+        ∙ ap (share_of k) (sym looks.was) ∙ ap (λ (x : PartitionKey). share_at old x k) this ∙ none
+    by other k false isnt none = ap (share_of k) (looks.others other isnt) ∙ none
 
   pub looked : (asked : ℕ → FetchValue) → AllWaitOn s now old asked → AllWaitOn s next new asked
   looked asked all = record {
@@ -260,4 +270,5 @@ module _ (s after : State) (noted : Noted) (key : PartitionKey) (now next : Cont
         ap (λ (d : ℕ × ℕ). list_any (λ (time : ℕ × ℕ). nat_eq d.0 time.0 && nat_eq d.1 time.1) new.times) was.2
         ∙ ap (list_any (λ (time : ℕ × ℕ). nat_eq was.0.due.0 time.0 && nat_eq was.0.due.1 time.1)) looks.times
         ∙ all.times k was.0 was.1;
+    standers = standers_behind all.standers;
   }

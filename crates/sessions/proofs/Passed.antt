@@ -126,6 +126,7 @@ module _ (s after : State) (noted : Noted) (ps : List TopicPartition) (leaves : 
           };
       own = all.own;
       times = all.times;
+      standers = all.standers;
     }
 
 -- ---- who sleeps then
@@ -198,7 +199,7 @@ named_kept : (x y : Option WaitState) → option_map kept x ≡ option_map kept 
 named_kept None None same = refl
 named_kept None (Some y) same = absurd (none-some (kept y) same)
 named_kept (Some x) None same = absurd (none-some (kept x) (sym same))
-named_kept (Some x) (Some y) same = ap (λ (d : (ℕ × ℕ) × Bool). Some d.1) (same_Some (kept x) (kept y) same)
+named_kept (Some x) (Some y) same = ap (λ (d : (ℕ × ℕ) × Bool × List PartitionKey). Some d.1) (same_Some (kept x) (kept y) same)
 
 -- behind all, and once one has left, which is any
 pub others_wait : (number : ℕ) (old mid new : WaitsState) → KeepsDues old mid → HasSlept old mid → ((k : ℕ) → k ≢ number → wait_at new k ≡ wait_at mid k) → ((k : ℕ) → k ≢ number → asleep_at new k ≡ asleep_at mid k) → OthersWait number old new

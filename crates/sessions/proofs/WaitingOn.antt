@@ -19,9 +19,9 @@ use Rattle.fetch_waits.specs.Waiting.{awaited_bytes, fetch_waits}
 use Rattle.fetch_waits.specs.Sleeping.{Allows, Contents, FitsRoom, RoomsIn, RoomsOf, is_asked, there_at, there_in, there_of}
 use Rattle.fetch_waits.proofs.Sleeping.{begins_to_sleep}
 use Rattle.sessions.specs.declared.waits.Share.{Share}
-use Rattle.sessions.specs.Waiting.{StandState, WaitState, WaitingState, WaitsState, asleep_at, asleep_if, is_behind, key_of, share_in, stand_at, unnamed, unnamed_at, wait_at}
-use Rattle.sessions.specs.Asleep.{AllWaitOn, AsksFirst, Covers, Stands, WaitsOn, count_in, count_of}
-use Rattle.sessions.specs.Joining.{AreCounted, CoversAll, Entry, HasCounted, Joins, count_for, entries_in, entries_of, is_time, there_for}
+use Rattle.sessions.specs.Waiting.{StandState, StandersWait, WaitState, WaitingState, WaitsState, asleep_at, asleep_if, is_behind, key_of, share_in, stand_at, unnamed, unnamed_at, wait_at}
+use Rattle.sessions.specs.Asleep.{AllWaitOn, AsksFirst, Covers, Stands, WaitsOn, count_in, count_of, has_time}
+use Rattle.sessions.specs.Joining.{AreCounted, CoversAll, Entry, HasCounted, Joins, count_for, entries_in, entries_of, there_for}
 use Rattle.sessions.proofs.Counting.{count_append, there_append}
 use Rattle.sessions.proofs.Missing.{some_missing}
 
@@ -207,13 +207,14 @@ still_unnamed w k some = by (asleep_at w k) refl some where
   by None is some = absurd (false≢true some)
   by (Some wait) is some = (asleep_is (is_behind w k) (wait_at w k) wait is).1
 
-all_by : (s : State) (k : ℕ) (due : ℕ × ℕ) (old new : WaitingState) (asked : ℕ → FetchValue) → AllWaitOn s (content_at s) old asked → Joins s k due old new → wait_at old.waits k ≡ None → due.1 ≡ k
-    → ((wait : WaitState) → asleep_at new.waits k ≡ Some wait → WaitsOn s (content_at s) new k wait (asked k) × (is_time wait.due new ≡ true)) → AllWaitOn s (content_at s) new asked
-all_by s k due old new asked all joins none number this = record {
+all_by : (s : State) (k : ℕ) (due : ℕ × ℕ) (old new : WaitingState) (asked : ℕ → FetchValue) → AllWaitOn s (content_at s) old asked → Joins s k due old new → StandersWait new → wait_at old.waits k ≡ None → due.1 ≡ k
+    → ((wait : WaitState) → asleep_at new.waits k ≡ Some wait → WaitsOn s (content_at s) new k wait (asked k) × (has_time wait.due new.times ≡ true)) → AllWaitOn s (content_at s) new asked
+all_by s k due old new asked all joins standers none number this = record {
   ends = joins.ends all.ends;
   each = λ j wait at. each j wait at (nat_eq j k) refl;
   own = λ j wait at. own j wait at (nat_eq j k) refl;
   times = λ j wait at. times j wait at (nat_eq j k) refl;
+  standers = standers;
 } where
   same : (j : ℕ) → nat_eq j k ≡ true → j ≡ k
   same j is = grind (arith, is)
@@ -231,7 +232,7 @@ all_by s k due old new asked all joins none number this = record {
       ap (λ (d : ℕ × ℕ). d.1) dues ∙ number ∙ sym (same j is)
   own j wait at false is = all.own j wait (sym (joins.waits j (differs j is)) ∙ at)
 
-  times : (j : ℕ) (wait : WaitState) → asleep_at new.waits j ≡ Some wait → (t : Bool) → nat_eq j k ≡ t → is_time wait.due new ≡ true
+  times : (j : ℕ) (wait : WaitState) → asleep_at new.waits j ≡ Some wait → (t : Bool) → nat_eq j k ≡ t → has_time wait.due new.times ≡ true
   times j wait at true is = (this wait (subst (λ (n : ℕ). asleep_at new.waits n ≡ Some wait) (same j is) at)).1
   times j wait at false is = joins.times wait.due (all.times j wait (sym (joins.asleep j (differs j is)) ∙ at))
 
@@ -239,19 +240,19 @@ all_by s k due old new asked all joins none number this = record {
 its_time : (s : State) (k : ℕ) (due : ℕ × ℕ) (old new : WaitingState) (wait : WaitState) → Joins s k due old new → wait_at old.waits k ≡ None → asleep_at new.waits k ≡ Some wait → wait.due ≡ due
 its_time s k due old new wait joins none at = joins.due_is (λ was had. absurd (none-some was (sym none ∙ had))) wait (asleep_waits new k wait at)
 
-module _ (s : State) (k due : ℕ) (held : List ℕ) (old new : WaitingState) (asked : ℕ → FetchValue) (all : AllWaitOn s (content_at s) old asked) (joins : Joins s k (due, k) old new) (none : wait_at old.waits k ≡ None) where
+module _ (s : State) (k due : ℕ) (held : List ℕ) (old new : WaitingState) (asked : ℕ → FetchValue) (all : AllWaitOn s (content_at s) old asked) (joins : Joins s k (due, k) old new) (standers : StandersWait new) (none : wait_at old.waits k ≡ None) where
   -- it has joined
-  pub all_joined : (r : Result (Unit {0}) AllocError) → is_err r ≡ false → OnOk r (is_time (due, k) new ≡ true) → OnOk r ((q : FetchValue) → AsksFirst held q → AreCounted s new k (awaited_bytes q) (entries_in q.topics))
+  pub all_joined : (r : Result (Unit {0}) AllocError) → is_err r ≡ false → OnOk r (has_time (due, k) new.times ≡ true) → OnOk r ((q : FetchValue) → AsksFirst held q → AreCounted s new k (awaited_bytes q) (entries_in q.topics))
       → AsksFirst held (asked k) → fetch_waits s (asked k) ≡ true → AllWaitOn s (content_at s) new asked
   all_joined (Err e) fine listed counted asks waits = absurd (true≢false fine)
-  all_joined (Ok x) fine listed counted asks waits = all_by s k (due, k) old new asked all joins none refl (λ wait at. (
+  all_joined (Ok x) fine listed counted asks waits = all_by s k (due, k) old new asked all joins standers none refl (λ wait at. (
     waits_on s new k wait (asked k) (counted (asked k) asks wait at) waits,
-    ap (λ (time : ℕ × ℕ). is_time time new) (its_time s k (due, k) old new wait joins none at) ∙ listed,
+    ap (λ (time : ℕ × ℕ). has_time time new.times) (its_time s k (due, k) old new wait joins none at) ∙ listed,
   ))
 
   -- it was woken
   pub all_woken : asleep_at new.waits k ≡ None → AllWaitOn s (content_at s) new asked
-  all_woken woken = all_by s k (due, k) old new asked all joins none refl (λ wait at. absurd (none-some wait (sym woken ∙ at)))
+  all_woken woken = all_by s k (due, k) old new asked all joins standers none refl (λ wait at. absurd (none-some wait (sym woken ∙ at)))
 
 -- when its time is over
 pub due_by : (s : State) (k due : ℕ) (old mid new : WaitingState) → Joins s k (due, k) mid new → wait_at mid.waits k ≡ None → IfSome (asleep_at new.waits k) (λ wait. (wait.due.0 ≡ due) ⊎ (asleep_at old.waits k ≡ Some wait))

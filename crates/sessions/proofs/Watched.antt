@@ -1,6 +1,6 @@
 -- What is known of all sessions and of who waits, behind each call.
 use Rattle.std.proofs.Common.{◌≡◌, ◌≢◌, ℕ, suc, ◌+◌, ◌<◌, arith, Bool, true, false, Option, Some, None, List, [], ◌∷◌, sym, ap, subst, refl, ◌∙◌, append-nil}
-use Rattle.std.specs.Prelude.{nat_eq, pos, ◌&&◌, ◌||◌, All, IfNone, IfSome, MatchOption}
+use Rattle.std.specs.Prelude.{nat_eq, pos, ◌&&◌, ◌||◌, All, is_some, IfNone, IfSome, IsSome, MatchOption}
 use Rattle.std.specs.List.{list_any}
 use Rattle.std.specs.Option.{option_map}
 use Rattle.std.proofs.lemmas.Bool.{true≢false}
@@ -13,11 +13,12 @@ use Rattle.fetch_waits.specs.Waiting.{fetch_waits, wait_of}
 use Rattle.fetch_waits.proofs.Sleeping.{sleeps_now}
 use Rattle.sessions.specs.declared.waits.PartitionKey.{PartitionKey}
 use Rattle.sessions.specs.Turns.{IsWaiting, SessionState}
-use Rattle.sessions.specs.Orders.{NobodyIsDue, OthersSleepOn, SessionsState, World, is_asleep, session_at}
+use Rattle.sessions.specs.Orders.{NobodyIsDue, OthersSleepOn, SessionsState, World, is_asleep, is_waiting, session_at}
 use Rattle.sessions.specs.Waiting.{WaitState, WaitsState, WaitingState, asleep_at, asleep_if, is_behind, named_at, names_of, stand_at, unnamed_at, wait_at}
 use Rattle.sessions.specs.Asleep.{AllWaitOn, AsksFirst, KeepsWatch, OthersWait, Watches}
 use Rattle.sessions.specs.Watched.{IsWatched}
-use Rattle.sessions.proofs.Watching.{is_unnamed, named_awake, named_is, nobody_named, none_asleep, sleeps_unnamed, still_none, watch_held}
+use Rattle.sessions.proofs.Standers.{share_of}
+use Rattle.sessions.proofs.Watching.{is_unnamed, named_awake, named_is, nobody_named, none_asleep, sleeps_unnamed, still_none, unnamed_sleeps, watch_held}
 
 -- ---- nobody waits yet
 
@@ -32,6 +33,7 @@ watched_new world w unopened none nobody = record {
     each = λ k wait is. absurd (none-some wait (sym (none_asleep w.waits k (none k)) ∙ is));
     own = λ k wait is. absurd (none-some wait (sym (none k) ∙ is));
     times = λ k wait is. absurd (none-some wait (sym (none_asleep w.waits k (none k)) ∙ is));
+    standers = record { none = λ key k away. ap (share_of k) (nobody key) };
   };
   each = λ k wait is. absurd (none-some wait (sym (none_asleep w.waits k (none k)) ∙ is));
   fresh = λ k new. (unopened k, none k);
@@ -177,6 +179,20 @@ told world waits = record { world = world; waits = names_of waits }
 pub told_named : (world : World) (waits : WaitsState) (k : ℕ) → is_asleep (told world waits) k ≡ is_unnamed (named_at waits k)
 told_named world waits k = ap is_unnamed (named_is waits k)
 
+is_some_of : (o : Option WaitState) → is_some (option_map (λ (w : WaitState). w.is_named) o) ≡ is_some o
+is_some_of None = refl
+is_some_of (Some w) = refl
+
+pub waits_told : (world : World) (waits : WaitsState) (k : ℕ) → is_waiting (told world waits) k ≡ is_some (wait_at waits k)
+waits_told world waits k = ap is_some (named_is waits k) ∙ is_some_of (wait_at waits k)
+
+none_of : (o : Option WaitState) → is_some o ≡ false → o ≡ None
+none_of None isnt = refl
+none_of (Some w) isnt = absurd (true≢false isnt)
+
+pub waits_not : (world : World) (waits : WaitsState) (k : ℕ) → is_waiting (told world waits) k ≡ false → wait_at waits k ≡ None
+waits_not world waits k isnt = none_of (wait_at waits k) (sym (waits_told world waits k) ∙ isnt)
+
 pub none_told : (world : World) (waits : WaitsState) (k : ℕ) → wait_at waits k ≡ None → is_asleep (told world waits) k ≡ false
 none_told world waits k none = told_named world waits k ∙ ap (λ (o : Option WaitState). is_unnamed (option_map (λ (w : WaitState). w.is_named) o)) none
 
@@ -191,6 +207,10 @@ all_told old new w v was is same = subst (λ (b : SessionsState). (k : ℕ) → 
 
 -- ---- what naming tells
 
+pub slept_told : (world : World) (w : WaitsState) (was : SessionsState) → told world w ≡ was → (r : Option ℕ) → IfSome r (λ n. IsSome (unnamed_at w n)) → IfSome r (λ n. is_asleep was n ≡ true)
+slept_told world w was is None unnamed = tt
+slept_told world w was is (Some n) unnamed = subst (λ (b : SessionsState). is_asleep b n ≡ true) is (told_named world w n ∙ unnamed_sleeps (wait_at w n) unnamed)
+
 module _ (world : World) (w v : WaitsState) (was : SessionsState) (is : told world w ≡ was) where
   pub names_one : (r : Option ℕ) → IfSome r (λ n. unnamed_at v n ≡ None) → ((k : ℕ) → MatchOption r (wait_at v k ≡ wait_at w k) (λ n. k ≢ n → wait_at v k ≡ wait_at w k))
       → IfSome r (λ n. (is_asleep (told world v) n ≡ false) × OthersSleepOn n was (told world v))
@@ -204,9 +224,13 @@ module _ (world : World) (w v : WaitsState) (was : SessionsState) (is : told wor
   names_none (Some n) same = tt
   names_none None same = all_told world world w v was is (λ k. ap (option_map (λ (x : WaitState). x.is_named)) (same k))
 
+-- nobody is due while none is woken and no time is over
+pub rests : (clock : ℕ) (world : World) (w : WaitingState) → w.waits.woken ≡ 0 → All (λ time. clock < time.0) w.times → IsWatched world w → NobodyIsDue clock (told world w.waits)
+rests clock world w none times watched = λ k asleep. nobody_due clock world w none times watched k (sym (told_named world w.waits k) ∙ asleep)
+
 pub nobody_told : (clock : ℕ) (world : World) (w : WaitingState) (r : Option ℕ) → IfNone r (w.waits.woken ≡ 0) → All (λ time. clock < time.0) w.times → IsWatched world w → IfNone r (NobodyIsDue clock (told world w.waits))
 nobody_told clock world w (Some n) none times watched = tt
-nobody_told clock world w None none times watched = λ k asleep. nobody_due clock world w none times watched k (sym (told_named world w.waits k) ∙ asleep)
+nobody_told clock world w None none times watched = rests clock world w none times watched
 
 -- ---- what is sent
 

@@ -229,6 +229,7 @@ retarget s now w k q asked none all = record {
   each = λ j wait is. subst (λ (x : FetchValue). WaitsOn s now w j wait x) (sym (put_other k q asked j (λ same. none-some wait (sym (subst (λ (i : ℕ). asleep_at w.waits i ≡ None) (sym same) none) ∙ is)))) (all.each j wait is);
   own = all.own;
   times = all.times;
+  standers = all.standers;
 }
 
 module _ (k : ℕ) (s : State) (w v : WaitingState) (session : SessionState) (due most : ℕ) (waits : WaitsFirst s session.held most) (is_due : session.due ≡ Some due) (shown : List ℕ) (is_shown : shown ≡ session.held)

@@ -1,18 +1,18 @@
 -- Where the entries of a map stand, once two change places, or one is removed.
-use Rattle.std.proofs.Common.{◌≡◌, ◌≢◌, ℕ, zero, suc, ◌+◌, ◌-◌, ◌<◌, ◌≤◌, ◌⊎◌, inl, inr, arith, Bool, true, false, not, cond, List, [], ◌∷◌, ◌++◌, length, get_or, set, swap, is_some, Option, Some, None, sym, ap, subst, refl, ◌∙◌, if◌then◌else◌, slice_get}
+use Rattle.std.proofs.Common.{◌≡◌, ◌≢◌, ℕ, zero, suc, ◌+◌, ◌-◌, ◌<◌, ◌≤◌, ◌⊎◌, inl, inr, arith, Bool, true, false, not, cond, List, [], ◌∷◌, ◌++◌, length, get_or, set, swap, is_some, Option, Some, None, IsSome, sym, ap, subst, refl, ◌∙◌, if◌then◌else◌, slice_get}
 use Rattle.std.specs.Prelude.{nat_eq, nat_le, position}
 use Rattle.std.specs.Cmp.{nat_eq_equiv}
 use Rattle.std.specs.List.{IsDistinct, position_or_len, swap_remove}
 use Rattle.std.specs.Map.{keys_of, lookup}
-use Rattle.std.specs.Option.{option_map}
+use Rattle.std.specs.Option.{option_and_then, option_map}
 use Rattle.std.proofs.lemmas.Option.{slice_get-get_or, slice_get_within, get_or_from_slice_get, same_Some}
-use Rattle.std.proofs.lemmas.List.{length-set, length-take, get_or-take, get_or-set_same, get_or-set_other}
+use Rattle.std.proofs.lemmas.List.{length-map, length-set, length-take, get_or-take, get_or-set_same, get_or-set_other}
 use Rattle.std.proofs.lemmas.List.Edits.{length-swap}
 use Rattle.std.proofs.lemmas.Bool.Decides.{nat_tests}
 use Rattle.std.proofs.lemmas.Bool.{false≢true}
 use Rattle.indexmap.proofs.MapLemmas.{or_len-first, some_index, Found-position, swap_remove_entry-found, swap_remove_entry-missing}
 use Rattle.indexmap.proofs.CallerLemmas.{insert_entry-new}
-use Rattle.sessions.specs.Waiting.{WaitState, WaitsState, asleep_at, asleep_if, is_behind, named, unnamed, wait_at}
+use Rattle.sessions.specs.Waiting.{WaitState, WaitsState, NoneWokenIsNamed, asleep_at, asleep_if, is_behind, named, unnamed, unnamed_at, wait_at}
 use Rattle.indexmap.proofs.RemoveLemmas.{own_first}
 use Rattle.indexmap.proofs.ReorderLemmas.{exchange, exchange-within, exchange-twice, get_or-swap}
 use Rattle.indexmap.specs.IndexMap.{IndexMap, insert_entry, swap_remove_entry}
@@ -148,6 +148,23 @@ module _ (es fs : List (ℕ × WaitState)) (w v k : ℕ) where
         let is : nat_le v (index_in k fs) ≡ nat_le w (index_in k es) = tests at.0 at.1 ∙ ap (nat_le w) (sym at.1.index) in
         λ x. asleep_if (is x) (same x)
 
+module _ (es fs : List (ℕ × WaitState)) (w v n : ℕ) (old : NoneWokenIsNamed (record { entries = es; woken = w })) where
+  -- none that is woken was named, where that holds of one, and each other stands on its side, as it was
+  none_named : ((k : ℕ) → k ≢ n → lookup (nat_eq k) fs ≡ lookup (nat_eq k) es) → ((k j : ℕ) → k ≢ n → At k es j → nat_le v (index_in k fs) ≡ nat_le w j)
+      → ((wait : WaitState) → lookup (nat_eq n) fs ≡ Some wait → nat_le v (index_in n fs) ≡ false → wait.is_named ≡ false) → NoneWokenIsNamed (record { entries = fs; woken = v })
+  none_named same tests own k wait found front = by (nat_eq k n) refl where
+    by : (b : Bool) → nat_eq k n ≡ b → wait.is_named ≡ false
+    by true is =
+        let this : k ≡ n = grind (arith, is, nat_tests) in
+        own wait (ap (λ i. lookup (nat_eq i) fs) (sym this) ∙ found) (ap (λ i. nat_le v (index_in i fs)) (sym this) ∙ front)
+    by false isnt = there (look_for k es) where
+      away : k ≢ n
+      away = grind (arith, isnt, nat_tests)
+
+      there : (lookup (nat_eq k) es ≡ None) ⊎ ((j : ℕ) × At k es j) → wait.is_named ≡ false
+      there (inl none) = absurd (false≢true (ap is_some (sym none ∙ sym (same k away) ∙ found)))
+      there (inr at) = old k wait (sym (same k away) ∙ found) (ap (nat_le w) at.1.index ∙ sym (tests k at.0 away at.1) ∙ front)
+
 -- ---- waking
 
 module _ (es fs : List (ℕ × WaitState)) (w i n : ℕ) (behind : w ≤ i) (at : At n es i) (swapped : fs ≡ swap es i w) (distinct : IsDistinct nat_eq (keys_of fs)) where
@@ -160,14 +177,19 @@ module _ (es fs : List (ℕ × WaitState)) (w i n : ℕ) (behind : w ≤ i) (at 
       let front : nat_le (w + 1) (index_in n fs) ≡ false = grind (arith, index, nat_tests) in
       ap (λ b. asleep_if b (lookup (nat_eq n) fs)) front
 
+  woken_stays : (k j : ℕ) → k ≢ n → At k es j → nat_le (w + 1) (index_in k fs) ≡ nat_le w j
+  woken_stays k j other here =
+      let index = swapped_index es fs i w k j swapped distinct at.within w_in here in
+      let away : i ≢ j = apart es n k i j other at here in
+      grind (arith, index, behind, away, nat_tests)
+
   pub woken_others : (old : WaitsState) → ◌≡◌ {A = WaitsState} (record { entries = es; woken = w }) old → ((k : ℕ) → lookup (nat_eq k) fs ≡ lookup (nat_eq k) es)
       → (k : ℕ) → k ≢ n → asleep_at (record { entries = fs; woken = w + 1 }) k ≡ asleep_at old k
-  woken_others old view same k other = asleep_alike es fs w (w + 1) k (same k) tests ∙ ap (λ s. asleep_at s k) view where
-    tests : (j : ℕ) → At k es j → nat_le (w + 1) (index_in k fs) ≡ nat_le w j
-    tests j here =
-        let index = swapped_index es fs i w k j swapped distinct at.within w_in here in
-        let away : i ≢ j = apart es n k i j other at here in
-        grind (arith, index, behind, away, nat_tests)
+  woken_others old view same k other = asleep_alike es fs w (w + 1) k (same k) (λ j. woken_stays k j other) ∙ ap (λ s. asleep_at s k) view
+
+  pub woken_unnamed : NoneWokenIsNamed (record { entries = es; woken = w }) → ((k : ℕ) → lookup (nat_eq k) fs ≡ lookup (nat_eq k) es) → ((wait : WaitState) → lookup (nat_eq n) es ≡ Some wait → wait.is_named ≡ false)
+      → NoneWokenIsNamed (record { entries = fs; woken = w + 1 })
+  woken_unnamed old same own = none_named es fs w (w + 1) n old (λ k _. same k) woken_stays (λ wait found front. own wait (sym (same n) ∙ found))
 
 -- ---- putting behind
 
@@ -180,31 +202,52 @@ module _ (es fs : List (ℕ × WaitState)) (w i n : ℕ) (front : i < w) (within
       let index = swapped_index es fs i (w - 1) n i swapped distinct at.within last_in at in
       grind (arith, index, nat_tests)
 
+  put_stays : (k j : ℕ) → k ≢ n → At k es j → nat_le (w - 1) (index_in k fs) ≡ nat_le w j
+  put_stays k j other here =
+      let index = swapped_index es fs i (w - 1) k j swapped distinct at.within last_in here in
+      let away : i ≢ j = apart es n k i j other at here in
+      grind (arith, index, front, away, nat_tests)
+
   pub put_others : (old : WaitsState) → ◌≡◌ {A = WaitsState} (record { entries = es; woken = w }) old → ((k : ℕ) → lookup (nat_eq k) fs ≡ lookup (nat_eq k) es)
       → (k : ℕ) → k ≢ n → asleep_at (record { entries = fs; woken = w - 1 }) k ≡ asleep_at old k
-  put_others old view same k other = asleep_alike es fs w (w - 1) k (same k) tests ∙ ap (λ s. asleep_at s k) view where
-    tests : (j : ℕ) → At k es j → nat_le (w - 1) (index_in k fs) ≡ nat_le w j
-    tests j here =
-        let index = swapped_index es fs i (w - 1) k j swapped distinct at.within last_in here in
-        let away : i ≢ j = apart es n k i j other at here in
-        grind (arith, index, front, away, nat_tests)
+  put_others old view same k other = asleep_alike es fs w (w - 1) k (same k) (λ j. put_stays k j other) ∙ ap (λ s. asleep_at s k) view
+
+  pub put_unnamed : NoneWokenIsNamed (record { entries = es; woken = w }) → ((k : ℕ) → lookup (nat_eq k) fs ≡ lookup (nat_eq k) es) → NoneWokenIsNamed (record { entries = fs; woken = w - 1 })
+  put_unnamed old same = none_named es fs w (w - 1) n old (λ k _. same k) put_stays (λ wait found is. absurd (false≢true (sym is ∙ put_is_behind)))
 
 -- ---- removing
 
 module _ (es fs : List (ℕ × WaitState)) (w n : ℕ) (behind : nat_le w (index_in n es) ≡ true) (removed : fs ≡ swap_remove_entry (nat_eq n) es) (distinct : IsDistinct nat_eq (keys_of fs)) where
+  removed_stays : (k j : ℕ) → k ≢ n → At k es j → nat_le w (index_in k fs) ≡ nat_le w j
+  removed_stays k j other here = by (position (nat_eq n) (keys_of es)) refl where
+    by : (p : Option ℕ) → position (nat_eq n) (keys_of es) ≡ p → nat_le w (index_in k fs) ≡ nat_le w j
+    by None none = ap (nat_le w) (ap (index_in k) (removed ∙ swap_remove_entry-missing (nat_eq n) es none) ∙ here.index)
+    by (Some i) is =
+        let at = at_position es n i is in
+        let away : i ≢ j = apart es n k i j other at here in
+        let index = removed_index es fs i k j (n, at.value) (removed ∙ swap_remove_entry-found (nat_eq n) es i (n, at.value) is) distinct at.within away here in
+        let from : w ≤ i = grind (arith, behind, at.index, nat_tests) in
+        grind (arith, index, from, at.within, here.within, nat_tests)
+
   pub removed_others : (mid old : WaitsState) → ◌≡◌ {A = WaitsState} (record { entries = es; woken = w }) mid → ((k : ℕ) → k ≢ n → asleep_at mid k ≡ asleep_at old k)
       → ((k : ℕ) → nat_eq n k ≡ false → lookup (nat_eq k) fs ≡ lookup (nat_eq k) es) → (k : ℕ) → k ≢ n → asleep_at (record { entries = fs; woken = w }) k ≡ asleep_at old k
   removed_others mid old view before same k other =
-      asleep_alike es fs w w k (same k (grind (arith, other, nat_tests))) (by (position (nat_eq n) (keys_of es)) refl) ∙ ap (λ s. asleep_at s k) view ∙ before k other
-    where
-      by : (p : Option ℕ) → position (nat_eq n) (keys_of es) ≡ p → (j : ℕ) → At k es j → nat_le w (index_in k fs) ≡ nat_le w j
-      by None none j here = ap (nat_le w) (ap (index_in k) (removed ∙ swap_remove_entry-missing (nat_eq n) es none) ∙ here.index)
-      by (Some i) is j here =
-          let at = at_position es n i is in
-          let away : i ≢ j = apart es n k i j other at here in
-          let index = removed_index es fs i k j (n, at.value) (removed ∙ swap_remove_entry-found (nat_eq n) es i (n, at.value) is) distinct at.within away here in
-          let from : w ≤ i = grind (arith, behind, at.index, nat_tests) in
-          grind (arith, index, from, at.within, here.within, nat_tests)
+      asleep_alike es fs w w k (same k (grind (arith, other, nat_tests))) (λ j. removed_stays k j other) ∙ ap (λ s. asleep_at s k) view ∙ before k other
+
+  pub removed_within : w ≤ length es → w ≤ length fs
+  removed_within within = by (position (nat_eq n) (keys_of es)) refl where
+    by : (p : Option ℕ) → position (nat_eq n) (keys_of es) ≡ p → w ≤ length fs
+    by None none = omega (arith, within, ap length (removed ∙ swap_remove_entry-missing (nat_eq n) es none))
+    by (Some i) is =
+        let at = at_position es n i is in
+        let all : List (ℕ × WaitState) = set es i (get_or es (length es - 1) (n, at.value)) in
+        let from : w ≤ i = grind (arith, behind, at.index, nat_tests) in
+        omega (arith, from, at.within, ap length (removed ∙ swap_remove_entry-found (nat_eq n) es i (n, at.value) is), length-take (length es - 1) all, length-set es i (get_or es (length es - 1) (n, at.value)))
+
+  pub removed_unnamed : NoneWokenIsNamed (record { entries = es; woken = w }) → lookup (nat_eq n) fs ≡ None → ((k : ℕ) → nat_eq n k ≡ false → lookup (nat_eq k) fs ≡ lookup (nat_eq k) es)
+      → NoneWokenIsNamed (record { entries = fs; woken = w })
+  removed_unnamed old gone same =
+      none_named es fs w w n old (λ k other. same k (grind (arith, other, nat_tests))) removed_stays (λ wait found front. absurd (false≢true (ap is_some (sym gone ∙ found))))
 
 -- ---- adding
 
@@ -213,57 +256,71 @@ pub added_is : {S : Type 0} (m : IndexMap ℕ WaitState S) (fs : List (ℕ × Wa
 added_is m fs n w wait old view none is = is ∙ insert_entry-new nat_eq m n wait (ap (λ (s : WaitsState). wait_at s n) view ∙ none)
 
 module _ (es fs : List (ℕ × WaitState)) (w n : ℕ) (wait : WaitState) (within : w ≤ length es) (added : fs ≡ es ++ (n, wait) ∷ []) (distinct : IsDistinct nat_eq (keys_of fs)) where
-  pub added_sleeps : lookup (nat_eq n) fs ≡ Some wait → asleep_at (record { entries = fs; woken = w }) n ≡ unnamed wait
-  added_sleeps found =
+  added_behind : nat_le w (index_in n fs) ≡ true
+  added_behind =
       let index = index_is fs (length es) n wait distinct (ap (λ l. slice_get l (length es)) added ∙ last_entry es (n, wait)) in
-      let behind : nat_le w (index_in n fs) ≡ true = grind (arith, index, within, nat_tests) in
-      λ x. asleep_if (behind x) (found x)
+      grind (arith, index, within, nat_tests)
+
+  added_stays : (k j : ℕ) → k ≢ n → At k es j → nat_le w (index_in k fs) ≡ nat_le w j
+  added_stays k j other here = ap (nat_le w) (index_is fs j k here.value distinct (ap (λ l. slice_get l j) added ∙ front_entry es ((n, wait) ∷ []) j (k, here.value) here.entry))
+
+  pub added_sleeps : lookup (nat_eq n) fs ≡ Some wait → asleep_at (record { entries = fs; woken = w }) n ≡ unnamed wait
+  added_sleeps found = λ x. asleep_if (added_behind x) (found x)
 
   pub added_others : (old : WaitsState) → ◌≡◌ {A = WaitsState} (record { entries = es; woken = w }) old → ((k : ℕ) → nat_eq n k ≡ false → lookup (nat_eq k) fs ≡ lookup (nat_eq k) es)
       → (k : ℕ) → k ≢ n → asleep_at (record { entries = fs; woken = w }) k ≡ asleep_at old k
-  added_others old view same k other = asleep_alike es fs w w k (same k (grind (arith, other, nat_tests))) tests ∙ ap (λ s. asleep_at s k) view where
-    tests : (j : ℕ) → At k es j → nat_le w (index_in k fs) ≡ nat_le w j
-    tests j here = ap (nat_le w) (index_is fs j k here.value distinct (ap (λ l. slice_get l j) added ∙ front_entry es ((n, wait) ∷ []) j (k, here.value) here.entry))
+  added_others old view same k other = asleep_alike es fs w w k (same k (grind (arith, other, nat_tests))) (λ j. added_stays k j other) ∙ ap (λ s. asleep_at s k) view
+
+  pub added_unnamed : NoneWokenIsNamed (record { entries = es; woken = w }) → ((k : ℕ) → nat_eq n k ≡ false → lookup (nat_eq k) fs ≡ lookup (nat_eq k) es) → NoneWokenIsNamed (record { entries = fs; woken = w })
+  added_unnamed old same =
+      none_named es fs w w n old (λ k other. same k (grind (arith, other, nat_tests))) added_stays (λ _ found front. absurd (false≢true (sym front ∙ added_behind)))
 
 -- ---- naming
-
-pub same_numbers : (es fs : List (ℕ × WaitState)) (w v : ℕ) (old mid : WaitsState) → ◌≡◌ {A = WaitsState} (record { entries = es; woken = w }) old → ◌≡◌ {A = WaitsState} (record { entries = fs; woken = v }) mid
-    → keys_of mid.entries ≡ keys_of old.entries → keys_of fs ≡ keys_of es
-same_numbers es fs w v old mid view view' same = ap (λ (s : WaitsState). keys_of s.entries) view' ∙ same ∙ sym (ap (λ (s : WaitsState). keys_of s.entries) view)
 
 asleep_named : (b : Bool) (x : Option WaitState) → asleep_if b (option_map named x) ≡ None
 asleep_named true None = refl
 asleep_named true (Some x) = refl
 asleep_named false x = refl
 
+unnamed_there : (o : Option WaitState) (wait : WaitState) → o ≡ Some wait → wait.is_named ≡ false → IsSome (option_and_then unnamed o)
+unnamed_there o wait found isnt = ap is_some (ap (option_and_then unnamed) found ∙ ap (λ b. if b then None else Some wait) isnt)
+
 module _ (es fs : List (ℕ × WaitState)) (w last n : ℕ) (wait : WaitState) (is_last : w ≡ last + 1) (numbers : keys_of fs ≡ keys_of es) (distinct : IsDistinct nat_eq (keys_of fs)) (at : slice_get es last ≡ Some (n, wait)) where
   named_index : index_in n es ≡ last
   named_index = index_is es last n wait (subst (IsDistinct nat_eq) numbers distinct) at
 
-  pub named_was_woken : (old : WaitsState) → ◌≡◌ {A = WaitsState} (record { entries = es; woken = w }) old → is_behind old n ≡ false
-  named_was_woken old view =
-      let front : nat_le w (index_in n es) ≡ false = grind (arith, is_last, named_index, nat_tests) in
-      ap (λ s. is_behind s n) (sym view) ∙ front
+  named_front : nat_le w (index_in n es) ≡ false
+  named_front = grind (arith, is_last, named_index, nat_tests)
 
-  pub named_others : (mid old : WaitsState) → ◌≡◌ {A = WaitsState} (record { entries = es; woken = w }) old → ◌≡◌ {A = List (ℕ × WaitState)} fs mid.entries
-      → lookup (nat_eq n) mid.entries ≡ option_map named (lookup (nat_eq n) old.entries) → ((k : ℕ) → k ≢ n → lookup (nat_eq k) mid.entries ≡ lookup (nat_eq k) old.entries)
-      → (k : ℕ) → asleep_at (record { entries = fs; woken = last }) k ≡ asleep_at old k
-  named_others mid old view same names others k = by (nat_eq k n) refl where
-    by : (b : Bool) → nat_eq k n ≡ b → asleep_at (record { entries = fs; woken = last }) k ≡ asleep_at old k
+  pub named_within : last ≤ length fs
+  named_within = omega (arith, slice_get_within es last (n, wait) at, ap length numbers, length-map es (λ e. e.0), length-map fs (λ e. e.0))
+
+  named_stays : (k j : ℕ) → k ≢ n → At k es j → nat_le last (index_in k fs) ≡ nat_le w j
+  named_stays k j other here =
+      let index : index_in k fs ≡ j = ap (position_or_len (nat_eq k)) numbers ∙ here.index in
+      let apart : j ≢ last = λ same. other (ap (λ (e : ℕ × WaitState). e.0) (same_Some _ _ (sym here.entry ∙ ap (slice_get es) same ∙ at))) in
+      grind (arith, index, apart, is_last, nat_tests)
+
+  -- it wasn't named before, and stands behind then
+  pub named_was_unnamed : (old : WaitsState) → ◌≡◌ {A = WaitsState} (record { entries = es; woken = w }) old → NoneWokenIsNamed (record { entries = es; woken = w }) → lookup (nat_eq n) es ≡ Some wait → IsSome (unnamed_at old n)
+  named_was_unnamed old view none found = subst (λ s. IsSome (unnamed_at s n)) view (unnamed_there (lookup (nat_eq n) es) wait found (none n wait found named_front))
+
+  pub named_unnamed : NoneWokenIsNamed (record { entries = es; woken = w }) → ((k : ℕ) → k ≢ n → lookup (nat_eq k) fs ≡ lookup (nat_eq k) es) → NoneWokenIsNamed (record { entries = fs; woken = last })
+  named_unnamed old others =
+      let index : index_in n fs ≡ last = ap (position_or_len (nat_eq n)) numbers ∙ named_index in
+      let behind : nat_le last (index_in n fs) ≡ true = grind (arith, index, nat_tests) in
+      none_named es fs w last n old others named_stays (λ _ found front. absurd (false≢true (sym front ∙ behind)))
+
+  pub named_others : (old : WaitsState) → ◌≡◌ {A = WaitsState} (record { entries = es; woken = w }) old → lookup (nat_eq n) fs ≡ option_map named (lookup (nat_eq n) es)
+      → ((k : ℕ) → k ≢ n → lookup (nat_eq k) fs ≡ lookup (nat_eq k) es) → (k : ℕ) → asleep_at (record { entries = fs; woken = last }) k ≡ asleep_at old k
+  named_others old view names others k = by (nat_eq k n) refl ∙ ap (λ s. asleep_at s k) view where
+    by : (b : Bool) → nat_eq k n ≡ b → asleep_at (record { entries = fs; woken = last }) k ≡ asleep_at (record { entries = es; woken = w }) k
     by true is =
         let this : k ≡ n = grind (arith, is, nat_tests) in
         ap (asleep_at (record { entries = fs; woken = last })) this
-        ∙ ap (asleep_if (is_behind (record { entries = fs; woken = last }) n)) (ap (lookup (nat_eq n)) same ∙ names)
-        ∙ asleep_named (is_behind (record { entries = fs; woken = last }) n) (lookup (nat_eq n) old.entries)
-        ∙ sym (ap (λ b. asleep_if b (lookup (nat_eq n) old.entries)) (named_was_woken old view))
-        ∙ ap (asleep_at old) (sym this)
+        ∙ ap (asleep_if (nat_le last (index_in n fs))) names ∙ asleep_named (nat_le last (index_in n fs)) (lookup (nat_eq n) es)
+        ∙ sym (ap (λ b. asleep_if b (lookup (nat_eq n) es)) named_front)
+        ∙ ap (asleep_at (record { entries = es; woken = w })) (sym this)
     by false isnt =
         let away : k ≢ n = grind (arith, isnt, nat_tests) in
-        asleep_alike es fs w last k (ap (lookup (nat_eq k)) same ∙ others k away ∙ ap (λ (s : WaitsState). lookup (nat_eq k) s.entries) (sym view)) tests ∙ ap (λ s. asleep_at s k) view
-      where
-        tests : (j : ℕ) → At k es j → nat_le last (index_in k fs) ≡ nat_le w j
-        tests j here =
-            let index : index_in k fs ≡ j = ap (position_or_len (nat_eq k)) numbers ∙ here.index in
-            let found : k ≢ n = grind (arith, isnt, nat_tests) in
-            let apart : j ≢ last = λ same. found (ap (λ (e : ℕ × WaitState). e.0) (same_Some _ _ (sym here.entry ∙ ap (slice_get es) same ∙ at))) in
-            grind (arith, index, apart, is_last, nat_tests)
+        asleep_alike es fs w last k (others k away) (λ j. named_stays k j away)

@@ -20,7 +20,7 @@ use Rattle.sessions.specs.declared.waits.PartitionKey.{PartitionKey}
 use Rattle.sessions.specs.declared.waits.Share.{Share}
 use Rattle.sessions.specs.declared.waiting.Noted.{Noted}
 use Rattle.sessions.specs.declared.waiting.Noted.TheVariants.{Appends}
-use Rattle.sessions.specs.Waiting.{StandState, WaitState, WaitingState, WaitsState, asleep_at, is_same_key, key_of, named_at, share_in, stand_at, wait_at}
+use Rattle.sessions.specs.Waiting.{StandState, StandersWait, WaitState, WaitingState, WaitsState, asleep_at, is_same_key, key_of, named_at, share_in, stand_at, wait_at}
 use Rattle.sessions.specs.Turns.{SessionState}
 
 -- ---- what one session stands for
@@ -64,12 +64,14 @@ EndsAre s now w = (name : List ℕ) (p : ℤ) (place : Place) (stand : StandStat
 abbrev pub has_time : ℕ × ℕ → List (ℕ × ℕ) → Bool
 has_time due times = list_any (λ time. nat_eq due.0 time.0 && nat_eq due.1 time.1) times
 
--- All who sleep wait on, where the partitions hold this, and each asks for this; and their times are known.
+-- All who sleep wait on, where the partitions hold this, and each asks for this; their times are known, and whoever stands at a
+-- partition waits for it.
 pub record AllWaitOn (s : State) (now : Contents) (w : WaitingState) (asked : ℕ → FetchValue) : Type 0 where
   pub ends : EndsAre s now w
   pub each : (k : ℕ) (wait : WaitState) → asleep_at w.waits k ≡ Some wait → WaitsOn s now w k wait (asked k)
   pub own : (k : ℕ) (wait : WaitState) → wait_at w.waits k ≡ Some wait → wait.due.1 ≡ k
   pub times : (k : ℕ) (wait : WaitState) → asleep_at w.waits k ≡ Some wait → has_time wait.due w.times ≡ true
+  pub standers : StandersWait w
 
 -- the first frame that is held is this Fetch
 pub record AsksFirst (held : List ℕ) (q : FetchValue) : Type 0 where

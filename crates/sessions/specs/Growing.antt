@@ -16,7 +16,7 @@ use Rattle.sessions.specs.declared.waits.Growth.{Growth}
 use Rattle.sessions.specs.declared.waiting.Noted.{Noted}
 use Rattle.sessions.specs.declared.waiting.Noted.TheVariants.{Appends}
 use Rattle.sessions.specs.Asleep.{AreMarked, is_marked}
-use Rattle.sessions.specs.Waiting.{GoesOn, SleepsOn, StandState, WaitState, WaitsState, WaitingState, asleep_at, is_same_key, kept, less_missing, place_of, share_in, stand_at, wait_at}
+use Rattle.sessions.specs.Waiting.{GoesOn, SleepsOn, StandState, WaitState, WaitsState, WaitingState, asleep_at, is_same_key, kept, less_missing, place_of, share_at, share_in, stand_at, wait_at}
 
 -- ---- keys
 
@@ -31,11 +31,12 @@ seen s after keys name p = if list_any (λ key. is_at s key name p) keys then co
 
 -- ---- who stands there
 
--- Whoever passes a test stands where it stood, and no partition ends elsewhere.
+-- Whoever passes a test stands where it stood, nobody comes to a partition, and none ends elsewhere.
 pub record KeepsStands (stays : ℕ → Type 0) (old new : WaitingState) : Type 0 where
   pub shares : (key : PartitionKey) (stand : StandState) (share : Share) (k : ℕ) → stays k → stand_at old key ≡ Some stand → share_in stand k ≡ Some share
       → (after : StandState) × (stand_at new key ≡ Some after) × (after.grown ≡ stand.grown) × (share_in after k ≡ Some share)
   pub ends : (key : PartitionKey) (after : StandState) → stand_at new key ≡ Some after → (stand : StandState) × (stand_at old key ≡ Some stand) × (after.end ≡ stand.end)
+  pub none : (key : PartitionKey) (k : ℕ) → share_at old key k ≡ None → share_at new key k ≡ None
 
 -- ---- one partition is looked at
 
@@ -71,7 +72,7 @@ Looks after noted place old new (Some share) wait None = ⊤
 Looks after noted place old new (Some share) None (Some next) = ⊥
 Looks after noted place old new (Some share) (Some wait) (Some next) = StaysAsleep after noted place old new share wait next
 
--- nobody's time changes, nor whether it was named
+-- nobody's time changes, nor its partitions, nor whether it was named
 abbrev pub KeepsDues : (old new : WaitsState) → Type 0
 KeepsDues old new = (k : ℕ) → option_map kept (wait_at new k) ≡ option_map kept (wait_at old k)
 

@@ -1,5 +1,5 @@
 -- What a session counts as it begins to wait. Words of private clauses.
-use Rattle.std.specs.Prelude.{◌≡◌, ◌≢◌, ⊤, ℕ, ℤ, ◌+◌, ◌-◌, ◌<◌, ◌≤◌, ◌⊎◌, Bool, true, ◌&&◌, min, map, bytes_eq, List, [], ◌∷◌, ◌++◌, length, Option, Some, IsSome, if◌then◌else◌}
+use Rattle.std.specs.Prelude.{◌≡◌, ◌≢◌, ⊤, ℕ, ℤ, ◌+◌, ◌-◌, ◌^◌, ◌<◌, ◌≤◌, ◌⊎◌, true, ◌&&◌, min, map, bytes_eq, List, [], ◌∷◌, ◌++◌, length, Option, Some, None, IsSome, if◌then◌else◌}
 use Rattle.std.specs.Option.{unwrap_or}
 use Rattle.std.specs.Ordering.{int_eq}
 use Rattle.content.specs.Content.{end}
@@ -11,7 +11,7 @@ use Rattle.broker_state.specs.State.{State, content_at}
 use Rattle.fetch_waits.specs.Sleeping.{there_at}
 use Rattle.sessions.specs.declared.waits.PartitionKey.{PartitionKey}
 use Rattle.sessions.specs.declared.waits.Share.{Share}
-use Rattle.sessions.specs.Waiting.{StandState, WaitState, WaitingState, asleep_at, key_of, share_in, stand_at, unnamed_at, wait_at}
+use Rattle.sessions.specs.Waiting.{StandState, StandersWait, WaitState, WaitingState, asleep_at, key_of, share_in, stand_at, unnamed_at, wait_at}
 use Rattle.sessions.specs.Asleep.{Covers, EndsAre, has_time}
 
 -- ---- the entries of a Fetch, one after the other
@@ -62,12 +62,14 @@ pub record Stays (k : ℕ) (old new : StandState) : Type 0 where
   pub others : (j : ℕ) → j ≢ k → share_in new j ≡ share_in old j
   pub own : (was : Share) → share_in old k ≡ Some was → (share : Share) × (share_in new k ≡ Some share) × IsTighter was share
 
--- it has put one more entry there, the one with this number among all, of which a limit leaves such a room
+-- it has put one more entry there, the one with this number among all, of which a limit leaves such a room; a first one allows as
+-- much as there is room for
 pub record HasPut (k : ℕ) (room : Option ℕ) (entry : ℕ) (old new : StandState) : Type 0 where
   pub share : Share
   pub share_is : share_in new k ≡ Some share
   pub first : share.first ≤ entry
   pub upto : share.upto ≤ new.grown + unwrap_or room 0
+  pub fresh : share_in old k ≡ None → min (new.grown + unwrap_or room 0) (2 ^ 64 - 1) ≤ share.upto
   pub some : 0 < share.entries
   pub more : (was : Share) → share_in old k ≡ Some was → was.entries < share.entries
 
@@ -76,10 +78,6 @@ abbrev pub new_stand : ℤ → StandState
 new_stand end = record { end = end; grown = 0; shares = [] }
 
 -- ---- what all wait for
-
--- a time is known
-abbrev pub is_time : ℕ × ℕ → WaitingState → Bool
-is_time due w = has_time due w.times
 
 -- its partition's log ends there
 abbrev pub EndsAt : State → PartitionKey → ℤ → Type 0
@@ -93,7 +91,12 @@ pub record Joins (s : State) (k : ℕ) (due : ℕ × ℕ) (old new : WaitingStat
   pub due_is : ((was : WaitState) → wait_at old.waits k ≡ Some was → was.due ≡ due) → (wait : WaitState) → wait_at new.waits k ≡ Some wait → wait.due ≡ due
   pub stands : (key : PartitionKey) (was : StandState) → stand_at old key ≡ Some was → (stand : StandState) × (stand_at new key ≡ Some stand) × Stays k was stand
   pub ends : EndsAre s (content_at s) old → EndsAre s (content_at s) new
-  pub times : (time : ℕ × ℕ) → is_time time old ≡ true → is_time time new ≡ true
+  pub times : (time : ℕ × ℕ) → has_time time old.times ≡ true → has_time time new.times ≡ true
+
+-- A session that waits goes on, and stands only where it waits.
+pub record KeepsStanders (k : ℕ) (old new : WaitingState) : Type 0 where
+  pub waits : IsSome (wait_at old.waits k) → IsSome (wait_at new.waits k)
+  pub standers : IsSome (wait_at old.waits k) → StandersWait old → StandersWait new
 
 -- A partition is among those that are waited for: it was, or none waits there yet.
 pub record Knows (key : PartitionKey) (end : ℤ) (old new : WaitingState) : Type 0 where

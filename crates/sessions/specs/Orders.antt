@@ -1,7 +1,7 @@
 -- Many clients at once: what happens to a broker and to all sessions, and that it is one list of requests, answered one
 -- after the other. Kafka's documentation, "Protocol Guide", section "Network", orders the requests of one connection; that
 -- those of all connections have one order is this project's own.
-use Rattle.std.specs.Prelude.{◌≡◌, ◌≢◌, ℕ, ◌+◌, ◌≤◌, Bool, true, false, not, if◌then◌else◌, nat_eq, List, [], ◌∷◌, ◌++◌, length, map, Option, Some, None, IfSome, Result}
+use Rattle.std.specs.Prelude.{◌≡◌, ◌≢◌, ℕ, ◌+◌, ◌≤◌, Bool, true, false, not, if◌then◌else◌, nat_eq, List, [], ◌∷◌, ◌++◌, length, map, Option, Some, None, is_some, IfSome, Result}
 use Rattle.std.specs.List.{flat_map, filter}
 use Rattle.std.specs.Map.{lookup}
 use Rattle.std.specs.Option.{option_map, unwrap_or}
@@ -171,6 +171,10 @@ IsInOrder now = (first : State) (events : List Event) → Run (new_world first) 
 pub record SessionsState : Type 0 where
   pub world : World
   pub waits : List (ℕ × Bool)
+
+-- the first frame of a session was found to be a Fetch that waits
+abbrev pub is_waiting : SessionsState → ℕ → Bool
+is_waiting b k = is_some (lookup (nat_eq k) b.waits)
 
 -- a session sleeps: it waits, and wasn't named
 abbrev pub is_asleep : SessionsState → ℕ → Bool

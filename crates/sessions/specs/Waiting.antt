@@ -1,8 +1,8 @@
 -- Who waits, and who of them sleeps. How waits are kept is this project's own.
 use Rattle.std.specs.Prelude.{◌≡◌, ⊤, ℕ, Bool, ◌&&◌, ℤ, ◌-◌, ◌*◌, ◌<◌, ◌≤◌, nat_eq, nat_le, List, [], ◌∷◌, ◌++◌, map, Option, Some, None, true, false, if◌then◌else◌}
-use Rattle.std.specs.List.{position_or_len}
+use Rattle.std.specs.List.{All, list_any, position_or_len}
 use Rattle.std.specs.Map.{keys_of, lookup}
-use Rattle.std.specs.Option.{option_and_then, option_map}
+use Rattle.std.specs.Option.{option_and_then, option_map, option_map_or}
 use Rattle.broker_state.specs.declared.place.Place.{Place}
 use Rattle.sessions.specs.declared.waits.PartitionKey.{PartitionKey}
 use Rattle.sessions.specs.declared.waits.Share.{Share}
@@ -53,6 +53,10 @@ unnamed wait = if wait.is_named then None else Some wait
 abbrev pub unnamed_at : WaitsState → ℕ → Option WaitState
 unnamed_at w k = option_and_then unnamed (wait_at w k)
 
+-- whether the session with a number waits for a partition
+abbrev pub waits_for : WaitsState → ℕ → PartitionKey → Bool
+waits_for w k key = option_map_or (λ wait. list_any (is_same_key key) wait.places) (wait_at w k) false
+
 -- whether the session with a number was named, if it waits
 abbrev pub named_at : WaitsState → ℕ → Option Bool
 named_at w k = option_map (λ wait. wait.is_named) (wait_at w k)
@@ -70,6 +74,10 @@ asleep_if false wait = None
 abbrev pub asleep_at : WaitsState → ℕ → Option WaitState
 asleep_at w k = asleep_if (is_behind w k) (wait_at w k)
 
+-- none that is woken was named since it came
+abbrev pub NoneWokenIsNamed : WaitsState → Type 0
+NoneWokenIsNamed w = (k : ℕ) (wait : WaitState) → wait_at w k ≡ Some wait → is_behind w k ≡ false → wait.is_named ≡ false
+
 -- where a session stands more
 abbrev pub with_place : PartitionKey → WaitState → WaitState
 with_place place wait = record wait { places = wait.places ++ place ∷ [] }
@@ -79,9 +87,9 @@ abbrev pub with_entry : (bytes : ℕ) (room : Option ℕ) (entry : ℕ) → Wait
 with_entry bytes None entry wait = record wait { missing = wait.missing - bytes; forced = entry }
 with_entry bytes (Some room) entry wait = record wait { missing = wait.missing - bytes }
 
--- when its time is over, and whether it was named
-abbrev pub kept : WaitState → (ℕ × ℕ) × Bool
-kept wait = (wait.due, wait.is_named)
+-- when its time is over, whether it was named, and its partitions
+abbrev pub kept : WaitState → (ℕ × ℕ) × Bool × List PartitionKey
+kept wait = (wait.due, wait.is_named, wait.places)
 
 -- once it was named
 abbrev pub named : WaitState → WaitState
@@ -126,3 +134,15 @@ stand_at w key = lookup (is_same_key key) w.stands
 -- what a session waits for there
 abbrev pub share_in : StandState → ℕ → Option Share
 share_in stand k = lookup (nat_eq k) stand.shares
+
+-- what a session waits for at a partition, if it stands there
+abbrev pub share_at : WaitingState → PartitionKey → ℕ → Option Share
+share_at w key k = option_and_then (λ stand. share_in stand k) (stand_at w key)
+
+-- a session stands at none of these partitions
+abbrev pub StandsAtNone : ℕ → List PartitionKey → WaitingState → Type 0
+StandsAtNone k keys w = All (λ key. share_at w key k ≡ None) keys
+
+-- Whoever stands at a partition waits for it: who doesn't has no share there.
+pub record StandersWait (w : WaitingState) : Type 0 where
+  pub none : (key : PartitionKey) (k : ℕ) → waits_for w.waits k key ≡ false → share_at w key k ≡ None

@@ -1,8 +1,8 @@
 //! A broker, and the sessions of its clients.
 
-ghost use Rattle.std.specs.Prelude.{◌≡◌, ℕ, true, false, None, IfNone, IfOk, IfSome, MatchBool, OnErr};
+ghost use Rattle.std.specs.Prelude.{◌≡◌, ℕ, ◌<◌, true, false, None, IfNone, IfOk, IfSome, MatchBool, OnErr};
 ghost use Rattle.std.specs.Option.{option_copied};
-ghost use Rattle.sessions.specs.Orders.{GoesOnBy, IsInOrder, NobodyIsDue, OthersSleepOn, SendsAt, SleepsWhereItWaits, Step, VisitsAt, is_asleep, new_world, session_at};
+ghost use Rattle.sessions.specs.Orders.{GoesOnBy, IsInOrder, NobodyIsDue, OthersSleepOn, SendsAt, SleepsWhereItWaits, Step, VisitsAt, is_asleep, is_waiting, new_world, session_at};
 ghost use Rattle.sessions.specs.Orders.Event.{Closes, Opens};
 ghost use Rattle.sessions.specs.Visits.{then_place};
 
@@ -188,6 +188,7 @@ impl<S: BatchStore, A: Allocator + Copy> Sessions<S, A> {
     /// could be answered yet.
     pub fn next_woken(&mut self, clock: u64) -> Option<u64>
         ensures changes_nothing { self.new.world ≡ self.old.world }
+        ensures slept { IfSome result (λ number. is_asleep self.old number ≡ true) }
         ensures names { IfSome result (λ number. (is_asleep self.new number ≡ false)
             × OthersSleepOn number self.old self.new) }
         ensures sleeps_on { IfNone result ((k : ℕ) → is_asleep self.new k ≡ is_asleep self.old k) }
@@ -196,13 +197,25 @@ impl<S: BatchStore, A: Allocator + Copy> Sessions<S, A> {
         self.waiting.next_woken(clock)
     }
 
-    /// For how many partitions the first frame of a session waits; 0 where it doesn't.
-    pub fn awaited(&self, number: u64) -> usize {
+    /// Whether the first frame of a session was found to be a Fetch that waits, as far as it was looked at.
+    pub fn is_waiting(&self, number: u64) -> bool
+        ensures { result ≡ is_waiting self.now number }
+    {
+        self.waiting.waits(number)
+    }
+
+    /// For how many partitions a session waits, by which the memory is reckoned that it takes; 0 where it doesn't wait.
+    pub fn awaited(&self, number: u64) -> usize
+        ensures { is_waiting self.now number ≡ false → result ≡ 0 }
+    {
         self.waiting.places(number)
     }
 
-    /// When the first frame that waits will be due, in milliseconds, if nothing else makes it due before.
-    pub fn next_due(&self) -> Option<u128> {
+    /// Until when no Fetch of a session that sleeps can be answered, in milliseconds, if nothing else happens before:
+    /// [`next_woken`](Sessions::next_woken) has something to do then. `None` where none sleeps.
+    pub fn next_due(&self) -> Option<u128>
+        ensures rests { (clock : ℕ) → IfSome result (λ due. clock < due) → NobodyIsDue clock self.now }
+    {
         self.waiting.next_due()
     }
 

@@ -19,10 +19,10 @@ ghost use Rattle.broker_state.specs.State.{State, content_at};
 ghost use Rattle.broker_node.specs.Effects.{TopicPartition, effect, places, produced_to};
 ghost use Rattle.fetch_waits.specs.Sleeping.{Contents};
 ghost use Rattle.fetch_waits.specs.Waiting.{awaited_bytes, fetch_waits};
-ghost use Rattle.sessions.specs.Waiting.{asleep_at, key_of, share_in, stand_at, unnamed_at, wait_at, with_entry};
+ghost use Rattle.sessions.specs.Waiting.{StandersWait, StandsAtNone, asleep_at, key_of, share_at, share_in, stand_at, unnamed_at, wait_at, waits_for, with_entry};
 ghost use Rattle.sessions.specs.declared.waits.PartitionKey.{PartitionKey};
 ghost use Rattle.sessions.specs.Asleep.{AllWaitOn, AreMarked, AsksFirst, IsAppend, Leaves, OthersWait, has_time};
-ghost use Rattle.sessions.specs.Joining.{AreCounted, CountsMore, EndsAt, HasPut, Joins, Knows, PutsAt, SleepsSo, Stays, as_it_was, entries_in, entries_of, is_time, new_stand, share_with};
+ghost use Rattle.sessions.specs.Joining.{AreCounted, CountsMore, EndsAt, HasPut, Joins, KeepsStanders, Knows, PutsAt, SleepsSo, Stays, as_it_was, entries_in, entries_of, new_stand, share_with};
 ghost use Rattle.sessions.specs.Growing.{Counts, Grew, GrowsOn, KeepsDues, KeepsStands, Looks, LooksAt, Marks, produced_in};
 
 use crate::waits::{ByNumber, Growth, PartitionKey, Share, Wait, Waits};
@@ -175,6 +175,7 @@ impl<A: Allocator + Copy> Stand<A> {
     fn remove(&mut self, number: u64) -> bool
         ensures stays { (self.new.end ≡ self.old.end) × (self.new.grown ≡ self.old.grown) }
         ensures shares { (k : ℕ) → k ≢ number → share_in self.new k ≡ share_in self.old k }
+        ensures gone { share_in self.new number ≡ None }
         ensures none { result ≡ true → self.new.shares ≡ [] }
     {
         self.shares.swap_remove(&number);
@@ -294,8 +295,9 @@ impl<A: Allocator + Copy> Waiting<A> {
     ) -> Result<(), AllocError>
         requires { wait_at self.old.waits number ≡ None }
         ensures joins { Joins state.now number (due, number) self.old self.new }
+        ensures standers { StandersWait self.old → StandersWait self.new }
         ensures waits { OnOk result (IsSome (unnamed_at self.new.waits number)) }
-        ensures listed { OnOk result (is_time (due, number) self.new ≡ true) }
+        ensures listed { OnOk result (has_time (due, number) self.new.times ≡ true) }
         ensures counts { OnOk result ((q : FetchValue) → AsksFirst held.now q
             → AreCounted state.now self.new number (awaited_bytes q) (entries_in q.topics)) }
     {
@@ -318,8 +320,9 @@ impl<A: Allocator + Copy> Waiting<A> {
     ) -> Result<(), AllocError>
         requires { wait_at self.old.waits number ≡ None }
         ensures joins { Joins state.now number (due, number) self.old self.new }
+        ensures standers { StandersWait self.old → StandersWait self.new }
         ensures waits { OnOk result (IsSome (unnamed_at self.new.waits number)) }
-        ensures listed { OnOk result (is_time (due, number) self.new ≡ true) }
+        ensures listed { OnOk result (has_time (due, number) self.new.times ≡ true) }
         ensures counts { OnOk result (AreCounted state.now self.new number
             (awaited_bytes (fetch_view asked.now)) (entries_in (fetch_view asked.now).topics)) }
     {
@@ -343,6 +346,7 @@ impl<A: Allocator + Copy> Waiting<A> {
         asked: &FetchRequest<'_>,
     ) -> Result<(), AllocError>
         ensures joins { (due : ℕ × ℕ) → Joins state.now number due self.old self.new }
+        ensures standers { KeepsStanders number self.old self.new }
         ensures counts { OnOk result ((awaited : ℕ) → AreCounted state.now self.old number awaited []
             → AreCounted state.now self.new number awaited (entries_in (fetch_view asked.now).topics)) }
     {
@@ -363,6 +367,7 @@ impl<A: Allocator + Copy> Waiting<A> {
         before: usize,
     ) -> Result<usize, AllocError>
         ensures joins { (due : ℕ × ℕ) → Joins state.now number due self.old self.new }
+        ensures standers { KeepsStanders number self.old self.new }
         ensures counts { IfOk result (λ count. CountsMore state.now number self.old self.new before count
             (entries_of topic.entry.name.now
             (map fetch_partition_value (values fetch_partition topic.entry.partitions)))) }
@@ -385,6 +390,7 @@ impl<A: Allocator + Copy> Waiting<A> {
         before: usize,
     ) -> Result<usize, AllocError>
         ensures joins { (due : ℕ × ℕ) → Joins state.now number due self.old self.new }
+        ensures standers { KeepsStanders number self.old self.new }
         ensures counts { IfOk result (λ count. CountsMore state.now number self.old self.new before count
             (entries_of topic.now (fetch_entry_value entry ∷ []))) }
     {
@@ -410,6 +416,7 @@ impl<A: Allocator + Copy> Waiting<A> {
         ensures joins { (s : State) (due : ℕ × ℕ)
             → EndsAt s (key_of counted.now.place) counted.now.end
             → Joins s number due self.old self.new }
+        ensures standers { KeepsStanders number self.old self.new }
         ensures sleeps { OnOk result (SleepsSo (with_entry counted.now.bytes counted.now.room entry)
             number self.old self.new) }
         ensures puts { OnOk result ((s : State)
@@ -432,6 +439,9 @@ impl<A: Allocator + Copy> Waiting<A> {
     ) -> Result<(), AllocError>
         ensures joins { (s : State) (due : ℕ × ℕ) → EndsAt s place counted.now.end
             → Joins s number due self.old self.new }
+        ensures standers { KeepsStanders number self.old self.new }
+        ensures placed { OnOk result (IsSome (wait_at self.old.waits number) → StandersWait self.old
+            → waits_for self.new.waits number place ≡ true) }
         ensures sleeps { OnOk result (SleepsSo as_it_was number self.old self.new) }
         ensures is_there { OnOk result (IsSome (stand_at self.new place)) }
     {
@@ -464,6 +474,8 @@ impl<A: Allocator + Copy> Waiting<A> {
         entry: usize,
     ) -> Result<(), AllocError>
         ensures joins { (s : State) (due : ℕ × ℕ) → Joins s number due self.old self.new }
+        ensures standers { waits_for self.old.waits number place ≡ true
+            → StandersWait self.old → StandersWait self.new }
         ensures waits { self.new.waits ≡ self.old.waits }
         ensures puts { OnOk result (IsSome (stand_at self.old place)
             → PutsAt number place room entry self.old self.new) }
@@ -476,7 +488,8 @@ impl<A: Allocator + Copy> Waiting<A> {
 
     /// Whether a session stands at a partition.
     fn stands_at(&self, number: u64, place: PartitionKey) -> bool
-        ensures { result ≡ true → IsSome (stand_at self.now place) }
+        ensures is_there { result ≡ true → IsSome (stand_at self.now place) }
+        ensures stands { result ≡ true → IsSome (share_at self.now place number) }
     {
         match self.by_partition.get(&place) {
             Some(stand) => stand.shares.contains_key(&number),
@@ -487,6 +500,10 @@ impl<A: Allocator + Copy> Waiting<A> {
     /// Has a session wait no more.
     pub(crate) fn leave(&mut self, number: u64)
         ensures waits_no_more { wait_at self.new.waits number ≡ None }
+        ensures stands_no_more { IfSome (wait_at self.old.waits number)
+            (λ wait. StandsAtNone number wait.places self.new) }
+        ensures time { IfSome (wait_at self.old.waits number)
+            (λ wait. has_time wait.due self.new.times ≡ false) }
         ensures others { (k : ℕ) → k ≢ number
             → wait_at self.new.waits k ≡ wait_at self.old.waits k }
         ensures asleep { (k : ℕ) → k ≢ number
@@ -505,6 +522,7 @@ impl<A: Allocator + Copy> Waiting<A> {
         ensures waits { self.new.waits ≡ self.old.waits }
         ensures times { self.new.times ≡ self.old.times }
         ensures stands { KeepsStands (λ k. k ≢ number) self.old self.new }
+        ensures gone { StandsAtNone number places.now self.new }
     {
         for place in places {
             self.remove_at(*place, number);
@@ -516,6 +534,7 @@ impl<A: Allocator + Copy> Waiting<A> {
         ensures waits { self.new.waits ≡ self.old.waits }
         ensures times { self.new.times ≡ self.old.times }
         ensures stands { KeepsStands (λ k. k ≢ number) self.old self.new }
+        ensures gone { share_at self.new place number ≡ None }
     {
         let Some(stand) = self.by_partition.get_mut(&place) else {
             return;
@@ -525,8 +544,17 @@ impl<A: Allocator + Copy> Waiting<A> {
         }
     }
 
+    /// Whether a session waits.
+    pub(crate) fn waits(&self, number: u64) -> bool
+        ensures { result ≡ is_some (wait_at self.now.waits number) }
+    {
+        self.waits.waits(number)
+    }
+
     /// For how many partitions a session waits; 0 where it doesn't.
-    pub(crate) fn places(&self, number: u64) -> usize {
+    pub(crate) fn places(&self, number: u64) -> usize
+        ensures { wait_at self.now.waits number ≡ None → result ≡ 0 }
+    {
         match self.waits.get(number) {
             Some(wait) => wait.places.len(),
             None => 0,
@@ -649,8 +677,20 @@ impl<A: Allocator + Copy> Waiting<A> {
         look(&mut self.waits, stand, state, place, noted);
     }
 
-    /// When the first time will be over, in milliseconds.
+    /// Until when no session is woken by its time, in milliseconds, if nothing else happens; `None` where none will be. 0 where
+    /// one is woken already.
     pub(crate) fn next_due(&self) -> Option<u128>
+        ensures { (clock : ℕ) → IfSome result (λ due. clock < due)
+            → (self.now.waits.woken ≡ 0) × All (λ time. clock < time.0) self.now.times }
+    {
+        if self.waits.has_woken() {
+            return Some(0);
+        }
+        self.first_time()
+    }
+
+    /// When the first time will be over, in milliseconds.
+    fn first_time(&self) -> Option<u128>
         ensures { MatchOption result (self.now.times ≡ [])
             (λ due. All (λ time. due ≤ time.0) self.now.times) }
     {
@@ -664,7 +704,7 @@ impl<A: Allocator + Copy> Waiting<A> {
     fn has_due(&self, clock: u64) -> bool
         ensures { result ≡ false → All (λ time. clock < time.0) self.now.times }
     {
-        match self.next_due() {
+        match self.first_time() {
             Some(due) => due <= u128::from(clock),
             None => false,
         }
@@ -675,7 +715,7 @@ impl<A: Allocator + Copy> Waiting<A> {
     pub(crate) fn next_woken(&mut self, clock: u64) -> Option<u64>
         ensures none_is_woken { IfNone result (self.new.waits.woken ≡ 0) }
         ensures none_is_due { All (λ time. clock < time.0) self.new.times }
-        ensures was_woken { IfSome result (λ number. asleep_at self.new.waits number ≡ None) }
+        ensures was_unnamed { IfSome result (λ number. IsSome (unnamed_at self.old.waits number)) }
         ensures waits { (k : ℕ) → MatchOption result
             (wait_at self.new.waits k ≡ wait_at self.old.waits k)
             (λ number. k ≢ number → wait_at self.new.waits k ≡ wait_at self.old.waits k) }

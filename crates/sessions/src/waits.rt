@@ -1,10 +1,10 @@
 //! What sessions wait for, each by its number. Those that are woken stand first, so that waking one takes no memory.
 
-ghost use Rattle.std.specs.Prelude.{◌≡◌, ◌≢◌, ℕ, ◌+◌, ◌*◌, ◌<◌, ◌++◌, true, false, nat_eq, None, Some, MatchBool, IsSome, IfNone, IfSome, OnOk, OnErr};
+ghost use Rattle.std.specs.Prelude.{◌≡◌, ◌≢◌, ℕ, ◌+◌, ◌*◌, ◌<◌, ◌++◌, true, false, nat_eq, is_some, None, Some, MatchBool, IsSome, IfNone, IfSome, OnOk, OnErr};
 ghost use Rattle.std.specs.List.{IsDistinct};
-ghost use Rattle.std.specs.Map.{keys_of};
+ghost use Rattle.std.specs.Map.{keys_of, lookup};
 ghost use Rattle.std.specs.Option.{option_copied, option_map};
-ghost use Rattle.sessions.specs.Waiting.{GoesOn, SleepsOn, asleep_at, is_behind, less_missing, is_same_key, key_of, kept, named, place_of, unnamed, wait_at, with_entry, with_place};
+ghost use Rattle.sessions.specs.Waiting.{GoesOn, SleepsOn, asleep_at, is_behind, less_missing, is_same_key, key_of, kept, named, place_of, unnamed, unnamed_at, wait_at, with_entry, with_place};
 ghost use Rattle.std.specs.Hash as fed;
 ghost use Rattle.std.specs.Cmp.Rules.{comparing, hashing};
 ghost use Rattle.std.proofs.Common.{rules};
@@ -165,13 +165,14 @@ pub(crate) struct Waits<A: Allocator + Copy> {
 
 impl<A: Allocator + Copy> Model for Waits<A> {
     ghost use Rattle.std.specs.Prelude.{◌≤◌, ℕ, List, length};
-    ghost use Rattle.sessions.specs.Waiting.{WaitsState};
+    ghost use Rattle.sessions.specs.Waiting.{NoneWokenIsNamed, WaitsState};
 
     ghost Value = { WaitsState };
 
     ghost view = { λ w. record { entries = w.by_number.entries; woken = w.woken } };
 
-    ghost invariant = { λ w. w.woken ≤ length w.by_number.entries };
+    ghost invariant = { λ w. (w.woken ≤ length w.by_number.entries)
+        × NoneWokenIsNamed (record { entries = w.by_number.entries; woken = w.woken }) };
 }
 
 impl<A: Allocator + Copy> Waits<A> {
@@ -191,6 +192,20 @@ impl<A: Allocator + Copy> Waits<A> {
         ensures { option_copied result ≡ wait_at self.now number }
     {
         self.by_number.get(&number)
+    }
+
+    /// Whether the session with a number waits.
+    pub(crate) fn waits(&self, number: u64) -> bool
+        ensures { result ≡ is_some (wait_at self.now number) }
+    {
+        self.by_number.contains_key(&number)
+    }
+
+    /// Whether any session is woken that wasn't named yet.
+    pub(crate) fn has_woken(&self) -> bool
+        ensures { MatchBool result (0 < self.now.woken) (self.now.woken ≡ 0) }
+    {
+        self.woken > 0
     }
 
     /// Whether the session with a number waits, isn't woken, and wasn't named.
@@ -339,7 +354,7 @@ impl<A: Allocator + Copy> Waits<A> {
     /// The number of a session that is woken, which is named by it.
     pub(crate) fn name_one(&mut self) -> Option<u64>
         ensures none_is_woken { IfNone result ((self.old.woken ≡ 0) × (self.new ≡ self.old)) }
-        ensures was_woken { IfSome result (λ number. is_behind self.old number ≡ false) }
+        ensures was_unnamed { IfSome result (λ number. IsSome (unnamed_at self.old number)) }
         ensures names { IfSome result (λ number. wait_at self.new number
             ≡ option_map named (wait_at self.old number)) }
         ensures waits { IfSome result (λ number. (k : ℕ) → k ≢ number
@@ -349,21 +364,22 @@ impl<A: Allocator + Copy> Waits<A> {
         let last = self.woken.checked_sub(1)?;
         let (number, _) = self.by_number.get_index(last)?;
         let number = *number;
-        self.name(number);
+        name(&mut self.by_number, number);
         self.woken = last;
         Some(number)
     }
+}
 
-    /// Names a session.
-    fn name(&mut self, number: u64)
-        ensures names { wait_at self.new number ≡ option_map named (wait_at self.old number) }
-        ensures waits { (k : ℕ) → k ≢ number → wait_at self.new k ≡ wait_at self.old k }
-        ensures numbers { keys_of self.new.entries ≡ keys_of self.old.entries }
-        ensures woken { self.new.woken ≡ self.old.woken }
-        ensures unique { IsDistinct nat_eq (keys_of self.new.entries) }
-    {
-        if let Some(wait) = self.by_number.get_mut(&number) {
-            wait.is_named = true;
-        }
+/// Names a session.
+fn name<A: Allocator + Copy>(by_number: &mut ByNumber<Wait<A>, A>, number: u64)
+    ensures names { lookup (nat_eq number) by_number.new.entries
+        ≡ option_map named (lookup (nat_eq number) by_number.old.entries) }
+    ensures waits { (k : ℕ) → k ≢ number → lookup (nat_eq k) by_number.new.entries
+        ≡ lookup (nat_eq k) by_number.old.entries }
+    ensures numbers { keys_of by_number.new.entries ≡ keys_of by_number.old.entries }
+    ensures unique { IsDistinct nat_eq (keys_of by_number.new.entries) }
+{
+    if let Some(wait) = by_number.get_mut(&number) {
+        wait.is_named = true;
     }
 }

@@ -1,9 +1,10 @@
-use Rattle.std.proofs.Common.{ℕ, ◌≡◌, List, ap, refl, subst, sym, true}
+use Rattle.std.proofs.Common.{ℕ, ◌≡◌, List, ap, is_some, refl, subst, sym, true}
 use Rattle.request_frames.specs.Fetch.{fetch_view}
 use Rattle.sessions.specs.Waiting.{WaitsState, asleep_at, wait_at}
 use Rattle.sessions.specs.Joining.{entries_in}
 use Rattle.sessions.proofs.Joining.{added_joins, is_time_in, joins_then, same_joins}
 use Rattle.sessions.proofs.Joined.{counts_all, still_listed, still_waits, time_comes, time_stays}
+use Rattle.sessions.proofs.Standers.{standers_come, standers_kept}
 use Rattle.sessions.proofs.waiting.Waiting.add.Goals as goal
 
 pub returns-in_err-add-clause-joins : goal.returns-in_err-add-clause-joins
@@ -36,3 +37,13 @@ returns-clause-listed g c =
 pub returns-clause-counts : goal.returns-clause-counts
 returns-clause-counts g c =
     counts_all c.add_topics.result c.args.state.now c.args.number _ c.add_topics.new.self c.add_topics.ensures.joins _ (entries_in (fetch_view c.args.asked.now).topics) _ c.in_ok-add.ensures.sleeps (sym c.awaited_bytes.ensures) refl c.add_topics.ensures.counts
+
+pub returns-in_err-add-clause-standers : goal.returns-in_err-add-clause-standers
+returns-in_err-add-clause-standers g c = standers_kept _ c.args.self.now _ c.self.view_is (λ k. ap (λ (w : WaitsState). wait_at w k) c.in_err-add.ensures.unchanged_on_error) refl
+
+pub returns-in_err-insert-clause-standers : goal.returns-in_err-insert-clause-standers
+returns-in_err-insert-clause-standers g c = standers_come c.args.number _ c.args.self.now _ c.self.view_is refl c.add.ensures.waits c.requires
+
+pub returns-clause-standers : goal.returns-clause-standers
+returns-clause-standers g c stand =
+    c.add_topics.ensures.standers.standers (ap is_some c.in_ok-add.ensures.adds) (standers_come c.args.number _ c.args.self.now _ c.self.view_is refl c.add.ensures.waits c.requires stand)

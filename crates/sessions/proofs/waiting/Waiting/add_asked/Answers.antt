@@ -2,6 +2,7 @@ use Rattle.std.proofs.Common.{◌≡◌, ◌+◌, refl, rules}
 use Rattle.log_requests.specs.Fetch.Entries.{fetch_entry_value}
 use Rattle.sessions.proofs.Joining.{ends_at, same_joins}
 use Rattle.sessions.proofs.Counting.{counts_one, counts_woken}
+use Rattle.sessions.proofs.Standers.{standers_stay}
 use Rattle.sessions.proofs.waiting.Waiting.add_asked.Goals as goal
 
 pub returns-in_default-count_entry-clause-joins : goal.returns-in_default-count_entry-clause-joins
@@ -31,3 +32,12 @@ returns-clause-counts g c =
     let counted = c.in-Some-count_entry.counted in
     counts_one c.args.state.now c.args.number (0, 0) c.args.self.now c.add_counted.new.self (c.add_counted.ensures.joins c.args.state.now (0, 0) ends) c.args.topic.now (fetch_entry_value c.args.entry) counted.place found.place
     counted.bytes c.in-Some.count counted.room found.bytes found.room (c.in_ok-add_counted.ensures.puts c.args.state.now ends) c.args.before is c.in_ok-add_counted.ensures.sleeps
+
+pub returns-in_default-count_entry-clause-standers : goal.returns-in_default-count_entry-clause-standers
+returns-in_default-count_entry-clause-standers g c = standers_stay c.args.number _ c.args.self.now _ c.self.view_is refl (λ j other. c.wake.ensures.waits j) (c.wake.ensures.waits c.args.number)
+
+pub returns-in_err-add_counted-clause-standers : goal.returns-in_err-add_counted-clause-standers
+returns-in_err-add_counted-clause-standers g c = c.add_counted.ensures.standers
+
+pub returns-clause-standers : goal.returns-clause-standers
+returns-clause-standers g c = c.add_counted.ensures.standers

@@ -5,6 +5,7 @@ use Rattle.sessions.specs.declared.waits.PartitionKey.{PartitionKey}
 use Rattle.sessions.specs.Waiting.{with_entry}
 use Rattle.sessions.specs.Joining.{EndsAt, PutsAt}
 use Rattle.sessions.proofs.Joining.{joins_then, puts_counted, same_after, sleeps_same, sleeps_taken, sleeps_then, taken_joins}
+use Rattle.sessions.proofs.Standers.{standers_counted, standers_taken, standers_then}
 use Rattle.sessions.proofs.waiting.Waiting.add_counted.Goals as goal
 
 pub returns-in_err-add_place-clause-joins : goal.returns-in_err-add_place-clause-joins
@@ -35,3 +36,13 @@ returns-clause-puts g c =
     (c.add_place.ensures.joins s due ends) in
     subst (λ (key : PartitionKey). OnOk c.put_at.result ((s : State) → EndsAt s key c.args.counted.now.end → PutsAt c.args.number key c.args.counted.now.room c.args.entry c.args.self.now c.put_at.new.self)) c.of-place.ensures
     (puts_counted c.put_at.result c.args.number c.of-place.result c.args.counted.now.end c.args.counted.now.room c.args.entry c.args.self.now c.add_place.new.self c.put_at.new.self joins c.in_ok-add_place.ensures.is_there c.put_at.ensures.puts)
+
+pub returns-in_err-add_place-clause-standers : goal.returns-in_err-add_place-clause-standers
+returns-in_err-add_place-clause-standers g c =
+    let first = standers_taken c.args.number _ c.args.self.now _ c.self.view_is refl c.take_off.ensures.waits c.args.counted.now.bytes c.args.entry c.args.counted.now.room c.take_off.ensures.takes in
+    standers_then c.args.number c.args.self.now _ c.add_place.new.self first c.add_place.ensures.standers
+
+pub returns-clause-standers : goal.returns-clause-standers
+returns-clause-standers g c =
+    let first = standers_taken c.args.number _ c.args.self.now _ c.self.view_is refl c.take_off.ensures.waits c.args.counted.now.bytes c.args.entry c.args.counted.now.room c.take_off.ensures.takes in
+    standers_counted c.args.number c.of-place.result c.args.self.now _ c.add_place.new.self c.put_at.new.self first c.add_place.ensures.standers c.in_ok-add_place.ensures.placed c.put_at.ensures.waits c.put_at.ensures.standers
