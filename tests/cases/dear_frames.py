@@ -1,15 +1,17 @@
 """Frames that take long, to `kbroker start`: behind each the other clients have their turn, and idle counts from an answer on."""
+import contextlib
 import itertools
-import signal
 import struct
 import time
 
-from cases.started import Fault, Started, holds, reply, request, same
+from cases.many_clients import ONE_READ
+from cases.started import Fault, Started, holds, is_soon, reply, request, same
 
 RECORDS, PIECE = 250, 20  # records of a batch, and batches that are sent in one piece
 CLEANED = reply("cleaned 0 0 0 0")  # where each record is the only one of its key
-IDLE = 3  # seconds
+IDLE = 5  # seconds
 NAMES = 2_700_000  # of a Metadata
+A_WHILE = 0.03  # seconds of processor time: more than a short frame takes, and less than so many names
 
 
 def fill(client, first, count=PIECE):
@@ -33,10 +35,9 @@ def many_in_one_piece(program):
     with Started(program) as broker, broker.client() as dear, broker.client() as other:
         fill(dear, 0)
         frames = cleans()
-        broker.process.send_signal(signal.SIGSTOP)
-        dear.send(b"".join(itertools.islice(frames, count)))
-        other.send(request("produce t:0 batch k0=w"))
-        broker.process.send_signal(signal.SIGCONT)
+        with broker.stands_still():
+            dear.send(b"".join(itertools.islice(frames, count)))
+            other.send(request("produce t:0 batch k0=w"))
         other.gets(reply(f"produced t:0 0 {PIECE * RECORDS}"))
         told = [dear.receive(len(CLEANED)) for _ in range(count)]
         others = [number for number, it in enumerate(told) if it != CLEANED]
@@ -65,19 +66,41 @@ def long_one():
     return struct.pack(">i", len(body)) + body
 
 
-def comes_behind(broker, dear, other, frame):
-    """The last byte of a long frame comes, and then another client's request, before the broker looks at either. Tells whether the
-    other one waits for the long one, as it does unless the broker looks at it first; then the broker stands still."""
-    dear.send(frame[:-1])
-    broker.rests("all of a long frame but its last byte came")
-    broker.process.send_signal(signal.SIGSTOP)
-    dear.send(frame[-1:])
-    other.send(request("versions"))
-    broker.process.send_signal(signal.SIGCONT)
-    waits = other.gets_nothing(0.05)
-    if waits:
-        broker.process.send_signal(signal.SIGSTOP)
-    return waits
+def stands_still_behind(broker, dear, other, frame):
+    """The last byte of a long frame comes, and then another client's request, before the broker looks at either. The other one waits
+    for the long one, unless the broker looks at it first: it isn't answered while the broker runs for a while. Then the broker stands
+    still for longer than a client may be idle. Gives until when the other one wasn't answered, or none if it was before."""
+    for at in range(0, len(frame) - 1, ONE_READ):
+        dear.send(frame[at : min(at + ONE_READ, len(frame) - 1)])
+        other.ask("versions", "versions 0")  # by a round, in which as much is read
+    with broker.stands_still():
+        dear.send(frame[-1:])
+        other.send(request("versions"))
+        before = broker.schedule()[0]
+    is_soon(lambda: not other.gets_nothing(0) or broker.schedule()[0] > before + A_WHILE)
+    with broker.stands_still():
+        if not other.gets_nothing(0.05):
+            return None
+        time.sleep(IDLE + 0.5)
+        return time.monotonic()
+
+
+def gets_reply(client, since):
+    """A client gets a reply that hadn't come at some time. Gives the last time at which it was seen that it hadn't."""
+    looked = since
+    while client.gets_nothing(0.05):
+        since, looked = looked, time.monotonic()
+    client.gets(reply("versions 0"))
+    return since
+
+
+def is_served(client):
+    """Whether a client is still answered."""
+    told = reply("versions 0")
+    with contextlib.suppress(ConnectionError):
+        client.send(request("versions"))
+        return client.receive(len(told)) == told
+    return False
 
 
 def not_idle_behind_others(program):
@@ -86,22 +109,20 @@ def not_idle_behind_others(program):
     frame = long_one()
     with Started(program, "--idle", str(IDLE)) as broker, broker.client() as dear, broker.client() as other:
         for _ in range(20):
-            if comes_behind(broker, dear, other, frame):
+            if since := stands_still_behind(broker, dear, other, frame):
                 break
             other.gets(reply("versions 0"))
             dear.receive(int.from_bytes(dear.receive(4), "big"))
         else:
             raise Fault("no request came behind a long frame")
-        time.sleep(IDLE + 0.5)
-        broker.process.send_signal(signal.SIGCONT)
-        other.gets(reply("versions 0"))
+        since = gets_reply(other, since)
         answered = time.monotonic()
         dear.receive(int.from_bytes(dear.receive(4), "big"))
         time.sleep(max(0, answered + IDLE / 2 - time.monotonic()))
-        ended = [line for line in broker.lines if other.address in line]
-        if time.monotonic() < answered + 0.9 * IDLE:  # (else the machine is too slow to tell)
+        served, ended = is_served(other), [line for line in broker.lines if other.address in line]
+        if time.monotonic() < since + IDLE:  # (else the machine is too slow to tell)
             same("the ends of a client that was answered a moment ago", ended, [])
-            other.ask("versions", "versions 0")
+            holds("a client that was answered a moment ago is answered no more", served)
 
 
 CASES = [

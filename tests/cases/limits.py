@@ -72,12 +72,12 @@ def most_connections(program):
             for it in (first, second):
                 it.ask("versions", "versions 0")
             same("lines while fewer are open", broker.lines, [])
-        began, told = time.monotonic(), 0
-        while time.monotonic() < began + 11:
+        began, seconds, told, others = time.monotonic(), 0, 2, []
+        while seconds < 11 or (len(others) < 2 and seconds < SECONDS):
             told += 6
             served_in_turn(broker, broker.clients(6), 3)
-            broker.ends(told + 2)
-        seconds, others = time.monotonic() - began, broker.ends(told + 2).others
+            others = broker.ends(told).others
+            seconds = time.monotonic() - began
         same("lines beside those of ends", set(others), {reached(3)})
         holds(f"{len(others)} such lines in {seconds:.1f} s", 2 <= len(others) <= seconds / 10 + 1)
 
@@ -126,6 +126,52 @@ def most_per_address(program):
         for it in clients:
             it.ask("versions", "versions 0")
         same("lines without such a bound", broker.lines, [])
+
+
+MOST_GROWN = 300_000  # bytes of memory: half of what 10,000 addresses take, and less than so many sessions do
+
+
+def many_come(broker, come, what):
+    """A hundred clients at a time come and go, 12,000 in all. The last 10,000 cost next to no memory."""
+    for turn in range(120):
+        if turn == 20:
+            before = broker.memory()
+        come(turn)
+    more = broker.memory() - before
+    holds(f"10,000 {what} cost {more} bytes of memory", more < MOST_GROWN)
+
+
+@slow(KEEPS)
+def many_turned_away(program):
+    """Of clients that are closed at once, since their address has as many as it may have, nothing is kept."""
+    with Started(program, "--most-per-address", "1") as broker, broker.client() as first:
+        works(first, 0)
+
+        def come(_):
+            for it in broker.clients(100):
+                it.gets_to_the_end(b"", "what comes to one too many")
+                it.reset()
+
+        many_come(broker, come, "clients that were turned away")
+        works(first, 1)
+
+
+@slow(KEEPS)
+def many_addresses(program):
+    """Of addresses whose clients are gone nothing is kept."""
+    with Started(program) as broker, broker.client() as first:
+        works(first, 0)
+
+        def come(turn):
+            clients = [broker.client(host=f"127.1.{turn}.{number}") for number in range(1, 101)]
+            for it in clients:
+                it.stop()
+            for it in clients:
+                it.gets_to_the_end(b"")
+                it.close()
+
+        many_come(broker, come, "addresses whose clients are gone")
+        works(first, 1)
 
 
 def few_files(program):
@@ -195,6 +241,40 @@ def most_held(program):
         third.send(small[200_000:])
         third.gets(reply("produced t:0 0 1"))
         same("connections that ended", broker.ends(1).count(), 1)
+
+
+def takes_on(client):
+    """Whether the other side takes what a client sends. One that is closed resets the connection at the first byte."""
+    with contextlib.suppress(ConnectionError):
+        for _ in range(2):
+            client.send(b"\0")
+        return True
+    return False
+
+
+def most_held_and_refused(program):
+    """Two clients each send a large frame that is refused once it is whole, and stay. A third one sends as much of a Produce: all of
+    that together is more than may be held, and what any of them sends isn't. What was held of a refused frame counts no more: none
+    ends for it, of each refused one is told once, and it isn't reset within two seconds."""
+    size, why = 700_000, "frame 0: TrailingBytes (key 18, version 0)"
+    large = produce_of(size)
+    with Started(program, "--most-held", "1500000") as broker, broker.client() as other, broker.client() as last:
+        began, refused = time.monotonic(), broker.clients(2)
+        for it in refused:
+            it.send(frame(18, 0, b"\0\0\0\7\xff\xff" + bytes(size)))
+            it.gets_to_the_end(b"", "what comes to a frame that is refused")
+        last.send(large[:-1])
+        works(other, 0, 20)
+        taken = [takes_on(it) for it in refused]
+        if time.monotonic() < began + 2:  # (else they may be closed)
+            same("which of those that were refused may send on", taken, [True, True])
+        last.send(large[-1:])
+        last.gets(reply("produced t:0 0 0"))
+        for number, it in enumerate(refused, 2):
+            broker.tells(number, it, why)
+            it.close()
+        works(other, 20, 5)
+        same("lines", len(broker.lines), 2)
 
 
 def within_bounds(broker, most, what):
@@ -521,11 +601,14 @@ CASES = [
     ("more connections than allowed", most_connections),
     ("connections that are reset while they wait", most_connections_reset),
     ("more connections of an address than allowed", most_per_address),
+    ("memory of clients that are turned away", many_turned_away),
+    ("memory of addresses that are gone", many_addresses),
     ("few open files", few_files),
     ("open files that are just enough", enough_files),
     ("accepting that fails for lack of files", no_file_left),
     ("more bytes held than allowed", most_held),
     ("more bytes held than allowed, by address", most_held_by_address),
+    ("more bytes held than allowed, some of refused frames", most_held_and_refused),
     ("memory behind large frames", kept_behind_frames),
     ("memory behind large replies", kept_behind_replies),
     ("more bytes owed than allowed", most_owed),

@@ -7,7 +7,6 @@ import ctypes
 import functools
 import os
 import random
-import signal
 import socket
 import stat
 import struct
@@ -165,11 +164,10 @@ def urgent_bytes(program):
         client.ask("versions", "versions 0")
         data, told = request("listoffsets t:0 -1"), reply("listed t:0 0 -1 0")
         for pieces in ([data[:9], data[9:]], [data, data], [data[:-1], data[-1:] + data]):
-            broker.process.send_signal(signal.SIGSTOP)
-            client.send(pieces[0])
-            client.socket.send(b"!", socket.MSG_OOB)
-            client.send(pieces[1])
-            broker.process.send_signal(signal.SIGCONT)
+            with broker.stands_still():
+                client.send(pieces[0])
+                client.socket.send(b"!", socket.MSG_OOB)
+                client.send(pieces[1])
             client.gets(told * (len(b"".join(pieces)) // len(data)), f"replies where a read ends after {len(pieces[0])} bytes")
         broker.rests("urgent bytes came")
         works(other, 0, 5)
@@ -290,7 +288,7 @@ def refused_and_open(program):
             other.gets(reply("versions 0"))
             holds(f"another is served in its place after {seconds:.1f} s", seconds >= 2)
         took = []
-        for _ in range(5):
+        while len(took) < 5 or (min(took) >= 1.5 and len(took) < 20):
             with broker.client() as client, broker.client() as other:
                 began = time.monotonic()
                 client.send(frame(60, 0))
@@ -299,20 +297,22 @@ def refused_and_open(program):
                 other.ask("versions", "versions 0")
                 took.append(time.monotonic() - began)
         holds(f"those that leave make room after {took} s", min(took) < 1.5)
-        ends = broker.ends(12)
-        same("ends", sorted(why for _, _, why in ends.told), ["end"] * 6 + ["frame 0: UnknownApi (key 60, version 0)"] * 6)
+        count = 1 + len(took)
+        ends = broker.ends(2 * count)
+        same("ends", sorted(why for _, _, why in ends.told), ["end"] * count + ["frame 0: UnknownApi (key 60, version 0)"] * count)
 
 
 def refused_and_resting(program):
     """A client whose frame is refused stays, and sends nothing more: after two seconds another is served in its place, and its end is
     one line, though seconds that are idle would end it before."""
     with Started(program, "--most-connections", "1", "--idle", "1") as broker:
-        with broker.client() as client, broker.client() as other:
+        with broker.client() as client:
             began = time.monotonic()
-            client.send(frame(60, 0))
-            client.gets_to_the_end(b"")
-            other.ask("versions", "versions 0")
-            seconds = time.monotonic() - began
+            client.send(frame(60, 0))  # before anything else, since it may be idle for a second only
+            with broker.client() as other:
+                client.gets_to_the_end(b"")
+                other.ask("versions", "versions 0")
+                seconds = time.monotonic() - began
             holds(f"another is served in its place after {seconds:.1f} s", seconds >= 2)
             why = "frame 0: UnknownApi (key 60, version 0)"
             same("ends of the one", [it[2] for it in broker.ends(1).told if it[1] == client.address], [why])

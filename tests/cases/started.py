@@ -287,6 +287,21 @@ class Started:
         said = is_soon(lambda: any(re.fullmatch(form, it) for it in self.lines))
         holds(f"no line 'connection {number} {client.address}: {why}' in {shown(self.lines)}", said)
 
+    @contextlib.contextmanager
+    def stands_still(self):
+        """It does nothing meanwhile: all that comes is there before it looks at any of it."""
+        self.process.send_signal(signal.SIGSTOP)
+        try:
+            holds("it doesn't stop", is_soon(lambda: self.fields()[0] == "T"))
+            yield
+        finally:
+            self.process.send_signal(signal.SIGCONT)
+
+    def fields(self):
+        """What the system says of it, from its state on."""
+        with open(f"/proc/{self.process.pid}/stat", encoding="ascii") as file:
+            return file.read().rpartition(")")[2].split()
+
     # -- what it costs
 
     def memory(self):
@@ -295,19 +310,21 @@ class Started:
             return int(re.search(r"^VmRSS:\s+(\d+) kB$", file.read(), re.M)[1]) * 1024
 
     def processor_seconds(self):
-        with open(f"/proc/{self.process.pid}/stat", encoding="ascii") as file:
-            fields = file.read().rpartition(")")[2].split()
+        fields = self.fields()
         return (int(fields[11]) + int(fields[12])) / os.sysconf("SC_CLK_TCK")
+
+    def schedule(self):
+        """The seconds in which it ran, and those in which it waited for a processor, where the system counts these."""
+        try:
+            with open(f"/proc/{self.process.pid}/schedstat", encoding="ascii") as file:
+                return [int(it) / 1e9 for it in file.read().split()[:2]]
+        except FileNotFoundError:
+            return [self.processor_seconds()]
 
     def busy_seconds(self):
         """The seconds in which it ran or waited for a processor: where all are busy, a program that never rests has as many of
         these as on a quiet machine. A system that doesn't count how long it waited tells the processor time alone."""
-        try:
-            with open(f"/proc/{self.process.pid}/schedstat", encoding="ascii") as file:
-                ran, waited = file.read().split()[:2]
-        except FileNotFoundError:
-            return self.processor_seconds()
-        return (int(ran) + int(waited)) / 1e9
+        return sum(self.schedule())
 
     def rests(self, what, meanwhile=lambda: time.sleep(0.5)):
         """It must come to rest: to a half second, or what else goes on meanwhile, in which it runs, or waits for a processor, for
