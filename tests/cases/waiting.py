@@ -9,7 +9,7 @@ import signal
 import time
 
 from cases.many_clients import fill, large_reply
-from cases.started import SECONDS, Started, holds, reply, request, same
+from cases.started import SECONDS, Started, holds, reply, request, same, slow
 
 LONG = 600_000  # milliseconds, which no case waits
 BRIEF = 0.3  # seconds in which nothing may come
@@ -398,6 +398,7 @@ def produced_to(broker, producer, place, first):
     return broker.processor_seconds() - before
 
 
+@slow("the program's checks cost more than what is compared")
 def many_partitions(program):
     """A produce beside a Fetch that waits for 4,031 partitions costs at most twice what it costs alone: to a partition for which that
     doesn't wait, and to its own, where it lacks much, and where the next batch makes it due."""
