@@ -5,7 +5,7 @@ import struct
 import time
 
 from cases.many_clients import ONE_READ
-from cases.started import Fault, Started, holds, is_soon, reply, request, same
+from cases.started import Fault, Started, holds, is_soon, reply, request, same, slow
 
 RECORDS, PIECE = 250, 20  # records of a batch, and batches that are sent in one piece
 CLEANED = reply("cleaned 0 0 0 0")  # where each record is the only one of its key
@@ -118,6 +118,7 @@ def answered_behind(broker, dear, other, frame):
     return None
 
 
+@slow("with the program's checks a long frame takes too long")
 def not_idle_behind_others(program):
     """While one client's frame is answered the broker stands still for longer than a client may be idle. Another one that is answered
     behind that, in the same round, isn't idle half that time later."""
