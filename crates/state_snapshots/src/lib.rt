@@ -18,5 +18,5 @@ mod writing;
 pub use error::WriteError;
 pub use fault::{ImageFault, RestoreFault};
 pub use head::{head_of, role_number};
-pub use restoring::restore_snapshot;
+pub use restoring::{ImageWatch, restore_snapshot};
 pub use writing::write_snapshot;

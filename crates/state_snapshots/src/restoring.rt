@@ -16,6 +16,12 @@ use journal::{Disk, read_bytes};
 use segment::BatchStore;
 use snapshots::{SnapshotHead, SnapshotPartition};
 
+/// Who is told how far the images of a snapshot were put in place.
+pub trait ImageWatch {
+    /// Another image was put in place: the file has `size` bytes, and up to the offset `at` it was read.
+    fn restored(&mut self, at: u64, size: u64);
+}
+
 /// How many bytes the image has that should stand at an offset, where a file with this end has them all.
 fn image_length(size: i64, at: u64, end: u64) -> Result<usize, RestoreFault>
     ensures sized { IfOk result (λ count. size ≡ pos count) }
@@ -99,7 +105,7 @@ fn put_copy<S: BatchStore>(
 }
 
 /// Puts the images of a topic's partitions in place, from an offset on, and gives the offset behind them.
-fn restore_topic<D: Disk, S: BatchStore>(
+fn restore_topic<D: Disk, S: BatchStore, W: ImageWatch>(
     alloc: S::Alloc,
     disk: &D,
     topic: Topic<'_, SnapshotPartition>,
@@ -107,6 +113,7 @@ fn restore_topic<D: Disk, S: BatchStore>(
     end: u64,
     buffer: &mut Vec<u8, S::Alloc>,
     state: &mut BrokerState<S>,
+    watch: &mut W,
 ) -> Result<u64, RestoreFault>
     requires { IfSome (D.seen disk.now) (λ file. end ≡ length file) }
     ensures restores { IfOk result (λ behind. RestoresAll (D.seen disk.now)
@@ -124,18 +131,20 @@ fn restore_topic<D: Disk, S: BatchStore>(
         put_copy(behind, topic.name, index, copy, state)?;
         behind += count as u64;
         index += 1;
+        watch.restored(behind, end);
     }
     Ok(behind)
 }
 
 /// Puts the images of all topics' partitions in place.
-fn restore_topics<'a, D: Disk, S: BatchStore>(
+fn restore_topics<'a, D: Disk, S: BatchStore, W: ImageWatch>(
     alloc: S::Alloc,
     disk: &D,
     topics: &Array<'a, Topic<'a, SnapshotPartition>>,
     at: u64,
     end: u64,
     state: &mut BrokerState<S>,
+    watch: &mut W,
 ) -> Result<u64, RestoreFault>
     requires { IfSome (D.seen disk.now) (λ file. end ≡ length file) }
     ensures restores { IfOk result (λ behind. RestoresAll (D.seen disk.now)
@@ -146,7 +155,7 @@ fn restore_topics<'a, D: Disk, S: BatchStore>(
     let mut buffer = Vec::new(alloc);
     let mut behind = at;
     for topic in Topics::of(topics) {
-        behind = restore_topic(alloc, disk, topic, behind, end, &mut buffer, state)?;
+        behind = restore_topic(alloc, disk, topic, behind, end, &mut buffer, state, watch)?;
     }
     Ok(behind)
 }
@@ -175,18 +184,19 @@ fn next_producer(head: &SnapshotHead<'_>) -> i64
 /// Puts what a snapshot holds in the place of what a broker holds. `head` is the head of the snapshot, and
 /// from the offset `at` on there should be the images that it announces, up to the end of the file. There is
 /// memory for one image at a time, beside the copies; partitions that the head doesn't name stay as they are.
-/// The number, the role and the first producer id of the head aren't looked at.
+/// The number, the role and the first producer id of the head aren't looked at. Behind each image `watch` is told.
 ///
 /// # Errors
 ///
 /// The first fault, in the order that [`RestoreFault`] says. Some first partitions hold their images' copies
 /// then, so the state is to be thrown away.
-pub fn restore_snapshot<D: Disk, S: BatchStore>(
+pub fn restore_snapshot<D: Disk, S: BatchStore, W: ImageWatch>(
     alloc: S::Alloc,
     disk: &D,
     head: &SnapshotHead<'_>,
     at: u64,
     state: &mut BrokerState<S>,
+    watch: &mut W,
 ) -> Result<(), RestoreFault>
     ensures restores { OnOk result
         (IsRestored (snapshot_view head.now) (D.seen disk.now) at state.old state.new) }
@@ -194,7 +204,7 @@ pub fn restore_snapshot<D: Disk, S: BatchStore>(
         (D.may_fail disk.now) at state.old state.new) }
 {
     let end = disk.len()?;
-    let behind = restore_topics(alloc, disk, &head.topics, at, end, state)?;
+    let behind = restore_topics(alloc, disk, &head.topics, at, end, state, watch)?;
     check_end(behind, end)?;
     match state.give_ids_from(next_producer(head)) {
         Ok(()) => Ok(()),
