@@ -7,16 +7,18 @@ use Rattle.data_directory.specs.declared.directory.Kind.TheVariants.{File}
 use Rattle.data_directory.specs.declared.names.Name.{Name}
 use Rattle.data_directory.specs.declared.names.Name.TheVariants.{Snapshot, Making}
 
--- Whether a regular file has a name; whether one has it on the disk for certain; and the bytes of the snapshot of a number, which
--- it had when it got its name. Each where it is known: of a directory of the operating system nothing is.
+-- Whether a regular file has a name; whether one has it on the disk for certain; the bytes of the snapshot of a number, which it
+-- had when it got its name; and whether no file of a name was shortened. Each where it is known: of a directory of the operating
+-- system nothing is.
 pub record DirectoryState : Type 0 where
   pub there : Name → Option Bool
   pub certain : Name → Option Bool
   pub bytes : ℕ → Option (List ℕ)
+  pub whole : Name → Option Bool
 
 -- of this directory nothing is known
 abbrev pub unknown : DirectoryState
-unknown = record { there = λ name. None; certain = λ name. None; bytes = λ number. None }
+unknown = record { there = λ name. None; certain = λ name. None; bytes = λ number. None; whole = λ name. None }
 
 -- a regular file has the name, or none has it
 abbrev pub IsThere : DirectoryState → Name → Bool → Type 0
@@ -26,10 +28,11 @@ IsThere d name is_there = IfSome (d.there name) (λ known. known ≡ is_there)
 abbrev pub Becomes : (name : Name) (is_there : Bool) (old new : DirectoryState) → Type 0
 Becomes name is_there old new = new.there name ≡ option_map (λ before. is_there) (old.there name)
 
--- All names are there as before, and snapshots have the bytes that they had, but for these perhaps.
+-- All names are there as before, snapshots have the bytes that they had, and no file was shortened, but for these perhaps.
 pub record KeepsOthers (touched : Name → Type 0) (old new : DirectoryState) : Type 0 where
   pub there : (name : Name) → (touched name → ⊥) → new.there name ≡ old.there name
   pub bytes : (number : ℕ) → (touched (Snapshot number) → ⊥) → new.bytes number ≡ old.bytes number
+  pub whole : (name : Name) → (touched name → ⊥) → new.whole name ≡ old.whole name
 
 -- what is on the disk for certain is so still, but for these names perhaps
 abbrev pub KeepsCertain : (touched : Name → Type 0) (old new : DirectoryState) → Type 0

@@ -1,5 +1,5 @@
 -- The names of a directory by the list of all changes of them. A change takes a name away, or gives one to a file, or does both at
--- once, and the bytes of that file may be known: of changes of any type, three functions say this.
+-- once, and the bytes of that file may be known; or it shortens the file of a name: of changes of any type, four functions say this.
 use Rattle.std.specs.Prelude.{ℕ, Bool, true, false, not, ◌&&◌, ◌||◌, nat_eq, if◌then◌else◌, List, fold, take, Option, None, Some}
 use Rattle.data_directory.specs.declared.names.Name.{Name}
 use Rattle.data_directory.specs.declared.names.Name.TheVariants.{Snapshot, Journal, Making}
@@ -30,10 +30,15 @@ abbrev pub bytes_by : {C : Type 0} (changes : List C) (named : C → Option Name
 bytes_by changes named bytes number =
     fold (λ before change. if has_name (Snapshot number) (named change) then bytes change else before) None changes
 
+-- whether no change shortened the file of a name
+abbrev pub is_whole_by : {C : Type 0} (changes : List C) (cut : C → Option Name) → Name → Bool
+is_whole_by changes cut name = fold (λ before change. not (has_name name (cut change)) && before) true changes
+
 -- of these changes so many, from the first on, are on the disk for certain
-abbrev pub state_by : {C : Type 0} (changes : List C) (gone named : C → Option Name) (bytes : C → Option (List ℕ)) (synced : ℕ) → DirectoryState
-state_by changes gone named bytes synced = record {
+abbrev pub state_by : {C : Type 0} (changes : List C) (gone named cut : C → Option Name) (bytes : C → Option (List ℕ)) (synced : ℕ) → DirectoryState
+state_by changes gone named cut bytes synced = record {
   there = λ name. Some (is_there_by changes gone named name);
   certain = λ name. Some (is_there_by (take synced changes) gone named name);
   bytes = bytes_by changes named bytes;
+  whole = λ name. Some (is_whole_by changes cut name);
 }

@@ -16,7 +16,7 @@ use std::io::{self, Error, ErrorKind};
 /// The bytes that are drawn for the key of a journal.
 const DRAWN: [u8; KEY_SIZE] = *b"01234567";
 
-/// A change of names.
+/// A change of names, or of the file that has one.
 #[derive(Drop)]
 struct Change<A: Allocator + Copy> {
     /// The name that no file has any more.
@@ -25,6 +25,8 @@ struct Change<A: Allocator + Copy> {
     named: Option<Name>,
     /// What a snapshot in the making had when it got that name.
     draft: Option<MemoryDraft<A>>,
+    /// The name whose file was shortened.
+    cut: Option<Name>,
 }
 
 impl<A: Allocator + Copy> Change<A> {
@@ -84,6 +86,8 @@ impl<A: Allocator + Copy> KnownDirectory<A> {
     /// Gives a name to a new file, where none has it.
     fn give(&mut self, name: Name) -> io::Result<()>
         ensures was_absent { OnOk result (IsThere (⟦<KnownDirectory<A> as Directory>⟧.state self.old) name false) }
+        ensures spares { (⟦<KnownDirectory<A> as Directory>⟧.state self.old).there name ≡ Some true
+            → (⟦<KnownDirectory<A> as Directory>⟧.state self.new).there name ≡ Some true }
         ensures makes { OnOk result (Becomes name true
             (⟦<KnownDirectory<A> as Directory>⟧.state self.old)
             (⟦<KnownDirectory<A> as Directory>⟧.state self.new)) }
@@ -99,6 +103,7 @@ impl<A: Allocator + Copy> KnownDirectory<A> {
             gone: None,
             named: Some(name),
             draft: None,
+            cut: None,
         })?;
         Ok(())
     }
@@ -156,9 +161,11 @@ impl<A: Allocator + Copy> Directory for KnownDirectory<A> {
     type Draft = MemoryDraft<A>;
 
     ghost state = { λ d. state_by d.changes.items (λ change. change.gone) (λ change. change.named)
-        (λ change. option_map bytes_of change.draft) d.synced };
+        (λ change. change.cut) (λ change. option_map bytes_of change.draft) d.synced };
 
     ghost gives = { λ d name file. ⊤ };
+
+    ghost unsure = { λ d. false };
 
     fn names<B: Allocator + Copy>(&self, alloc: B) -> io::Result<Vec<Name, B>> {
         let mut names = Vec::new(alloc);
@@ -176,7 +183,16 @@ impl<A: Allocator + Copy> Directory for KnownDirectory<A> {
         }
     }
 
+    fn is_unsure(&self) -> bool {
+        false
+    }
+
     fn open(&self, name: Name) -> io::Result<MemoryDisk<A>> {
+        self.refuse_absent(name)?;
+        Ok(MemoryDisk::new(self.alloc, b"")?)
+    }
+
+    fn open_to_write(&self, name: Name) -> io::Result<MemoryDisk<A>> {
         self.refuse_absent(name)?;
         Ok(MemoryDisk::new(self.alloc, b"")?)
     }
@@ -199,6 +215,7 @@ impl<A: Allocator + Copy> Directory for KnownDirectory<A> {
             gone: Some(Name::Making),
             named: Some(Name::Snapshot(number)),
             draft: Some(draft),
+            cut: None,
         })?;
         Ok(())
     }
@@ -209,6 +226,18 @@ impl<A: Allocator + Copy> Directory for KnownDirectory<A> {
             gone: Some(name),
             named: None,
             draft: None,
+            cut: None,
+        })?;
+        Ok(())
+    }
+
+    fn shorten(&mut self, name: Name, _size: u64) -> io::Result<()> {
+        self.refuse_absent(name)?;
+        self.make(Change {
+            gone: None,
+            named: None,
+            draft: None,
+            cut: Some(name),
         })?;
         Ok(())
     }

@@ -1,6 +1,6 @@
 //! A directory in memory, of whose calls one can fail, and what a crash leaves of it.
 
-ghost use Rattle.std.specs.Prelude.{◌≡◌, ◌≤◌, IfOk, None, length, true};
+ghost use Rattle.std.specs.Prelude.{◌≡◌, ◌≤◌, IfOk, None, ⊤, length, true};
 
 use crate::stored_files::{Left, StoredFile};
 use crate::stored_names::{Change, Names, StoredNames};
@@ -24,6 +24,13 @@ pub enum Way {
     Last,
     /// It does its work and says that it failed, and no call behind it does anything.
     Untold,
+    /// It fails as one that fails alone. Where it is the sync of a file, the system takes what was to be written for written from
+    /// then on: it is read, and no sync writes it.
+    Lost,
+    /// It works. From it on the system has forgotten what it had of files in memory, but for what is still to be written.
+    Gone,
+    /// It and all behind it that write bytes write one half and find no room for the other, until a name is gone.
+    Full,
 }
 
 /// What becomes of a call.
@@ -35,6 +42,10 @@ enum Fate {
     Untold,
     /// It fails half done, if it can be.
     Half,
+    /// It fails, and what it was to write is taken for written.
+    Lost,
+    /// It finds no room for more than the half of its bytes.
+    Full,
     /// It fails.
     Fails,
 }
@@ -49,6 +60,7 @@ impl Fate {
     fn told(self) -> io::Result<()> {
         match self {
             Fate::Works => Ok(()),
+            Fate::Full => Err(Error::from(ErrorKind::StorageFull)),
             _ => Err(failure()),
         }
     }
@@ -58,6 +70,15 @@ impl Fate {
         match self {
             Fate::Works | Fate::Untold => Ok(self),
             _ => Err(failure()),
+        }
+    }
+
+    /// How many of so many bytes a call writes.
+    fn written(self, size: usize) -> usize {
+        match self {
+            Fate::Works | Fate::Untold => size,
+            Fate::Half | Fate::Lost | Fate::Full => size / 2,
+            Fate::Fails => 0,
         }
     }
 }
@@ -73,6 +94,8 @@ pub struct Store<A: Allocator + Copy> {
     /// The number of that call, counted from 1; none fails where it is 0.
     failing: u64,
     way: Way,
+    /// How many appends found no room.
+    refused: u64,
     /// By the numbers of snapshots, how many frames had been handled before the journal of that number.
     bases: [u64; BASES],
 }
@@ -90,6 +113,7 @@ impl<A: Allocator + Copy> Store<A> {
             calls: 0,
             failing: 0,
             way: Way::Alone,
+            refused: 0,
             bases: [0; BASES],
         }
     }
@@ -115,6 +139,37 @@ impl<A: Allocator + Copy> Store<A> {
         copy.names = self.names.copy()?;
         copy.bases = self.bases;
         Ok(copy)
+    }
+
+    /// Puts a file there that has these bytes. Neither they nor its name are on the disk for certain.
+    pub fn put(&mut self, name: Name, bytes: &[u8]) -> Result<(), AllocError> {
+        let file = self.files.len();
+        self.files.push(StoredFile::unsynced(self.alloc, bytes)?)?;
+        self.names.make(Change::Made(name, file))
+    }
+
+    /// The same files and names, as they are put back from a copy: nothing of them is on the disk for certain.
+    pub fn put_back(&self) -> Result<Store<A>, AllocError> {
+        let mut names = Vec::new(self.alloc);
+        self.names.names().put(&mut names)?;
+        let mut back = Store::new(self.alloc);
+        for name in &names {
+            if let Some(bytes) = self.bytes(*name) {
+                back.put(*name, bytes)?;
+            }
+        }
+        back.bases = self.bases;
+        Ok(back)
+    }
+
+    /// The bytes of the file that has a name.
+    pub fn bytes(&self, name: Name) -> Option<&[u8]> {
+        Some(self.files.get(self.names.names().file(name)?)?.bytes())
+    }
+
+    /// How many appends found no room.
+    pub fn refused(&self) -> u64 {
+        self.refused
     }
 
     /// Whether it has the same files and names as another, and a crash leaves the same.
@@ -177,10 +232,35 @@ impl<A: Allocator + Copy> Store<A> {
             return Fate::Works;
         }
         match (self.calls == self.failing, self.way) {
+            (_, Way::Gone) => self.forget(),
+            (_, Way::Full) => Fate::Works,
             (true, Way::Untold) => Fate::Untold,
+            (true, Way::Lost) => Fate::Lost,
             (true, _) => Fate::Half,
-            (false, Way::Alone) => Fate::Works,
+            (false, Way::Alone | Way::Lost) => Fate::Works,
             (false, _) => Fate::Fails,
+        }
+    }
+
+    /// Forgets what was had of files in memory, but for what is still to be written.
+    fn forget(&mut self) -> Fate {
+        for file in &mut self.files {
+            file.forget();
+        }
+        Fate::Works
+    }
+
+    /// Counts a call that writes bytes, and tells what becomes of it.
+    fn fate_of_write(&mut self) -> Fate {
+        let fate = self.fate();
+        let is_full = self.way == Way::Full && self.failing != 0 && self.failing <= self.calls;
+        if is_full { Fate::Full } else { fate }
+    }
+
+    /// There is room again, behind a name that went.
+    fn give_room(&mut self) {
+        if self.way == Way::Full && self.failing <= self.calls {
+            self.failing = 0;
         }
     }
 
@@ -240,6 +320,7 @@ impl<A: Allocator + Copy> Store<A> {
         let fate = self.fate().begin()?;
         self.named(name)?;
         self.names.make(Change::Removed(name))?;
+        self.give_room();
         fate.told()
     }
 
@@ -260,29 +341,35 @@ impl<A: Allocator + Copy> Store<A> {
     }
 
     fn append(&mut self, file: usize, bytes: &[u8]) -> io::Result<()> {
-        let fate = self.fate();
-        let written = match fate {
-            Fate::Works | Fate::Untold => bytes,
-            Fate::Half => bytes.get(..bytes.len() / 2).unwrap_or(b""),
-            Fate::Fails => b"",
-        };
+        let fate = self.fate_of_write();
+        if let Fate::Full = fate {
+            self.refused = self.refused.saturating_add(1);
+        }
+        let written = bytes.get(..fate.written(bytes.len())).unwrap_or(b"");
         self.file(file)?.append(written)?;
         fate.told()
     }
 
     fn write_at(&mut self, file: usize, at: u64, bytes: &[u8]) -> io::Result<()> {
-        let fate = self.fate();
-        let written = match fate {
-            Fate::Works | Fate::Untold => bytes,
-            Fate::Half => bytes.get(..bytes.len() / 2).unwrap_or(b""),
-            Fate::Fails => b"",
-        };
+        let fate = self.fate_of_write();
+        let written = bytes.get(..fate.written(bytes.len())).unwrap_or(b"");
         self.file(file)?.write_at(at, written)?;
         fate.told()
     }
 
+    fn rewrite(&mut self, file: usize, at: u64, bytes: &[u8]) -> io::Result<()> {
+        let fate = self.fate();
+        let written = bytes.get(..fate.written(bytes.len())).unwrap_or(b"");
+        self.file(file)?.rewrite(at, written)?;
+        fate.told()
+    }
+
     fn sync_file(&mut self, file: usize) -> io::Result<()> {
-        let fate = self.fate().begin()?;
+        let fate = self.fate();
+        if let Fate::Lost = fate {
+            self.file(file)?.lose();
+        }
+        let fate = fate.begin()?;
         self.file(file)?.sync()?;
         fate.told()
     }
@@ -290,6 +377,17 @@ impl<A: Allocator + Copy> Store<A> {
     fn cut(&mut self, file: usize, size: u64) -> io::Result<()> {
         let fate = self.fate().begin()?;
         self.file(file)?.cut(size);
+        fate.told()
+    }
+
+    /// Cuts the file that has a name, unless it has no more bytes.
+    fn shorten(&mut self, name: Name, size: u64) -> io::Result<()> {
+        let file = self.open(name)?;
+        let fate = self.fate().begin()?;
+        let stored = self.file(file)?;
+        if size < stored.bytes().len() as u64 {
+            stored.cut(size);
+        }
         fate.told()
     }
 
@@ -325,6 +423,8 @@ fn read_into(bytes: &[u8], at: u64, room: &mut [u8]) -> usize
 #[derive(Drop)]
 pub struct MemoryDirectory<'a, A: Allocator + Copy> {
     store: &'a RefCell<Store<A>>,
+    /// Whether a sync of the names has failed.
+    is_unsure: bool,
 }
 
 /// A file of it.
@@ -332,12 +432,17 @@ pub struct MemoryDirectory<'a, A: Allocator + Copy> {
 pub struct MemoryFile<'a, A: Allocator + Copy> {
     store: &'a RefCell<Store<A>>,
     file: usize,
+    /// Whether it may be written to.
+    is_to_write: bool,
 }
 
 impl<'a, A: Allocator + Copy> MemoryDirectory<'a, A> {
     /// The directory of these files and names.
     pub fn new(store: &'a RefCell<Store<A>>) -> MemoryDirectory<'a, A> {
-        MemoryDirectory { store }
+        MemoryDirectory {
+            store,
+            is_unsure: false,
+        }
     }
 
     /// Notes how many frames were handled before the journal of this number.
@@ -358,8 +463,18 @@ impl<'a, A: Allocator + Copy> MemoryDirectory<'a, A> {
     }
 }
 
+impl<'a, A: Allocator + Copy> MemoryFile<'a, A> {
+    /// Refuses a file that was opened to be read.
+    fn refuse_read_only(&self) -> io::Result<()> {
+        if self.is_to_write {
+            Ok(())
+        } else {
+            Err(Error::from(ErrorKind::PermissionDenied))
+        }
+    }
+}
+
 impl<'a, A: Allocator + Copy> Directory for MemoryDirectory<'a, A> {
-    ghost use Rattle.std.specs.Prelude.{⊤};
     ghost use Rattle.data_directory.specs.Directories.{unknown};
 
     type File = MemoryFile<'a, A>;
@@ -369,6 +484,8 @@ impl<'a, A: Allocator + Copy> Directory for MemoryDirectory<'a, A> {
     ghost state = { λ directory. unknown };
 
     ghost gives = { λ directory name file. ⊤ };
+
+    ghost unsure = { λ directory. directory.is_unsure };
 
     fn names<B: Allocator + Copy>(&self, alloc: B) -> io::Result<Vec<Name, B>> {
         let mut list = Vec::new(alloc);
@@ -382,11 +499,25 @@ impl<'a, A: Allocator + Copy> Directory for MemoryDirectory<'a, A> {
         borrowed(self.store)?.kind(name)
     }
 
+    fn is_unsure(&self) -> bool {
+        self.is_unsure
+    }
+
     fn open(&self, name: Name) -> io::Result<MemoryFile<'a, A>> {
         let file = borrowed(self.store)?.open(name)?;
         Ok(MemoryFile {
             store: self.store,
             file,
+            is_to_write: false,
+        })
+    }
+
+    fn open_to_write(&self, name: Name) -> io::Result<MemoryFile<'a, A>> {
+        let file = borrowed(self.store)?.open(name)?;
+        Ok(MemoryFile {
+            store: self.store,
+            file,
+            is_to_write: true,
         })
     }
 
@@ -395,6 +526,7 @@ impl<'a, A: Allocator + Copy> Directory for MemoryDirectory<'a, A> {
         Ok(MemoryFile {
             store: self.store,
             file,
+            is_to_write: true,
         })
     }
 
@@ -403,6 +535,7 @@ impl<'a, A: Allocator + Copy> Directory for MemoryDirectory<'a, A> {
         Ok(MemoryFile {
             store: self.store,
             file,
+            is_to_write: true,
         })
     }
 
@@ -420,8 +553,17 @@ impl<'a, A: Allocator + Copy> Directory for MemoryDirectory<'a, A> {
         borrowed(self.store)?.remove(name)
     }
 
+    fn shorten(&mut self, name: Name, size: u64) -> io::Result<()> {
+        borrowed(self.store)?.shorten(name, size)
+    }
+
     fn sync(&mut self) -> io::Result<()> {
-        borrowed(self.store)?.sync()
+        if self.is_unsure {
+            return Err(failure());
+        }
+        let told = sync_names(self.store);
+        self.is_unsure = told.is_err();
+        told
     }
 }
 
@@ -438,12 +580,20 @@ impl<'a, A: Allocator + Copy> Disk for MemoryFile<'a, A> {
 
     ghost has_failed = { λ disk. true };
 
+    ghost written = { λ disk i. ⊤ };
+
     ghost counts_now = { λ disk t c le left. left };
 
     ghost only_now = { λ disk c left. left };
 
     fn append(&mut self, bytes: &[u8]) -> io::Result<()> {
+        self.refuse_read_only()?;
         borrowed(self.store)?.append(self.file, bytes)
+    }
+
+    fn rewrite(&mut self, at: u64, bytes: &[u8]) -> io::Result<()> {
+        self.refuse_read_only()?;
+        borrowed(self.store)?.rewrite(self.file, at, bytes)
     }
 
     fn sync(&mut self) -> io::Result<()> {
@@ -451,6 +601,7 @@ impl<'a, A: Allocator + Copy> Disk for MemoryFile<'a, A> {
     }
 
     fn cut(&mut self, size: u64) -> io::Result<()> {
+        self.refuse_read_only()?;
         borrowed(self.store)?.cut(self.file, size)
     }
 
@@ -475,6 +626,11 @@ impl<'a, A: Allocator + Copy> DraftFile for MemoryFile<'a, A> {
     fn sync(&mut self) -> io::Result<()> {
         borrowed(self.store)?.sync_file(self.file)
     }
+}
+
+/// Syncs the names of a directory.
+fn sync_names<A: Allocator + Copy>(store: &RefCell<Store<A>>) -> io::Result<()> {
+    borrowed(store)?.sync()
 }
 
 /// Borrows what a directory holds.
