@@ -4,6 +4,7 @@ pub mod BarredStay
 pub mod Handling
 pub mod Replayed
 pub mod Kept
+pub mod Mended
 pub mod OneState
 mod SameAnywhere
 pub mod Recovered

@@ -13,7 +13,8 @@ use Rattle.kept_sessions.specs.declared.keeper.Sent.TheVariants.{Bytes, HeldBack
 use Rattle.kept_sessions.specs.declared.keeper.CommitError.{CommitError}
 use Rattle.kept_sessions.specs.declared.keeper.CommitError.TheVariants.{OutOfMemory, Journal as InJournal}
 use Rattle.std.specs.Io.KnownBytes.{append_known}
-use Rattle.journal.specs.Disks.{LeavesAll}
+use Rattle.journal.specs.declared.error.JournalError.TheVariants.{OnDisk}
+use Rattle.journal.specs.Disks.{LeavesAll, Tears}
 use Rattle.sessions.specs.Orders.{Event, SendsAt, SessionsState, World, Run, new_world, sent_to, one_list, own}
 use Rattle.journal.specs.declared.layout.TheConstants.{HEAD_SIZE}
 use Rattle.journal.specs.Files.{Group, IsGroup, AreGroups, IsRead, groups_bytes}
@@ -81,12 +82,14 @@ pub record IsKept {D : Type 0} (seen : D → Option (List ℕ)) (first start : S
 pub record Commits {D : Type 0} (seen : D → Option (List ℕ)) (may_leave : D → List ℕ → Type 0) (frames : List ℕ) (old new : JournalState D) : Type 0 where
   pub appends : seen new.disk ≡ append_known (seen old.disk) (next_bytes old frames)
   pub durable : LeavesAll (seen new.disk) (may_leave new.disk)
+  pub key : new.key ≡ old.key
 
 -- the journal's file has grown by the group of these frames, and no more of it is synced than before
 pub record Appends {D : Type 0} (seen : D → Option (List ℕ)) (frames : List ℕ) (old new : JournalState D) : Type 0 where
   pub grows : seen new.disk ≡ append_known (seen old.disk) (next_bytes old frames)
   pub end : new.end ≡ old.end + length (next_bytes old frames)
   pub synced : new.synced ≡ old.synced
+  pub key : new.key ≡ old.key
 
 -- the journal's file stays, and a crash leaves all of it
 pub record Syncs {D : Type 0} (seen : D → Option (List ℕ)) (may_leave : D → List ℕ → Type 0) (old new : JournalState D) : Type 0 where
@@ -101,6 +104,23 @@ abbrev pub StopsCommit : {D : Type 0} (has_failed : D → Bool) (old new : KeptS
 StopsCommit has_failed old new OutOfMemory = (old.notes.has_lacked ≡ true) × (new ≡ old)
 StopsCommit has_failed old new (InJournal why) =
     (old.notes.has_lacked ≡ false) × (new.notes ≡ old.notes) × StopsAppend has_failed old.journal new.journal old.notes.frames why
+
+-- An append failed, and nothing else: bytes stand perhaps behind what the journal's file had, the frames are noted still, and
+-- all else is as it was.
+pub record IsTornBy {D : Type 0} (seen : D → Option (List ℕ)) (old new : KeptState D) : Type 0 where
+  pub world : new.world ≡ old.world
+  pub notes : new.notes ≡ old.notes
+  pub torn : new.journal.is_torn ≡ true
+  pub key : new.journal.key ≡ old.journal.key
+  pub end : new.journal.end ≡ old.journal.end
+  pub size : IfSome (seen old.journal.disk) (λ file. length file ≡ old.journal.end)
+  pub tears : Tears (seen old.journal.disk) (seen new.journal.disk)
+
+-- that, where the disk failed and the journal says so
+abbrev pub TearsBy : {D : Type 0} (seen : D → Option (List ℕ)) (old new : KeptState D) → CommitError → Type 0
+TearsBy seen old new OutOfMemory = Unit {0}
+TearsBy seen old new (InJournal (OnDisk e)) = new.journal.is_torn ≡ true → IsTornBy seen old new
+TearsBy seen old new (InJournal why) = Unit {0}
 
 -- ---- what is sent
 

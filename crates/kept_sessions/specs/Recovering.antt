@@ -1,11 +1,12 @@
 -- A broker that is recovered from its journal, and goes on with it.
-use Rattle.std.specs.Prelude.{◌≡◌, ℕ, Bool, true, List, length, take, drop, Option, Some, IfSome}
+use Rattle.std.specs.Prelude.{◌≡◌, ℕ, Bool, List, length, take, drop, Option, Some, IfSome}
 use Rattle.frame_fields.specs.Frames.{stream}
 use Rattle.broker_state.specs.State.{State}
 use Rattle.sessions.specs.Orders.{new_world}
 use Rattle.journal.specs.declared.layout.TheConstants.{HEAD_SIZE}
 use Rattle.journal.specs.Files.{Group, StartsWithGroup, HasNoGroup, HasLaterSync, groups_end}
 use Rattle.journal.specs.Readers.{HasReadUpTo, HasReadCause, ReadsMayFail}
+use Rattle.journal.specs.declared.settle.Unsettled.{Unsettled}
 use Rattle.kept_sessions.specs.declared.replaying.ReplayError.{ReplayError}
 use Rattle.kept_sessions.specs.declared.recovering.RecoverError.{RecoverError}
 use Rattle.kept_sessions.specs.declared.recovering.RecoverError.TheVariants as recover
@@ -72,8 +73,7 @@ StopsRecovery seen may_fail key from to s (recover.Read why) = HasReadCause (Rea
 StopsRecovery seen may_fail key from to s (recover.Frame at why) = FailsBehind seen key from at s why
 StopsRecovery seen may_fail key from to s recover.LaterSync = IsDamaged seen key from to s
 
--- Why a broker doesn't go on with its journal: there is no memory; or the disk has failed, and a crash at any moment
--- leaves of it what `leaves` says.
-abbrev pub StopsResume : {D : Type 0} (has_failed : D → Bool) (leaves : D → Type 0) → ResumeError D → Type 0
-StopsResume has_failed leaves resume.OutOfMemory = Unit {0}
-StopsResume has_failed leaves (resume.OnDisk e) = (has_failed e.disk ≡ true) × leaves e.disk
+-- why a broker doesn't go on with its journal: there is no memory, or of the disk, which is given back, this is so
+abbrev pub StopsResume : {D : Type 0} (stops : Unsettled D → Type 0) → ResumeError D → Type 0
+StopsResume stops resume.OutOfMemory = Unit {0}
+StopsResume stops (resume.OnDisk e) = stops e

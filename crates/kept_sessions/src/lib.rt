@@ -19,7 +19,7 @@ mod replaying;
 
 pub use keeper::{CommitError, Keeper, Sent};
 pub use notes::FrameNotes;
-pub use recovering::{RecoverError, ResumeError, recover, resume};
+pub use recovering::{RecoverError, ResumeError, Unwatched, Watch, recover, resume};
 pub use replaying::{ReplayError, replay};
 pub use sessions;
 pub use sessions::{Answer, GROUP_TOPIC, Node};
