@@ -4,4 +4,5 @@ pub mod CopiesThere
 pub mod Touched
 pub mod Images
 pub mod Stepping
+pub mod RoomMade
 pub mod Leading

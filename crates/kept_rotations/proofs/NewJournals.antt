@@ -35,8 +35,8 @@ pub head_behind : {D : Type 0} (seen : D → Option (List ℕ)) (number last : �
 head_behind seen number last made now is same has = subst (λ (j : JournalState _). HasHeadAlone seen (last + 1) j) (sym same) (subst (λ (n : ℕ). HasHeadAlone seen n made) is has)
 
 -- the size that a journal's file has, as long as no call has failed
-pub file_size : {D : Type 0} (seen : D → Option (List ℕ)) (may_leave : D → List ℕ → Type 0) (j : JournalState D) → IsJournal seen may_leave j → (j.end ≡ HEAD_SIZE) → j.has_failed ≡ false → IfSome (seen j.disk) (λ file. length file ≡ HEAD_SIZE)
-file_size seen may_leave j sound end works = by (seen j.disk) (sound.file works)
+pub file_size : {D : Type 0} (seen : D → Option (List ℕ)) (may_leave : D → List ℕ → Type 0) (written : D → ℕ → Type 0) (j : JournalState D) → IsJournal seen may_leave written j → (j.end ≡ HEAD_SIZE) → j.has_failed ≡ false → IfSome (seen j.disk) (λ file. length file ≡ HEAD_SIZE)
+file_size seen may_leave written j sound end works = by (seen j.disk) (sound.file works)
   where
     by : (o : Option (List ℕ)) → IfSome o (λ file. IsHeld file j.end j.synced (may_leave j.disk)) → IfSome o (λ file. length file ≡ HEAD_SIZE)
     by None held = tt

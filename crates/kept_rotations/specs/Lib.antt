@@ -1,5 +1,7 @@
 -- Read in this order; each module uses only those above it.
+pub mod Events
 pub mod GoingOn
 pub mod Moments
 pub mod Steps
+pub mod Putting
 pub mod Below

@@ -11,10 +11,12 @@ use Rattle.kept_sessions.specs.Barring.{is_barred}
 use Rattle.kept_sessions.specs.Keeping.{KeptState}
 use Rattle.kept_rotations.specs.declared.files.KeptFiles.{KeptFiles}
 
--- The numbers and sizes of a directory's files, and the snapshot that is being written, if one is.
+-- The numbers and sizes of a directory's files; the snapshot that is being written, if one is; and, behind a file that couldn't be
+-- removed, what the clock says once removals are tried again.
 pub record RotationState (F : Type 0) : Type 0 where
   pub files : KeptFiles
   pub draft : Option (DraftState F)
+  pub rests : Option ℕ
 
 -- The draft is of the snapshot of this number of what the broker held at a moment (`base`): each image that isn't missing is of that
 -- moment, and of what is missing the broker holds the same still.

@@ -1,15 +1,17 @@
 -- What one step of a rotation does to a directory. This project's own; Kafka's documentation has its like in "Operations", section
 -- "Snapshots" of KRaft.
-use Rattle.std.specs.Prelude.{◌≡◌, ◌≢◌, ◌⊎◌, ℕ, ◌+◌, ◌<◌, true, false, List, Option, None, is_some}
+use Rattle.std.specs.Prelude.{◌≡◌, ◌≢◌, ◌⊎◌, ℕ, ◌+◌, ◌-◌, ◌^◌, ◌<◌, ◌≤◌, min, Bool, true, false, List, Option, None, Some, IfSome, is_some}
 use Rattle.std.specs.Int.{cast_signed, w64}
 use Rattle.broker_state.specs.State.{State}
 use Rattle.snapshot_drafts.specs.Parts.{DraftState}
 use Rattle.snapshot_drafts.specs.Drafts.{IsDraftOf}
 use Rattle.data_directory.specs.declared.names.Name.{Name}
 use Rattle.data_directory.specs.declared.names.Name.TheVariants.{Snapshot, Journal, Making}
-use Rattle.data_directory.specs.Directories.{DirectoryState, IsThere, Becomes, KeepsOthers, AreCertain, IsPublished}
+use Rattle.data_directory.specs.Directories.{DirectoryState, IsThere, Becomes, IsName, KeepsOthers, KeepsCertain, AreCertain, IsPublished}
 use Rattle.journal.specs.Journals.{JournalState}
 use Rattle.kept_sessions.specs.Keeping.{KeptState}
+use Rattle.kept_sessions.specs.Noting.{IsClear}
+use Rattle.kept_rotations.specs.declared.rotation.TheConstants.{PATIENCE}
 use Rattle.kept_rotations.specs.GoingOn.{HasHeadAlone, IsFresh}
 use Rattle.kept_rotations.specs.Moments.{RotationState, WritesMoment, AreOfMoment}
 
@@ -39,6 +41,24 @@ AreKept d = (name : Name) → name ≢ Making → d.certain name ≡ d.there nam
 abbrev pub IsGone : DirectoryState → Name → Type 0
 IsGone d name = IsThere d name false × (d.certain name ≡ d.there name)
 
+-- a file that has the name keeps it
+abbrev pub IsSpared : Name → (d d' : DirectoryState) → Type 0
+IsSpared name d d' = d.there name ≡ Some true → d'.there name ≡ Some true
+
+-- whether a journal of this number is there is as before; or none is, for certain
+abbrev pub IsUnmade : ℕ → (d d' : DirectoryState) → Type 0
+IsUnmade number d d' = (d'.there (Journal number) ≡ d.there (Journal number)) ⊎ IsGone d' (Journal number)
+
+-- ---- times
+
+-- what rested rests no more, or nothing did
+abbrev pub IsOver : (rests : Option ℕ) (clock : ℕ) → Type 0
+IsOver rests clock = IfSome rests (λ until. until ≤ clock)
+
+-- until when what failed at this time rests
+abbrev pub later_than : ℕ → ℕ
+later_than clock = min (clock + PATIENCE) (2 ^ 64 - 1)
+
 -- ---- steps
 
 -- The journal is the one before, of which no byte has changed.
@@ -67,28 +87,54 @@ abbrev pub MayBeNamed : {D F : Type 0} (seen : F → Option (List ℕ)) (k : Kep
 MayBeNamed seen k old d d' = IsUntouched old.files.last d d' ⊎ IsNamed seen k old d d'
 
 -- The same files count as before, and the snapshot that is being written goes on, or is given up. If a journal was to be made, there
--- is none behind the last one, for certain.
+-- is none behind the last one, for certain; but one that somebody else made there stays.
 pub record Stays {D F : Type 0} (seen : F → Option (List ℕ)) (k k' : KeptState D) (old new : RotationState F) (d d' : DirectoryState) : Type 0 where
   pub files : new.files ≡ old.files
   pub moment : (base : State) → WritesMoment seen base k old → WritesMoment seen base k' new
   pub names : KeepsOthers (IsTried old.files.last) d d'
-  pub no_later : (d'.there (Journal (old.files.last + 1)) ≡ d.there (Journal (old.files.last + 1))) ⊎ IsGone d' (Journal (old.files.last + 1))
+  pub no_later : IsUnmade (old.files.last + 1) d d'
+  pub spared : IsSpared (Journal (old.files.last + 1)) d d'
   pub named : MayBeNamed seen k old d d'
 
 -- A journal was made behind the last one, for certain, and a snapshot of what the broker holds now is begun, perhaps.
 pub record Opens {D F : Type 0} (seen : F → Option (List ℕ)) (k : KeptState D) (old new : RotationState F) (d d' : DirectoryState) : Type 0 where
   pub last : new.files.last ≡ old.files.last + 1
   pub snapshot : new.files.snapshot ≡ old.files.snapshot
+  pub current : new.files.is_current ≡ true
   pub moment : WritesMoment seen k.world.state k new
   pub was_absent : IsThere d (Journal (old.files.last + 1)) false
   pub there : Becomes (Journal (old.files.last + 1)) true d d'
   pub names : KeepsOthers (IsNext old.files.last) d d'
   pub certain : AreKept d'
 
+-- The last journal is that one, of its number and without frames.
+abbrev pub OpensNext : {D F : Type 0} (seen : D → Option (List ℕ)) (drafted : F → Option (List ℕ)) (k : KeptState D) (old new : RotationState F)
+    (d d' : DirectoryState) → Type 0
+OpensNext seen drafted k old new d d' = Opens drafted k old new d d' × IsFresh seen k.journal × HasHeadAlone seen (old.files.last + 1) k.journal
+
+-- A snapshot of what the broker holds now is begun, perhaps, of the last journal's number: this has no frame and the head of a
+-- journal that is made now, no frame is noted for it, and no snapshot has its number.
+pub record Begins {D F : Type 0} (seen : D → Option (List ℕ)) (drafted : F → Option (List ℕ)) (k k' : KeptState D) (old new : RotationState F) (d d' : DirectoryState) : Type 0 where
+  pub files : new.files ≡ old.files
+  pub below : old.files.snapshot < old.files.last
+  pub current : old.files.is_current ≡ true
+  pub fresh : IsFresh seen k.journal
+  pub clear : IsClear k.notes
+  pub moment : WritesMoment drafted k'.world.state k' new
+  pub names : KeepsOthers (IsName Making) d d'
+  pub certain : KeepsCertain (IsName Making) d d'
+
+-- a snapshot is begun, perhaps, of a new journal or of the last one
+abbrev pub BeginsOne : {D F : Type 0} (seen : D → Option (List ℕ)) (drafted : F → Option (List ℕ)) (k k' : KeptState D) (old new : RotationState F)
+    (d d' : DirectoryState) → Type 0
+BeginsOne seen drafted k k' old new d d' = OpensNext seen drafted k' old new d d' ⊎ (IsSame seen k.journal k'.journal × Begins seen drafted k k' old new d d')
+
 -- The snapshot that was being written is whole, and has its name for certain.
 pub record Publishes {D F : Type 0} (seen : F → Option (List ℕ)) (k : KeptState D) (old new : RotationState F) (d d' : DirectoryState) : Type 0 where
   pub last : new.files.last ≡ old.files.last
   pub snapshot : new.files.snapshot ≡ old.files.last
+  pub current : new.files.is_current ≡ old.files.is_current
+  pub was_written : is_some old.draft ≡ true
   pub draft : new.draft ≡ None
   pub moment : (base : State) → WritesMoment seen base k old → AreOfMoment (d'.bytes old.files.last) old.files.last base
   pub there : Becomes (Snapshot old.files.last) true d d'
@@ -99,18 +145,45 @@ pub record Publishes {D F : Type 0} (seen : F → Option (List ℕ)) (k : KeptSt
 pub record Drops {F : Type 0} (old new : RotationState F) (d d' : DirectoryState) : Type 0 where
   pub last : new.files.last ≡ old.files.last
   pub snapshot : new.files.snapshot ≡ old.files.snapshot
+  pub current : new.files.is_current ≡ old.files.is_current
   pub draft : new.draft ≡ old.draft
   pub names : KeepsOthers (IsBelow old.files.snapshot) d d'
+  pub certain : KeepsCertain (IsBelow old.files.snapshot) d d'
+
+-- The same, at a time at which nothing rests that failed to be removed; and what fails to be removed now rests.
+pub record Removes {F : Type 0} (clock : ℕ) (missed : Bool) (old new : RotationState F) (d d' : DirectoryState) : Type 0 where
+  pub drops : Drops old new d d'
+  pub over : IsOver old.rests clock
+  pub rests : missed ≡ true → new.rests ≡ Some (later_than clock)
 
 -- What was done where the broker is to end: no name is touched of the files that count, but that the snapshot that was being written may
--- have got its, and is whole then; a journal behind the last one may have been begun.
+-- have got its, and is whole then; a journal behind the last one may have been begun, where nobody had made one.
 pub record Stops {D F : Type 0} (seen : F → Option (List ℕ)) (k : KeptState D) (old : RotationState F) (d d' : DirectoryState) : Type 0 where
   pub names : KeepsOthers (IsTried old.files.last) d d'
   pub named : MayBeNamed seen k old d d'
+  pub spared : IsSpared (Journal (old.files.last + 1)) d d'
 
--- One step: one of these, and the last journal is a new one, of its number and without frames, just where one was made.
-abbrev pub Steps : {D F : Type 0} (seen : D → Option (List ℕ)) (drafted : F → Option (List ℕ)) (k k' : KeptState D) (old new : RotationState F)
-    (d d' : DirectoryState) → Type 0
-Steps seen drafted k k' old new d d' =
-    (Opens drafted k' old new d d' × IsFresh seen k'.journal × HasHeadAlone seen (old.files.last + 1) k'.journal)
-    ⊎ (IsSame seen k.journal k'.journal × (Stays drafted k k' old new d d' ⊎ (Publishes drafted k old new d d' ⊎ Drops old new d d')))
+-- That, or a file below the highest snapshot wasn't removed, and no other name is touched.
+abbrev pub Ends : {D F : Type 0} (seen : F → Option (List ℕ)) (k : KeptState D) (old : RotationState F) (d d' : DirectoryState) → Type 0
+Ends seen k old d d' = Stops seen k old d d' ⊎ KeepsOthers (IsBelow old.files.snapshot) d d'
+
+-- One step at what the clock says, of which something failed that the broker goes on without, or not: one of these. And the last journal
+-- is a new one, of its number and without frames, just where one was made.
+abbrev pub Steps : {D F : Type 0} (seen : D → Option (List ℕ)) (drafted : F → Option (List ℕ)) (clock : ℕ) (missed : Bool) (k k' : KeptState D)
+    (old new : RotationState F) (d d' : DirectoryState) → Type 0
+Steps seen drafted clock missed k k' old new d d' =
+    OpensNext seen drafted k' old new d d'
+    ⊎ (IsSame seen k.journal k'.journal
+    × (Begins seen drafted k k' old new d d' ⊎ (Stays drafted k k' old new d d' ⊎ (Publishes drafted k old new d d' ⊎ Removes clock missed old new d d'))))
+
+-- ---- all steps at once
+
+-- A snapshot was taken of a new journal, behind the last one; or of the last one, of which no snapshot was.
+abbrev pub IsNextTaken : {F : Type 0} (old new : RotationState F) → Type 0
+IsNextTaken old new = (new.files.last ≡ old.files.last + 1) ⊎ ((new.files.last ≡ old.files.last) × (old.files.snapshot < old.files.last))
+
+-- The last journal is a new one, with the head of one that is made now; or it is the one before, which had such a head.
+abbrev pub HasCurrentHead : {D F : Type 0} (seen : D → Option (List ℕ)) (k k' : KeptState D) (old new : RotationState F) → Type 0
+HasCurrentHead seen k k' old new =
+    (IsSame seen k.journal k'.journal × (old.files.is_current ≡ true) × (new.files.is_current ≡ true))
+    ⊎ (HasHeadAlone seen new.files.last k'.journal × (new.files.is_current ≡ true))

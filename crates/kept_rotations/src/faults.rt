@@ -4,7 +4,7 @@ use data_directory::Name;
 use journal::JournalError;
 use snapshot_drafts::DraftError;
 use std::alloc::AllocError;
-use std::io::{self, ErrorKind};
+use std::io::{self, Error, ErrorKind};
 
 /// Why a broker can't go on: the journal can't be synced, or which journal its groups are to go to isn't certain.
 #[derive(Drop)]
@@ -26,6 +26,26 @@ pub enum Missed {
     Unlike,
 }
 
+/// A snapshot that was taken.
+#[derive(Clone, Copy)]
+pub struct Taken {
+    /// Its number.
+    pub number: u64,
+    /// How many bytes it has.
+    pub size: u64,
+    /// How many milliseconds it took.
+    pub millis: u64,
+}
+
+/// What came of one step.
+#[derive(Drop)]
+pub struct Done {
+    /// Why no snapshot was taken, or an old file not removed, if that came of it.
+    pub missed: Option<Missed>,
+    /// The snapshot that was taken, if it was whole with this step.
+    pub taken: Option<Taken>,
+}
+
 /// Why a directory isn't folded into a snapshot.
 #[derive(Drop)]
 pub enum FoldFault {
@@ -45,6 +65,16 @@ impl From<AllocError> for Missed {
     fn from(_: AllocError) -> Missed {
         Missed::OutOfMemory
     }
+}
+
+/// The error for which the broker is to end, where something failed behind which it isn't certain which names there are.
+pub(crate) fn unsure_for(why: Missed) -> RotationFault {
+    let error = match why {
+        Missed::OutOfMemory => Error::from(ErrorKind::OutOfMemory),
+        Missed::Failed(_, error) => error,
+        Missed::Unlike => Error::from(ErrorKind::Other),
+    };
+    RotationFault::Directory(None, error)
 }
 
 /// What it means that a call on a file failed.

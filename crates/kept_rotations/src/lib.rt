@@ -5,6 +5,8 @@
 //! an old file removed. In between, a frame that may change a partition whose image isn't written yet is put off by the
 //! [`Keeper`](kept_sessions::Keeper), and that partition's image is written next.
 //!
+//! A group that doesn't fit beside a snapshot that is being written has this given up ([`Rotation::put_group`]).
+//!
 //! What a start needs of the crates below is handed on.
 #![tactic(auto)]
 
@@ -13,15 +15,17 @@ mod faults;
 mod files;
 pub mod laws;
 mod opening;
+mod putting;
 mod rotation;
 mod whole;
 
-pub use faults::{FoldFault, Missed, RotationFault};
+pub use faults::{Done, FoldFault, Missed, RotationFault, Taken};
 pub use files::KeptFiles;
 pub use kept_sessions::{
     Answer, CommitError, GROUP_TOPIC, Keeper, Node, RecoverError, ReplayError, ResumeError, Sent,
-    recover, resume, sessions,
+    Unwatched, Watch, recover, resume, sessions,
 };
 pub use opening::{MEANING, make_journal, remove_if_there};
+pub use putting::Put;
 pub use rotation::Rotation;
 pub use whole::write_whole;

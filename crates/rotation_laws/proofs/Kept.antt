@@ -1,11 +1,11 @@
 -- Each act leaves a directory that keeps all frames, and a start of such a one comes to what they lead to: the highest snapshot
 -- is one, as is the row of journals behind it, so the start finds those that the directory is kept by.
-use Rattle.std.proofs.Common.{◌≡◌, ℕ, zero, suc, ◌+◌, ◌<◌, ◌≤◌, List, [], ◌++◌, Option, Some, None, refl, sym, ap, subst, ◌∙◌, append_assoc, arith, inl, inr}
+use Rattle.std.proofs.Common.{◌≡◌, ℕ, zero, suc, ◌+◌, ◌<◌, ◌≤◌, List, [], ◌∷◌, ◌++◌, Option, Some, None, refl, sym, ap, subst, ◌∙◌, append_assoc, append-nil, arith, inl, inr}
 use Rattle.std.specs.Prelude.{◌⊎◌}
 use Rattle.std.proofs.lemmas.Bool.{cases_lt}
 use Rattle.std.proofs.lemmas.Option.{none-some, same_Some}
 use Rattle.rotation_laws.specs.Directories.{Files, InARow, IsHighest, IsLeading, IsRecovered, Keeps}
-use Rattle.rotation_laws.specs.Rotations.{IsLast, Appends, Opens, Publishes, ChangesBelow, Rotates, Acts, Runs, IsNew, MayLeave}
+use Rattle.rotation_laws.specs.Rotations.{IsLast, Appends, Opens, Publishes, PublishesMore, ChangesBelow, Rotates, Acts, Runs, IsNew, MayLeave}
 use Rattle.rotation_laws.proofs.Rows.{row_same, row_one, row_last, row_appended, row_opened}
 
 both_ways : {V : Type 0} (o : Option V) (v : V) → o ≡ None → o ≡ Some v → ⊥
@@ -105,6 +105,23 @@ module _ {X F : Type 0} (leads : X → List F → X → Type 0) (first : X) (fra
     all = act.all;
   }
 
+  published_more : (more : F) → PublishesMore leads first frames more old new → Keeps leads first (frames ++ (more ∷ [])) new
+  published_more more act = record {
+    number = act.number;
+    base = act.state;
+    count = 0;
+    before = frames ++ (more ∷ []);
+    behind = [];
+    found = record {
+      snapshot = act.snapshots.here;
+      highest = λ m lt. act.snapshots.others m (λ same. absurd (omega (arith, same, lt))) ∙ act.is_higher m (omega (arith, lt));
+      row = ([], [], act.journals act.number ∙ act.is_last.there, refl, refl);
+      no_later = λ m lt. act.journals m ∙ act.is_last.no_later m (omega (arith, lt));
+    };
+    led = act.led;
+    all = sym (append-nil (frames ++ (more ∷ [])));
+  }
+
   changed : ChangesBelow old new → Keeps leads first frames new
   changed act =
       let below : act.number ≤ kept.number = by (cases_lt kept.number act.number) in
@@ -136,7 +153,9 @@ module _ {X F : Type 0} (leads : X → List F → X → Type 0) (first : X) (fra
 pub act_keeps : {X F : Type 0} (leads : X → List F → X → Type 0) (first : X) (frames frames' : List F) (old new : Files X F) → Keeps leads first frames old → Acts leads first frames old frames' new → Keeps leads first frames' new
 act_keeps leads first frames frames' old new kept (inl act) =
     subst (λ fs. Keeps leads first fs new) (sym act.2) (appended leads first frames old new kept act.0 act.1)
-act_keeps leads first frames frames' old new kept (inr act) =
+act_keeps leads first frames frames' old new kept (inr (inl act)) =
+    subst (λ fs. Keeps leads first fs new) (sym act.2) (published_more leads first frames old new kept act.0 act.1)
+act_keeps leads first frames frames' old new kept (inr (inr act)) =
     subst (λ fs. Keeps leads first fs new) (sym act.1) (rotated leads first frames old new kept act.0)
 
 runs_keep : {X F : Type 0} (leads : X → List F → X → Type 0) (first : X) (acts : ℕ) (frames frames' : List F) (old new : Files X F) → Keeps leads first frames old → Runs leads first acts frames old frames' new → Keeps leads first frames' new

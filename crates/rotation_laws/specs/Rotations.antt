@@ -1,5 +1,5 @@
 -- What a broker does to the files of its directory, one act after the other, and what a crash leaves of it.
-use Rattle.std.specs.Prelude.{◌≡◌, ◌≢◌, ◌⊎◌, ℕ, zero, suc, ◌+◌, ◌<◌, ◌≤◌, List, [], ◌++◌, Some, None}
+use Rattle.std.specs.Prelude.{◌≡◌, ◌≢◌, ◌⊎◌, ℕ, zero, suc, ◌+◌, ◌<◌, ◌≤◌, List, [], ◌∷◌, ◌++◌, Some, None}
 use Rattle.rotation_laws.specs.Directories.{Files, InARow}
 
 -- at one number something else stands, and at all others what stood there
@@ -44,6 +44,17 @@ pub record Publishes {X F : Type 0} (leads : X → List F → X → Type 0) (fir
   pub snapshots : Sets number (Some state) old.snapshot new.snapshot
   pub journals : (m : ℕ) → new.journal m ≡ old.journal m
 
+-- A snapshot gets its name that has what one thing more led to than all frames that were appended: so a start adds topics, which
+-- stands in no journal. It has the number of the last journal, which has no frame yet, and its name is higher than that of any other.
+pub record PublishesMore {X F : Type 0} (leads : X → List F → X → Type 0) (first : X) (frames : List F) (more : F) (old new : Files X F) : Type 0 where
+  pub number : ℕ
+  pub state : X
+  pub is_last : IsLast old number []
+  pub led : leads first (frames ++ (more ∷ [])) state
+  pub is_higher : (m : ℕ) → number ≤ m → old.snapshot m ≡ None
+  pub snapshots : Sets number (Some state) old.snapshot new.snapshot
+  pub journals : (m : ℕ) → new.journal m ≡ old.journal m
+
 -- Files below a named snapshot change in whatever way, as they do while they are cut down, piece by piece, and removed. From
 -- its number on all stay.
 pub record ChangesBelow {X F : Type 0} (old new : Files X F) : Type 0 where
@@ -53,14 +64,15 @@ pub record ChangesBelow {X F : Type 0} (old new : Files X F) : Type 0 where
   pub snapshots : (m : ℕ) → number ≤ m → new.snapshot m ≡ old.snapshot m
   pub journals : (m : ℕ) → number ≤ m → new.journal m ≡ old.journal m
 
--- what is done beside appends
+-- what is done beside appends, and leaves what is kept
 abbrev pub Rotates : {X F : Type 0} → (leads : X → List F → X → Type 0) (first : X) (frames : List F) (old new : Files X F) → Type 0
 Rotates leads first frames old new = Opens old new ⊎ (Publishes leads first frames old new ⊎ ChangesBelow old new)
 
 -- one act, by which the frames that are kept become these
 abbrev pub Acts : {X F : Type 0} → (leads : X → List F → X → Type 0) (first : X) (frames : List F) (old : Files X F) (frames' : List F) (new : Files X F) → Type 0
 Acts {F = F} leads first frames old frames' new =
-    ((more : List F) × Appends more old new × (frames' ≡ frames ++ more)) ⊎ (Rotates leads first frames old new × (frames' ≡ frames))
+    ((more : List F) × Appends more old new × (frames' ≡ frames ++ more))
+    ⊎ (((more : F) × PublishesMore leads first frames more old new × (frames' ≡ frames ++ (more ∷ []))) ⊎ (Rotates leads first frames old new × (frames' ≡ frames)))
 
 -- so many acts, one after the other
 abbrev pub Runs : {X F : Type 0} → (leads : X → List F → X → Type 0) (first : X) (acts : ℕ) (frames : List F) (old : Files X F) (frames' : List F) (new : Files X F) → Type 0
