@@ -1,5 +1,5 @@
 -- The names that a start removes, one call behind the other.
-use Rattle.std.proofs.Common.{◌≡◌, inl, inr, ℕ, ◌+◌, ◌<◌, Bool, true, false, not, Option, Some, None, sym, subst, true≢false}
+use Rattle.std.proofs.Common.{◌≡◌, inl, inr, ℕ, ◌+◌, ◌<◌, ◌≤◌, Bool, true, false, not, Option, Some, None, sym, subst, true≢false}
 use Rattle.std.specs.Prelude.{IfSome, MatchBool}
 use Rattle.std.specs.Option.{is_some}
 use Rattle.data_directory.specs.declared.names.Name.TheVariants.{Snapshot, Journal, Making}
@@ -10,8 +10,9 @@ use Rattle.kept_rotations.specs.Steps.{IsBelow}
 use Rattle.kept_rotations.proofs.Touched.{others_then}
 use Rattle.kept_starts.specs.declared.standing.Row.{Row}
 use Rattle.kept_starts.specs.declared.starting.Found.{Found}
-use Rattle.kept_starts.specs.Removals.{IsOld, Removes}
+use Rattle.kept_starts.specs.Removals.{HasRowThen, IsOld, Removes}
 use Rattle.kept_starts.specs.Starts.{IsFolded}
+use Rattle.kept_starts.proofs.GoingOn.{folded_behind, last_stays}
 
 -- ---- files below the snapshot
 
@@ -24,21 +25,30 @@ module _ (snapshot number : ℕ) (a b c : DirectoryState) where
 
 -- ---- all of them
 
-pub settled : (snapshot last : ℕ) (a b c d e : DirectoryState) → KeepsOthers (IsName Making) a b → KeepsOthers (IsName (Journal (last + 1))) b c → KeepsOthers IsNone c d → KeepsOthers (IsBelow snapshot) d e
-    → KeepsOthers (IsOld snapshot last) a e
-settled snapshot last a b c d e making next synced below =
+pub settled : (snapshot last : ℕ) (a b c d : DirectoryState) → KeepsOthers (IsName (Journal (last + 1))) a b → KeepsOthers IsNone b c → KeepsOthers (IsBelow snapshot) c d
+    → KeepsOthers (IsOld snapshot last) a d
+settled snapshot last a b c d next synced below =
     let old = IsOld snapshot last in
-    let two : KeepsOthers old a c = others_then (IsName Making) old a b (λ name at. inl at) (IsName (Journal (last + 1))) c (λ name at. inr (inl at)) making next in
-    let three : KeepsOthers old a d = others_then old old a c (λ name at. at) IsNone d (λ name at. absurd at) two synced in
-    others_then old old a d (λ name at. at) (IsBelow snapshot) e (λ name at. inr (inr at)) three below
+    let two : KeepsOthers old a c = others_then (IsName (Journal (last + 1))) old a b (λ name at. inr (inl at)) IsNone c (λ name at. absurd at) next synced in
+    others_then old old a c (λ name at. at) (IsBelow snapshot) d (λ name at. inr (inr at)) two below
+
+-- a snapshot in the making goes before them
+pub making_then : (snapshot last : ℕ) (a b c : DirectoryState) → KeepsOthers (IsName Making) a b → KeepsOthers (IsOld snapshot last) b c → KeepsOthers (IsOld snapshot last) a c
+making_then snapshot last a b c making others =
+    let old = IsOld snapshot last in
+    others_then (IsName Making) old a b (λ name at. inl at) old c (λ name at. at) making others
 
 -- ---- of what was found
 
 pub removes_found : {X F : Type 0} (state : X → DirectoryState) (d mid new : X) (is_due : Bool) (old after : RotationState F) (found found' : Found) (snapshot last : ℕ)
+    → snapshot ≤ last → IsThere (state d) (Journal last) true → (old.files.snapshot ≡ snapshot) × (old.files.last ≡ last) × (old.draft ≡ None)
     → found' ≡ found → found.snapshot ≡ snapshot → found.journal ≡ last → KeepsOthers (IsOld snapshot last) (state d) (state mid)
-    → MatchBool is_due (IsFolded old after × IsThere (state new) (Snapshot after.files.last) true) ((after ≡ old) × (new ≡ mid)) → Removes (state d) (state new) found' after.files
-removes_found state d mid new true old after found found' snapshot last same at behind keeps folds = inr (folds.0.snapshot, folds.1)
-removes_found state d mid new false old after found found' snapshot last same at behind keeps folds =
+    → MatchBool is_due (IsFolded old after × HasRowThen (state mid) (state new) old.files.last after.files.last) ((after ≡ old) × (new ≡ mid)) → Removes (state d) (state new) found' after.files
+removes_found state d mid new true old after found found' snapshot last in_order there rotates same at behind keeps folds = inr (
+  folded_behind old after found found' snapshot last in_order rotates.0 rotates.1 same at behind folds.0,
+  folds.1 (last_stays (state d) (state mid) snapshot last old.files.last in_order rotates.1 keeps there),
+)
+removes_found state d mid new false old after found found' snapshot last in_order there rotates same at behind keeps folds =
     inl (subst (λ (f : Found). KeepsOthers (IsOld f.snapshot f.journal) (state d) (state new)) (sym same)
     (subst (λ (x : _). KeepsOthers (IsOld found.snapshot found.journal) (state d) (state x)) (sym folds.1)
     (subst (λ (n : ℕ). KeepsOthers (IsOld n found.journal) (state d) (state mid)) (sym at)

@@ -12,12 +12,12 @@ use Rattle.journal.specs.declared.layout.TheConstants.{HEAD_SIZE}
 use Rattle.journal.specs.Files.{HasNoGroup}
 use Rattle.journal.specs.Heads.{IsHeadOf}
 use Rattle.kept_rotations.specs.declared.opening.TheConstants.{MEANING}
-use Rattle.sessions.specs.Orders.{World, new_world}
+use Rattle.journal.specs.Readers.{ReaderState}
 use Rattle.kept_rotations.specs.Below.{HasRecovered}
 use Rattle.kept_starts.specs.declared.standing.Row.{Row}
 use Rattle.kept_starts.specs.declared.starting.Found.{Found}
-use Rattle.kept_starts.specs.Rows.{HasNone, IsTakenRow, IsTopRow, WasBeingMade}
-use Rattle.kept_starts.specs.Starts.{AreTaken, FilesLead, FormerLead, GroupsLead, HoldsImages, IsJournalOf, IsRecovered, LeadsTo, RowLeads, SnapshotHolds, TakesFiles, WholeLeads}
+use Rattle.kept_starts.specs.Rows.{HasNone, IsShortened, IsTakenRow, IsTopRow, WasBeingMade}
+use Rattle.kept_starts.specs.Starts.{AreTaken, FilesLead, FormerLead, HoldsImages, IsJournalOf, IsReadUp, IsRecovered, JournalLeads, LeadsTo, RowLeads, SnapshotHolds, TakesFiles, TellsFiles, WholeLeads}
 use Rattle.kept_starts.proofs.GoingOn.{leads_on}
 
 module _ {F : Type 0} (d : DirectoryState) (gives : Name → F → Type 0) (seen : F → Option (List ℕ)) where
@@ -61,23 +61,27 @@ module _ {F : Type 0} (d : DirectoryState) (gives : Name → F → Type 0) (seen
       is_short None is = tt
       is_short (Some known) is = omega (arith, is, short)
 
-  pub whole_leads : (number : ℕ) (disk disk' : F) (head head' : Head) (from at size count : ℕ) (s after : State) → IsJournalOf d gives seen number disk head
-      → disk' ≡ disk → head' ≡ head → from ≡ HEAD_SIZE → HasRecovered (seen disk') head'.key from at s after count
+  pub whole_leads : (number : ℕ) (disk disk' : F) (head head' : Head) (at size count : ℕ) (s after : State) → IsJournalOf d gives seen number disk head
+      → disk' ≡ disk → head' ≡ head → HasRecovered (seen disk') head'.key HEAD_SIZE at s after count
       → IfSome (seen disk') (λ file. HasNoGroup head'.key at (drop at file)) → IfSome (seen disk') (λ file. length file ≡ size) → at ≡ size
       → WholeLeads d gives seen number s after
-  whole_leads number disk disk' head head' from at size count s after is same_disk same_head start recovered ended sized end = record {
+  whole_leads number disk disk' head head' at size count s after is same_disk same_head recovered ended sized end = record {
     journal = record {
       file = disk';
       head = head';
       is_journal = subst (λ (f : F). IsJournalOf d gives seen number f head') (sym same_disk) (subst (λ (h : Head). IsJournalOf d gives seen number disk h) (sym same_head) is);
-      groups = record {
-        end = at;
-        count = count;
-        recovered = subst (λ (n : ℕ). HasRecovered (seen disk') head'.key n at s after count) start recovered;
-        ended = ended;
-      };
+      groups = record { end = at; count = count; recovered = recovered; ended = ended };
     };
     whole = subst (λ (n : ℕ). IfSome (seen disk') (λ file. length file ≡ n)) (sym end) sized;
+  }
+
+  -- the last one, of which a crash may have left more
+  newest_leads : (number : ℕ) (reader : ReaderState F) (s after : State) → IsJournalOf d gives seen number reader.disk reader.head → IsReadUp seen s reader after → JournalLeads d gives seen number s after
+  newest_leads number reader s after is up = record {
+    file = reader.disk;
+    head = reader.head;
+    is_journal = is;
+    groups = record { end = reader.at; count = up.count; recovered = up.recovered; ended = up.ended };
   }
 
   -- ---- a row of journals
@@ -133,7 +137,7 @@ module _ {F : Type 0} (d : DirectoryState) (gives : Name → F → Type 0) (seen
       → FormerLead d gives seen snapshot last s
   former_leads snapshot last held s of_snapshot led = record { held = held; of_snapshot = of_snapshot; led = led }
 
-  pub recovered : (snapshot last : ℕ) (s : State) → FormerLead d gives seen snapshot last s → IsRecovered seen s
+  recovered : (snapshot last : ℕ) (s : State) → FormerLead d gives seen snapshot last s → IsRecovered seen s
   recovered snapshot last s former = record {
     config = former.of_snapshot.config;
     held = former.held;
@@ -141,18 +145,31 @@ module _ {F : Type 0} (d : DirectoryState) (gives : Name → F → Type 0) (seen
     led = row_led snapshot (last - snapshot) former.held s former.led;
   }
 
-  pub files_lead : (snapshot last snapshot' last' : ℕ) (between : State) (w w' : World) (file : F) (head : Head) → FormerLead d gives seen snapshot last between
-      → IsJournalOf d gives seen last file head → GroupsLead (seen file) head.key between w.state → snapshot' ≡ snapshot → last' ≡ last → w' ≡ w
-      → FilesLead d gives seen snapshot' last' w'.state
-  files_lead snapshot last snapshot' last' between w w' file head former is groups same_snapshot same_last same =
-      subst (λ (x : World). FilesLead d gives seen snapshot' last' x.state) (sym same)
-      (subst (λ (n : ℕ). FilesLead d gives seen n last' w.state) (sym same_snapshot)
-      (subst (λ (n : ℕ). FilesLead d gives seen snapshot n w.state) (sym same_last)
-      (record { between = between; former = former; newest = record { file = file; head = head; is_journal = is; groups = groups } })))
+  pub ready : (snapshot last : ℕ) (s node : State) (reader : ReaderState F) → FormerLead d gives seen snapshot last s → IsReadUp seen s reader node
+      → (former : State) × IsRecovered seen former × IsReadUp seen former reader node
+  ready snapshot last s node reader former up = (s, recovered snapshot last s former, up)
+
+  pub files_lead : (snapshot last snapshot' last' : ℕ) (between node after : State) (reader : ReaderState F) → FormerLead d gives seen snapshot last between
+      → IsJournalOf d gives seen last reader.disk reader.head → IsReadUp seen between reader node → snapshot' ≡ snapshot → last' ≡ last → after ≡ node
+      → FilesLead d gives seen snapshot' last' after
+  files_lead snapshot last snapshot' last' between node after reader former is up same_snapshot same_last same =
+      subst (λ (s : State). FilesLead d gives seen snapshot' last' s) (sym same)
+      (subst (λ (n : ℕ). FilesLead d gives seen n last' node) (sym same_snapshot)
+      (subst (λ (n : ℕ). FilesLead d gives seen snapshot n node) (sym same_last)
+      (record { between = between; former = former; newest = newest_leads last reader between node is up })))
 
   pub row_is : (snapshot last snapshot' last' : ℕ) → snapshot' ≡ snapshot → last' ≡ last → IsTakenRow d gives seen snapshot last → IsTakenRow d gives seen snapshot' last'
   row_is snapshot last snapshot' last' same_snapshot same_last row =
       subst (λ (n : ℕ). IsTakenRow d gives seen n last') (sym same_snapshot) (subst (λ (n : ℕ). IsTakenRow d gives seen snapshot n) (sym same_last) row)
+
+-- ---- the row in order
+
+pub still_in_order : (found row : Row) → IsShortened found row → found.snapshot ≤ found.last → row.snapshot ≤ row.last
+still_in_order found row is in_order = by is.1
+  where
+    by : (row.last ≡ found.last) ⊎ ((found.snapshot < found.last) × (row.last ≡ found.last - 1)) → row.snapshot ≤ row.last
+    by (inl same) = omega (arith, is.0, same, in_order)
+    by (inr shorter) = omega (arith, is.0, shorter.0, shorter.1)
 
 -- ---- what is told
 
@@ -191,18 +208,12 @@ tells_growth d gives seen found told led now grown stood same = subst (λ (f : F
     by true none = none
     by false taken = (led, taken, λ none. absurd (true≢false (sym grown ∙ none)))
 
--- ---- the last journal
+-- what is told of files that aren't started
+pub told_files : {F : Type 0} (d : DirectoryState) (gives : Name → F → Type 0) (seen : F → Option (List ℕ)) (found : Found) (led : State) → found.is_new ≡ false
+    → IsTakenRow d gives seen found.snapshot found.journal → FilesLead d gives seen found.snapshot found.journal led → TellsFiles d gives seen found
+told_files d gives seen found led old row lead =
+    subst (λ (b : Bool). MatchBool b (HasNone d gives seen) ((s : State) × AreTaken d gives seen found.snapshot found.journal s)) (sym old) (led, record { row = row; lead = lead })
 
-pub groups_lead : {F : Type 0} (seen : F → Option (List ℕ)) (disk disk' : F) (head head' : Head) (from at count : ℕ) (s after : State) (w : World)
-    → disk' ≡ disk → head' ≡ head → from ≡ HEAD_SIZE → HasRecovered (seen disk') head'.key from at s after count
-    → IfSome (seen disk') (λ file. HasNoGroup head'.key at (drop at file)) → w ≡ new_world after → GroupsLead (seen disk) head.key s w.state
-groups_lead seen disk disk' head head' from at count s after w same_disk same_head start recovered ended begins =
-    subst (λ (x : World). GroupsLead (seen disk) head.key s x.state) (sym begins)
-    (subst (λ (f : _). GroupsLead (seen f) head.key s after) same_disk
-    (subst (λ (h : Head). GroupsLead (seen disk') h.key s after) same_head
-    (record {
-      end = at;
-      count = count;
-      recovered = subst (λ (n : ℕ). HasRecovered (seen disk') head'.key n at s after count) start recovered;
-      ended = ended;
-    })))
+pub told_none : {F : Type 0} (d : DirectoryState) (gives : Name → F → Type 0) (seen : F → Option (List ℕ)) (found : Found) → found.is_new ≡ true → HasNone d gives seen → TellsFiles d gives seen found
+told_none d gives seen found new none =
+    subst (λ (b : Bool). MatchBool b (HasNone d gives seen) ((s : State) × AreTaken d gives seen found.snapshot found.journal s)) (sym new) none

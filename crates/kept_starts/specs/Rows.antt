@@ -1,11 +1,12 @@
 -- Which files of a directory a start takes. This project's own; Kafka's documentation has its like in "Operations", section
 -- "Snapshots" of KRaft.
-use Rattle.std.specs.Prelude.{◌≡◌, ◌≢◌, ◌⊎◌, ℕ, ◌+◌, ◌<◌, ◌≤◌, true, false, List, length, Option, IfSome}
+use Rattle.std.specs.Prelude.{◌≡◌, ◌≢◌, ◌⊎◌, ℕ, ◌+◌, ◌-◌, ◌<◌, ◌≤◌, true, false, List, length, Option, IfSome}
 use Rattle.std.specs.List.{Contains}
 use Rattle.data_directory.specs.declared.names.Name.{Name}
 use Rattle.data_directory.specs.declared.names.Name.TheVariants.{Snapshot, Journal}
 use Rattle.data_directory.specs.Directories.{DirectoryState, IsThere}
 use Rattle.kept_starts.specs.Numbers.{HaveNone}
+use Rattle.kept_starts.specs.declared.standing.Row.{Row}
 use Rattle.journal.specs.declared.layout.TheConstants.{HEAD_SIZE}
 
 -- No snapshot with a higher number is there, and no journal behind the last one.
@@ -31,6 +32,10 @@ pub record IsTakenRow {F : Type 0} (d : DirectoryState) (gives : Name → F → 
   pub no_higher : (number : ℕ) → snapshot < number → IsThere d (Snapshot number) false
   pub next : IsThere d (Journal (last + 1)) false ⊎ WasBeingMade d gives seen (last + 1)
   pub no_later : (number : ℕ) → last + 1 < number → IsThere d (Journal number) false
+
+-- the row is the one that was found, or has all but its last journal, which isn't that of the snapshot
+abbrev pub IsShortened : (found row : Row) → Type 0
+IsShortened found row = (row.snapshot ≡ found.snapshot) × ((row.last ≡ found.last) ⊎ ((found.snapshot < found.last) × (row.last ≡ found.last - 1)))
 
 -- No snapshot is there, and no journal but the first one perhaps, if that was being made.
 pub record HasNone {F : Type 0} (d : DirectoryState) (gives : Name → F → Type 0) (seen : F → Option (List ℕ)) : Type 0 where

@@ -1,13 +1,15 @@
 -- A broker that was started with a directory.
-use Rattle.std.specs.Prelude.{◌≡◌, ℕ, zero, suc, ◌⊎◌, ◌+◌, ◌-◌, ◌<◌, ◌≤◌, false, List, [], length, take, drop, Option, None, IfSome, MatchBool}
+use Rattle.std.specs.Prelude.{◌≡◌, ℕ, zero, suc, ◌⊎◌, ◌+◌, ◌-◌, ◌<◌, ◌≤◌, true, false, List, [], ◌++◌, length, take, drop, Option, None, IfSome, MatchBool}
 use Rattle.std.specs.Int.{cast_unsigned, w64}
 use Rattle.broker_state.specs.State.{ConfigValue, State, new_state}
 use Rattle.snapshots.specs.Heads.{SnapshotValue, StartsWithHead}
 use Rattle.state_snapshots.specs.Restoring.{IsRestored}
 use Rattle.journal.specs.declared.head.Head.{Head}
 use Rattle.journal.specs.declared.layout.TheConstants.{HEAD_SIZE}
-use Rattle.journal.specs.Files.{HasNoGroup}
+use Rattle.journal.specs.Files.{HasLaterSync, HasNoGroup, head_bytes}
 use Rattle.journal.specs.Heads.{IsHeadOf}
+use Rattle.journal.specs.Journals.{JournalState}
+use Rattle.journal.specs.Readers.{IsReader, ReaderState}
 use Rattle.data_directory.specs.declared.names.Name.{Name}
 use Rattle.data_directory.specs.declared.names.Name.TheVariants.{Snapshot, Journal}
 use Rattle.data_directory.specs.Directories.{DirectoryState}
@@ -17,6 +19,7 @@ use Rattle.kept_rotations.specs.GoingOn.{IsKeptOn}
 use Rattle.kept_rotations.specs.declared.opening.TheConstants.{MEANING}
 use Rattle.kept_rotations.specs.declared.files.KeptFiles.{KeptFiles}
 use Rattle.kept_rotations.specs.Moments.{RotationState}
+use Rattle.kept_rotations.specs.Steps.{IsNextTaken}
 use Rattle.kept_starts.specs.declared.starting.Found.{Found}
 use Rattle.kept_starts.specs.Rows.{HasNone, IsFileOf, IsTakenRow}
 
@@ -111,6 +114,15 @@ pub record FormerLead {F : Type 0} (d : DirectoryState) (gives : Name → F → 
   pub of_snapshot : SnapshotHolds d gives seen snapshot held
   pub led : RowLeads d gives seen snapshot (last - snapshot) held s
 
+-- A journal was read to the end of its last sound group, behind which no group says that more was on the disk; its frames lead from one
+-- state to another.
+pub record IsReadUp {D : Type 0} (seen : D → Option (List ℕ)) (s : State) (reader : ReaderState D) (after : State) : Type 0 where
+  pub is_reader : IsReader seen reader
+  pub count : ℕ
+  pub recovered : HasRecovered (seen reader.disk) reader.head.key HEAD_SIZE reader.at s after count
+  pub ended : IfSome (seen reader.disk) (λ file. HasNoGroup reader.head.key reader.at (drop reader.at file))
+  pub undamaged : IfSome (seen reader.disk) (λ file. HasLaterSync reader.head.key reader.at (drop reader.at file) → ⊥)
+
 -- From there the last journal leads to this state.
 pub record FilesLead {F : Type 0} (d : DirectoryState) (gives : Name → F → Type 0) (seen : F → Option (List ℕ)) (snapshot last : ℕ) (s : State) : Type 0 where
   pub between : State
@@ -122,21 +134,43 @@ pub record AreTaken {F : Type 0} (d : DirectoryState) (gives : Name → F → Ty
   pub row : IsTakenRow d gives seen snapshot last
   pub lead : FilesLead d gives seen snapshot last s
 
+-- ---- what the last journal's frames mean
+
+-- a file begins with the bytes of this head
+abbrev pub BeginsWith : (seen : Option (List ℕ)) → Head → Type 0
+BeginsWith seen head = IfSome seen (λ file. (rest : List ℕ) × (file ≡ head_bytes head ++ rest))
+
+-- a journal's file begins with a head that says that its frames mean what they mean to this program
+abbrev pub MeansThis : {D : Type 0} (seen : D → Option (List ℕ)) → JournalState D → Type 0
+MeansThis seen journal = IfSome (seen journal.disk) (λ file. (head : Head) × (rest : List ℕ) × (head.meaning ≡ MEANING) × (file ≡ head_bytes head ++ rest))
+
+-- the last journal's does, and it is known
+abbrev pub GoesOnMeaning : {D F : Type 0} (seen : D → Option (List ℕ)) → RotationState F → JournalState D → Type 0
+GoesOnMeaning seen r journal = (r.files.is_current ≡ true) × MeansThis seen journal
+
 -- ---- the snapshots that follow
 
--- A snapshot was taken, of the number behind the last one, and none is being written.
+-- A snapshot was taken, and none is being written. It has the number behind the last one; or that of the last one, which had no snapshot.
 pub record IsFolded {F : Type 0} (old new : RotationState F) : Type 0 where
-  pub last : new.files.last ≡ old.files.last + 1
+  pub last : IsNextTaken old new
   pub snapshot : new.files.snapshot ≡ new.files.last
   pub draft : new.draft ≡ None
 
+-- a snapshot was taken behind these files, of the last number
+abbrev pub IsPast : (snapshot journal : ℕ) → KeptFiles → Type 0
+IsPast snapshot journal files = (files.snapshot ≡ files.last) × ((snapshot < files.last) × (journal ≤ files.last))
+
+-- it was taken behind what was found
+abbrev pub IsBehind : Found → KeptFiles → Type 0
+IsBehind found files = IsPast found.snapshot found.journal files
+
 -- snapshots go on from these files, or from a snapshot that was taken behind them
 abbrev pub GoesOnBehind : (snapshot journal : ℕ) → KeptFiles → Type 0
-GoesOnBehind snapshot journal files = ((files.snapshot ≡ snapshot) × (files.last ≡ journal)) ⊎ ((files.snapshot ≡ files.last) × (journal < files.last))
+GoesOnBehind snapshot journal files = ((files.snapshot ≡ snapshot) × (files.last ≡ journal)) ⊎ IsPast snapshot journal files
 
 -- none is being written, and they go on from the files that were found, or behind them
 abbrev pub RotatesFrom : {F : Type 0} → Found → RotationState F → Type 0
-RotatesFrom found r = (r.draft ≡ None) × MatchBool found.has_grown (r.files.snapshot ≡ r.files.last) (GoesOnBehind found.snapshot found.journal r.files)
+RotatesFrom found r = (r.draft ≡ None) × MatchBool found.has_grown (IsBehind found r.files) (GoesOnBehind found.snapshot found.journal r.files)
 
 -- ---- what is taken
 
@@ -146,3 +180,7 @@ abbrev pub TakesFiles : {F : Type 0} (d : DirectoryState) (gives : Name → F �
 TakesFiles d gives seen found now =
     MatchBool found.is_new (HasNone d gives seen)
     ((led : State) × AreTaken d gives seen found.snapshot found.journal led × (found.has_grown ≡ false → now ≡ led))
+
+-- none of a broker's files is there; or the files that are told are taken, and lead to some state
+abbrev pub TellsFiles : {F : Type 0} (d : DirectoryState) (gives : Name → F → Type 0) (seen : F → Option (List ℕ)) (found : Found) → Type 0
+TellsFiles d gives seen found = MatchBool found.is_new (HasNone d gives seen) ((led : State) × AreTaken d gives seen found.snapshot found.journal led)

@@ -28,7 +28,7 @@ pub(crate) enum Change {
 }
 
 /// The role that a snapshot says.
-fn role_of<A: Allocator>(name: Name, number: i16) -> Result<Role, StartFault<A>> {
+pub(crate) fn role_of<A: Allocator>(name: Name, number: i16) -> Result<Role, StartFault<A>> {
     for role in [Role::Leader, Role::Follower] {
         if role_number(role) == number {
             return Ok(role);
@@ -193,6 +193,38 @@ fn former_topics<A: Allocator + Copy>(
         })?;
     }
     Ok(Some(former))
+}
+
+/// How many topics a snapshot has, and how many partitions they have, but for that of the groups.
+pub(crate) fn counts_of(topics: &SnapshotTopics<'_>) -> (u64, u64) {
+    let (mut count, mut partitions) = (0_u64, 0_u64);
+    for topic in Topics::of(topics) {
+        if topic.name != GROUP_TOPIC {
+            count = count.saturating_add(1);
+            partitions = partitions.saturating_add(u64::from(topic.partitions.len()));
+        }
+    }
+    (count, partitions)
+}
+
+/// What a snapshot is of, of a broker without an address: nothing is asked for beside it.
+pub(crate) fn own_config<A: Allocator + Copy>(
+    alloc: A,
+    name: Name,
+    head: &SnapshotHead<'_>,
+) -> Result<Config<A>, StartFault<A>> {
+    let role = role_of(name, head.role)?;
+    let Some(topics) = former_topics(alloc, &head.topics)? else {
+        return Err(bad_topics(name));
+    };
+    Ok(Config {
+        role,
+        node_id: 0,
+        host: String::new(alloc),
+        port: 0,
+        topics,
+        first_producer: head.first_producer,
+    })
 }
 
 /// What a snapshot is of: its topics and its first producer id, and else what is asked for.

@@ -9,9 +9,12 @@
 //! `snapshot.tmp`, which it loses once it is on the disk. So where a snapshot stands its journal is whole, and a
 //! journal without a group and without any snapshot is one that was being made.
 //!
+//! [`check`] reads a directory as a start does, and tells what each file is; it changes nothing.
+//!
 //! What a listener needs of the crates below is handed on.
 #![tactic(auto)]
 
+mod checking;
 mod configuration;
 mod faults;
 mod making;
@@ -20,15 +23,18 @@ mod recovering;
 mod snapshot;
 mod standing;
 mod starting;
+mod telling;
 
 pub use broker_state::{Config, ConfigError, Place, Role, TopicConfig};
+pub use checking::{Checked, check};
 pub use data_directory::{Directory, Folder, FolderError, Kind, Name};
 pub use faults::{Damage, LaterWhy, StartFault};
 pub use journal::layout::KEY_SIZE;
 pub use journal::{Disk, FileDisk, JournalError};
 pub use kept_rotations::{
-    Answer, CommitError, GROUP_TOPIC, Keeper, KeptFiles, MEANING, Missed, Node, Rotation,
-    RotationFault, Sent, sessions,
+    Answer, CommitError, Done, GROUP_TOPIC, Keeper, KeptFiles, MEANING, Missed, Node, Put,
+    Rotation, RotationFault, Sent, Taken, Unwatched, sessions,
 };
 pub use snapshot_drafts::DraftFile;
 pub use starting::{Found, Keeping, Started, start};
+pub use telling::{FileFound, Watching, What};

@@ -72,6 +72,18 @@ fn make_snapshot<S: BatchStore, D: Directory>(
     }
 }
 
+/// What it means that a file isn't made: where a sync of names failed, the directory is at fault.
+fn not_made<D: Directory, A: Allocator>(directory: &D, name: Name, why: Error) -> StartFault<A>
+    ensures { IsFailure result }
+{
+    let at_fault = if directory.is_unsure() {
+        None
+    } else {
+        Some(name)
+    };
+    failed(at_fault, why)
+}
+
 /// Gives the snapshot its name, for certain.
 fn name_snapshot<D: Directory>(directory: &mut D, whole: D::Draft) -> io::Result<()>
     requires is_synced { D.Draft.synced whole ≡ D.Draft.seen whole }
@@ -107,11 +119,11 @@ pub(crate) fn make_files<S: BatchStore, D: Directory>(
     remove_unfinished(directory, Name::Making)?;
     remove_unfinished(directory, Name::Journal(FIRST))?;
     if let Err(why) = make_journal(directory, FIRST) {
-        return Err(failed(Some(Name::Journal(FIRST)), why));
+        return Err(not_made(directory, Name::Journal(FIRST), why));
     }
     let whole = make_snapshot(alloc, directory, &state)?;
     match name_snapshot(directory, whole) {
         Ok(()) => Ok(()),
-        Err(why) => Err(failed(Some(Name::Snapshot(FIRST)), why)),
+        Err(why) => Err(not_made(directory, Name::Snapshot(FIRST), why)),
     }
 }

@@ -1,14 +1,21 @@
 //! The broker that a snapshot holds.
 
-ghost use Rattle.std.specs.Prelude.{◌≡◌, IfOk, OnOk};
+ghost use Rattle.std.specs.Prelude.{◌≡◌, true, IfOk, OnOk};
 ghost use Rattle.std.specs.Int.{cast_unsigned, w64};
 ghost use Rattle.broker_state.specs.State.{ConfigValue};
+ghost use Rattle.data_directory.specs.Directories.{IsThere};
+ghost use Rattle.data_directory.specs.declared.names.Name.TheVariants.{Snapshot as SnapshotOf};
+ghost use Rattle.snapshots.specs.Heads.{StartsWithHead, snapshot_view};
 ghost use Rattle.kept_starts.specs.Starts.{HoldsImages, IsFrontOf, SnapshotHolds};
 
-use crate::configuration::{Change, asked_config, bad_topics, check_configuration, former_config};
+use crate::configuration::{
+    Change, asked_config, bad_topics, check_configuration, counts_of, former_config, own_config,
+    role_of,
+};
 use crate::faults::{Damage, LaterWhy, StartFault, failed, unread};
 use crate::making::new_broker;
 use crate::reading::read_front;
+use crate::telling::{Telling, Watching};
 use broker_state::{BrokerState, Config, ConfigError};
 use data_directory::{Directory, Name};
 use journal::Disk;
@@ -32,6 +39,16 @@ pub(crate) struct Restored<S: BatchStore> {
     pub(crate) change: Change,
     /// The size of the snapshot, in bytes.
     pub(crate) size: u64,
+}
+
+/// A snapshot's file, of which the first bytes were read.
+#[derive(Drop)]
+struct Front<D: Disk, A: Allocator> {
+    disk: D,
+    /// How many bytes it has.
+    size: u64,
+    /// The first ones.
+    bytes: Vec<u8, A>,
 }
 
 /// What it means that bytes don't begin with a head.
@@ -122,26 +139,51 @@ fn check_number<A: Allocator>(number: u64, head: &SnapshotHead<'_>) -> Result<()
     Ok(())
 }
 
-/// Restores the broker of a snapshot that stands in a file, of which the first bytes were read.
-fn restore_from<S: BatchStore, D: Disk>(
-    alloc: S::Alloc,
-    disk: &D,
+/// The head of a snapshot, which has the number of its name, and the images behind it.
+fn head_in<A: Allocator>(
     number: u64,
     bytes: &[u8],
+) -> Result<(SnapshotHead<'_>, &[u8]), StartFault<A>>
+    ensures stands { IfOk result (λ x. StartsWithHead (snapshot_view x.0) bytes.now x.1.now) }
+    ensures says { IfOk result (λ x. cast_unsigned w64 x.0.number ≡ number) }
+{
+    let (head, images) = match judge_head(bytes) {
+        Ok(found) => found,
+        Err(why) => return Err(head_fault(Name::Snapshot(number), bytes, why)),
+    };
+    check_number(number, &head)?;
+    Ok((head, images))
+}
+
+/// Tells what a snapshot is of that was read.
+fn tell_snapshot<W: Watching, A: Allocator>(
+    name: Name,
+    head: &SnapshotHead<'_>,
+    size: u64,
+    told: &mut Telling<'_, W, A>,
+) -> Result<(), StartFault<A>> {
+    let role = role_of(name, head.role)?;
+    let (topics, partitions) = counts_of(&head.topics);
+    Ok(told.end_snapshot(role, topics, partitions, size)?)
+}
+
+/// Restores the broker of a snapshot that stands in a file, of which the first bytes were read.
+fn restore_from<S: BatchStore, D: Disk, W: Watching>(
+    alloc: S::Alloc,
+    front: &Front<D, S::Alloc>,
+    number: u64,
     config: &Config<S::Alloc>,
     shape: Shape,
+    told: &mut Telling<'_, W, S::Alloc>,
 ) -> Result<(Node<S>, Change), StartFault<S::Alloc>>
-    requires { IsFrontOf (D.seen disk.now) bytes.now }
+    requires { IsFrontOf (D.seen front.now.disk) front.now.bytes.items }
     ensures { IfOk result (λ r. (config : ConfigValue)
-        × (held : HoldsImages (D.seen disk.now) config r.0)
+        × (held : HoldsImages (D.seen front.now.disk) config r.0)
         × (cast_unsigned w64 held.head.number ≡ number)) }
 {
     let name = Name::Snapshot(number);
-    let (head, images) = match judge_head(bytes) {
-        Ok(found) => found,
-        Err(why) => return Err(head_fault(name, bytes, why)),
-    };
-    check_number(number, &head)?;
+    let bytes = front.bytes.as_slice();
+    let (head, images) = head_in(number, bytes)?;
     let change = check_configuration(alloc, name, config, &head)?;
     let is_former = change == Change::Grown && shape == Shape::Former;
     let set_up = config_of::<S>(alloc, name, config, &head, is_former)?;
@@ -150,23 +192,23 @@ fn restore_from<S: BatchStore, D: Disk>(
         Err(why) => return Err(config_fault(name, change, why)),
     };
     let at = bytes.len().saturating_sub(images.len()) as u64;
-    match restore_snapshot(alloc, disk, &head, at, &mut state) {
-        Ok(()) => Ok((Node::from_state(state), change)),
-        Err(why) => Err(restore_fault(name, why)),
+    match restore_snapshot(alloc, &front.disk, &head, at, &mut state, told) {
+        Ok(()) => {}
+        Err(why) => return Err(restore_fault(name, why)),
     }
+    tell_snapshot(name, &head, front.size, told)?;
+    Ok((Node::from_state(state), change))
 }
 
-/// Restores the broker of a directory's snapshot.
-#[tactic(auto, using(crate::proofs::Taking::snapshot_holds))]
-pub(crate) fn restore_node<S: BatchStore, D: Directory>(
-    alloc: S::Alloc,
+/// The first bytes of a directory's snapshot.
+fn open_front<D: Directory, A: Allocator + Copy>(
+    alloc: A,
     directory: &D,
     number: u64,
-    config: &Config<S::Alloc>,
-    shape: Shape,
-) -> Result<Restored<S>, StartFault<S::Alloc>>
-    ensures is_of_its_file { IfOk result (λ r. SnapshotHolds (D.state directory.now)
-        (D.gives directory.now) D.File.seen number r.node) }
+) -> Result<Front<D::File, A>, StartFault<A>>
+    ensures was_there { OnOk result (IsThere (D.state directory.now) (SnapshotOf number) true) }
+    ensures is_its_file { IfOk result (λ front. D.gives directory.now (SnapshotOf number) front.disk) }
+    ensures is_front { IfOk result (λ front. IsFrontOf (D.File.seen front.disk) front.bytes.items) }
 {
     let name = Name::Snapshot(number);
     let disk = match directory.open(name) {
@@ -177,10 +219,42 @@ pub(crate) fn restore_node<S: BatchStore, D: Directory>(
         Ok(size) => size,
         Err(why) => return Err(failed(Some(name), why)),
     };
-    let bytes = match read_front(alloc, &disk) {
-        Ok(bytes) => bytes,
-        Err(why) => return Err(unread(name, why)),
-    };
-    let (node, change) = restore_from(alloc, &disk, number, &bytes, config, shape)?;
-    Ok(Restored { node, change, size })
+    match read_front(alloc, &disk) {
+        Ok(bytes) => Ok(Front { disk, size, bytes }),
+        Err(why) => Err(unread(name, why)),
+    }
+}
+
+/// What a directory's snapshot says that its broker was set up with.
+pub(crate) fn config_in<D: Directory, A: Allocator + Copy>(
+    alloc: A,
+    directory: &D,
+    number: u64,
+) -> Result<Config<A>, StartFault<A>> {
+    let front = open_front(alloc, directory, number)?;
+    let (head, _) = head_in(number, &front.bytes)?;
+    own_config(alloc, Name::Snapshot(number), &head)
+}
+
+/// Restores the broker of a directory's snapshot.
+#[tactic(auto, using(crate::proofs::Taking::snapshot_holds))]
+pub(crate) fn restore_node<S: BatchStore, D: Directory, W: Watching>(
+    alloc: S::Alloc,
+    directory: &D,
+    number: u64,
+    config: &Config<S::Alloc>,
+    shape: Shape,
+    told: &mut Telling<'_, W, S::Alloc>,
+) -> Result<Restored<S>, StartFault<S::Alloc>>
+    ensures is_of_its_file { IfOk result (λ r. SnapshotHolds (D.state directory.now)
+        (D.gives directory.now) D.File.seen number r.node) }
+{
+    told.begin(Name::Snapshot(number));
+    let front = open_front(alloc, directory, number)?;
+    let (node, change) = restore_from(alloc, &front, number, config, shape, told)?;
+    Ok(Restored {
+        node,
+        change,
+        size: front.size,
+    })
 }

@@ -1,21 +1,22 @@
 //! The start of a broker with a directory.
 
-ghost use Rattle.std.specs.Prelude.{◌≡◌, ◌+◌, None, false, true, IfErr, IfOk, IfSome, MatchBool, OnOk};
-ghost use Rattle.journal.specs.declared.layout.TheConstants.{HEAD_SIZE};
-ghost use Rattle.data_directory.specs.declared.names.Name.TheVariants.{Journal as JournalOf, Snapshot};
-ghost use Rattle.data_directory.specs.Directories.{IsName, IsThere, KeepsOthers};
-ghost use Rattle.kept_rotations.specs.Steps.{IsBelow};
-ghost use Rattle.kept_starts.specs.Removals.{IsOld, Removes};
+ghost use Rattle.std.specs.Prelude.{◌≡◌, ◌⊎◌, ◌+◌, ◌≤◌, ◌||◌, not, None, false, true, IfErr, IfOk, IfSome, MatchBool, OnOk};
+ghost use Rattle.broker_state.specs.State.{State};
+ghost use Rattle.journal.specs.Readers.{KeepsItsWord};
+ghost use Rattle.data_directory.specs.declared.names.Name.TheVariants.{Journal as JournalOf};
+ghost use Rattle.data_directory.specs.Directories.{AreCertain, IsName, KeepsOthers};
+ghost use Rattle.kept_rotations.specs.Steps.{HasCurrentHead, IsBelow};
+ghost use Rattle.kept_starts.specs.Removals.{HasRow, HasRowThen, IsOld, Removes};
 ghost use Rattle.kept_starts.specs.Refusals.{IsFailure, RefusesUnchanged};
 ghost use Rattle.kept_starts.specs.Rows.{IsTakenRow, IsTopRow};
-ghost use Rattle.kept_starts.specs.Starts.{FilesLead, GoesOnBehind, GroupsLead, IsFolded, IsRecovered, IsStarted, RotatesFrom, TakesFiles};
+ghost use Rattle.kept_starts.specs.Starts.{BeginsWith, FilesLead, GoesOnBehind, GoesOnMeaning, IsBehind, IsFolded, IsReadUp, IsRecovered, IsStarted, RotatesFrom, TakesFiles};
 
-use crate::configuration::Change;
 use crate::faults::{StartFault, as_failure, failed};
 use crate::making::{make_files, remove_unfinished};
-use crate::recovering::{Former, former_of, resume_last};
+use crate::recovering::{Newest, RowRead, former_of, newest_of, resume_last, sync_read};
 use crate::snapshot::Shape;
 use crate::standing::{FIRST_ROW, Row, names_of, standing_of};
+use crate::telling::{Telling, Watching};
 use broker_state::Config;
 use data_directory::{Directory, Name};
 use kept_rotations::{FoldFault, Keeper, KeptFiles, Missed, Rotation, RotationFault};
@@ -79,15 +80,16 @@ fn not_folded<A: Allocator>(why: FoldFault) -> StartFault<A>
     }
 }
 
-/// Removes files with a number below that of the snapshot.
+/// Removes files with a number below that of the snapshot, whose name is on the disk for certain.
 #[tactic(auto, using(crate::proofs::Removing::one_snapshot, crate::proofs::Removing::one_journal))]
 fn remove_lower<D: Directory, A: Allocator>(
     directory: &mut D,
     names: &[Name],
     snapshot: u64,
 ) -> Result<(), StartFault<A>>
-    ensures keeps_others { OnOk result (KeepsOthers (IsBelow snapshot) (D.state directory.old)
-        (D.state directory.new)) }
+    requires is_certain { AreCertain (D.state directory.old) }
+    ensures keeps_others { KeepsOthers (IsBelow snapshot) (D.state directory.old)
+        (D.state directory.new) }
     ensures fails { IfErr result IsFailure }
 {
     for name in names {
@@ -119,8 +121,8 @@ fn remove_next<D: Directory, A: Allocator>(
     }
 }
 
-/// Removes what was being made, and has the names on the disk for certain, as a start that was ended may have left them
-/// unsynced; then what the snapshot has taken the place of.
+/// Removes a journal that was being made, and has the names on the disk for certain, as a start that was ended may have left
+/// them unsynced; then what the snapshot has taken the place of.
 #[tactic(auto, using(crate::proofs::Removing::settled))]
 fn settle_names<D: Directory, A: Allocator + Copy>(
     alloc: A,
@@ -132,7 +134,6 @@ fn settle_names<D: Directory, A: Allocator + Copy>(
         (D.state directory.old) (D.state directory.new)) }
     ensures fails { IfErr result IsFailure }
 {
-    remove_unfinished(directory, Name::Making)?;
     remove_next(directory, row.last, has_unfinished)?;
     match directory.sync() {
         Ok(()) => {}
@@ -142,53 +143,103 @@ fn settle_names<D: Directory, A: Allocator + Copy>(
     remove_lower(directory, &names, row.snapshot)
 }
 
-/// A broker goes on with the last of its journals. Then what is of no use in the directory is removed.
-#[tactic(auto, using(crate::proofs::GoingOn::started))]
+/// Which files there are, and how large they are.
+fn files_of(read: RowRead, is_current: bool) -> KeptFiles
+    ensures is_the_row { (result.snapshot ≡ read.row.snapshot) × (result.last ≡ read.row.last) }
+    ensures current { result.is_current ≡ is_current }
+{
+    KeptFiles {
+        snapshot: read.row.snapshot,
+        last: read.row.last,
+        lowest: read.row.snapshot,
+        snapshot_size: read.snapshot_size,
+        journals_size: read.journals_size,
+        is_current,
+        again: None,
+    }
+}
+
+/// What is found where none of a broker's files is, or none but such as were being made.
+pub(crate) fn nothing_found() -> Found
+    ensures { result.is_new ≡ true }
+{
+    Found {
+        is_new: true,
+        has_grown: false,
+        snapshot: 0,
+        frames: 0,
+        journal: 0,
+        at: 0,
+        cut: 0,
+    }
+}
+
+/// What was found of a row whose last journal was read up to an offset.
+pub(crate) fn found_of(read: RowRead, frames: u64, at: u64, size: u64) -> Found
+    ensures tells { (result.snapshot ≡ read.row.snapshot) × (result.journal ≡ read.row.last) }
+    ensures grown { result.has_grown ≡ read.is_grown }
+    ensures old { result.is_new ≡ false }
+{
+    Found {
+        is_new: false,
+        has_grown: read.is_grown,
+        snapshot: read.row.snapshot,
+        frames,
+        journal: read.row.last,
+        at,
+        cut: size.saturating_sub(at),
+    }
+}
+
+/// The broker of a row goes on with the last journal. A snapshot in the making goes first, as what is written again may need its
+/// room. Then all that was read is on the disk for certain, and what is of no use in the directory is removed.
+#[tactic(auto, using(crate::proofs::GoingOn::started_up, crate::proofs::GoingOn::begins_cut, crate::proofs::Removing::making_then))]
 fn go_on<S: BatchStore + Drop, D: Directory>(
     alloc: S::Alloc,
     directory: &mut D,
-    former: Former<S, D>,
+    newest: Newest<S, D::File>,
     keeping: Keeping,
 ) -> Result<Started<S, D>, StartFault<S::Alloc>>
-    requires opened { former.reader.at ≡ HEAD_SIZE }
-    requires recovered { IsRecovered D.File.seen former.node }
+    requires recovered { (former : State) × IsRecovered D.File.seen former
+        × IsReadUp D.File.seen former newest.reader newest.node }
+    requires keeps_its_word { KeepsItsWord (D.File.seen newest.reader.disk)
+        (D.File.may_leave newest.reader.disk) }
     ensures is_started { IfOk result (λ s. IsStarted D.File.seen s.keeper) }
-    ensures leads { IfOk result (λ s. GroupsLead (D.File.seen former.reader.disk)
-        former.reader.head.key former.node s.keeper.world.state) }
-    ensures tells { IfOk result (λ s. (s.found.snapshot ≡ former.row.snapshot)
-        × (s.found.journal ≡ former.row.last)) }
-    ensures rotates { IfOk result (λ s. (s.rotation.files.snapshot ≡ former.row.snapshot)
-        × (s.rotation.files.last ≡ former.row.last) × (s.rotation.draft ≡ None)) }
-    ensures removes { OnOk result (KeepsOthers (IsOld former.row.snapshot former.row.last)
+    ensures holds { IfOk result (λ s. s.keeper.world.state ≡ newest.node) }
+    ensures tells { IfOk result (λ s. (s.found.snapshot ≡ newest.read.row.snapshot)
+        × (s.found.journal ≡ newest.read.row.last)) }
+    ensures grown { IfOk result (λ s. s.found.has_grown ≡ newest.read.is_grown) }
+    ensures rotates { IfOk result (λ s. (s.rotation.files.snapshot ≡ newest.read.row.snapshot)
+        × (s.rotation.files.last ≡ newest.read.row.last) × (s.rotation.draft ≡ None)) }
+    ensures current { IfOk result (λ s. s.rotation.files.is_current ≡ newest.is_current) }
+    ensures begins { IfOk result (λ s. BeginsWith (D.File.seen s.keeper.journal.disk)
+        newest.reader.head) }
+    ensures removes { OnOk result (KeepsOthers (IsOld newest.read.row.snapshot newest.read.row.last)
         (D.state directory.old) (D.state directory.new)) }
-    ensures refuses { IfErr result
-        (RefusesUnchanged (D.state directory.old) (D.state directory.new)) }
+    ensures fails { IfErr result IsFailure }
 {
-    let row = former.row;
-    let resumed = resume_last(alloc, Name::Journal(row.last), former.node, former.reader)?;
-    match settle_names(alloc, directory, row, former.has_unfinished) {
+    let read = newest.read;
+    let (at, size) = (newest.reader.at(), newest.reader.size());
+    remove_unfinished(directory, Name::Making)?;
+    let keeper = resume_last(
+        alloc,
+        Name::Journal(read.row.last),
+        newest.node,
+        newest.reader,
+    )?;
+    match sync_read(directory, read.row) {
         Ok(()) => {}
         Err(why) => return Err(why),
     }
-    let files = KeptFiles {
-        snapshot: row.snapshot,
-        last: row.last,
-        lowest: row.snapshot,
-        snapshot_size: former.snapshot_size,
-        journals_size: former.journals_size,
-    };
+    match settle_names(alloc, directory, read.row, read.has_unfinished) {
+        Ok(()) => {}
+        Err(why) => return Err(why),
+    }
+    let files = files_of(read, newest.is_current);
     Ok(Started {
-        keeper: resumed.keeper,
+        keeper,
         rotation: Rotation::new(alloc, files, keeping.most_journal),
-        found: Found {
-            is_new: false,
-            has_grown: false,
-            snapshot: row.snapshot,
-            frames: former.frames.saturating_add(resumed.frames),
-            journal: row.last,
-            at: resumed.at,
-            cut: resumed.cut,
-        },
+        found: found_of(read, newest.frames, at, size),
     })
 }
 
@@ -203,8 +254,10 @@ fn fold<S: BatchStore + Drop, D: Directory>(
         (started.new.keeper.world ≡ started.old.keeper.world) }
     ensures keeps_what_was_found { OnOk result (started.new.found ≡ started.old.found) }
     ensures folds { OnOk result (IsFolded started.old.rotation started.new.rotation) }
-    ensures is_there { OnOk result
-        (IsThere (D.state directory.new) (Snapshot started.new.rotation.files.last) true) }
+    ensures are_there { OnOk result (HasRowThen (D.state directory.old) (D.state directory.new)
+        started.old.rotation.files.last started.new.rotation.files.last) }
+    ensures means { OnOk result (HasCurrentHead D.File.seen started.old.keeper started.new.keeper
+        started.old.rotation started.new.rotation) }
     ensures fails { IfErr result IsFailure }
 {
     match started.rotation.fold(&mut started.keeper, directory) {
@@ -214,10 +267,10 @@ fn fold<S: BatchStore + Drop, D: Directory>(
 }
 
 /// Whether a snapshot is to be taken at once.
-fn is_fold_due(keeping: Keeping, is_of_other_meaning: bool, change: Change) -> bool
-    ensures { keeping.is_folded ≡ true → result ≡ true }
+fn is_fold_due(keeping: Keeping, is_current: bool, is_grown: bool) -> bool
+    ensures { result ≡ (keeping.is_folded || is_grown || not is_current) }
 {
-    keeping.is_folded || is_of_other_meaning || change == Change::Grown
+    keeping.is_folded || is_grown || !is_current
 }
 
 /// Takes a snapshot at once if one is due.
@@ -233,8 +286,13 @@ fn fold_if_due<S: BatchStore + Drop, D: Directory>(
     ensures keeps_what_was_found { OnOk result (started.new.found ≡ started.old.found) }
     ensures folds { OnOk result (MatchBool is_due
         (IsFolded started.old.rotation started.new.rotation
-        × IsThere (D.state directory.new) (Snapshot started.new.rotation.files.last) true)
+        × HasRowThen (D.state directory.old) (D.state directory.new)
+        started.old.rotation.files.last started.new.rotation.files.last)
         ((started.new.rotation ≡ started.old.rotation) × (directory.new ≡ directory.old))) }
+    ensures means { OnOk result (MatchBool is_due
+        (HasCurrentHead D.File.seen started.old.keeper started.new.keeper
+        started.old.rotation started.new.rotation)
+        (started.new.keeper.journal ≡ started.old.keeper.journal)) }
     ensures fails { IfErr result IsFailure }
 {
     if is_due {
@@ -243,59 +301,71 @@ fn fold_if_due<S: BatchStore + Drop, D: Directory>(
     Ok(())
 }
 
-/// Starts the broker of files that stand in a directory, and takes a snapshot where that is due. Tells how what is asked
-/// for differs from what the broker has, whose configuration is that of its snapshot where more is asked for.
-fn start_standing<S: BatchStore + Drop, D: Directory>(
+/// Starts the broker of files that stand in a directory, and takes a snapshot where that is due. Where more is asked for than the
+/// snapshot has, its configuration is the snapshot's.
+#[tactic(auto, using(crate::proofs::Taking::ready, crate::proofs::Taking::still_in_order))]
+fn start_standing<S: BatchStore + Drop, D: Directory, W: Watching>(
     alloc: S::Alloc,
     directory: &mut D,
     config: &Config<S::Alloc>,
     row: Row,
     keeping: Keeping,
     shape: Shape,
-) -> Result<(Started<S, D>, Change), StartFault<S::Alloc>>
-    ensures is_started { IfOk result (λ s. IsStarted D.File.seen s.0.keeper) }
+    watch: &mut W,
+) -> Result<Started<S, D>, StartFault<S::Alloc>>
+    requires in_order { row.snapshot ≤ row.last }
+    ensures is_started { IfOk result (λ s. IsStarted D.File.seen s.keeper) }
     ensures leads { IfOk result (λ s. FilesLead (D.state directory.old) (D.gives directory.old)
-        D.File.seen s.0.found.snapshot s.0.found.journal s.0.keeper.world.state) }
+        D.File.seen s.found.snapshot s.found.journal s.keeper.world.state) }
     ensures row { IfOk result (λ s. IsTopRow (D.state directory.old) row.snapshot row.last
         → IsTakenRow (D.state directory.old) (D.gives directory.old) D.File.seen
-        s.0.found.snapshot s.0.found.journal) }
-    ensures rotates { IfOk result (λ s. (s.0.rotation.draft ≡ None)
-        × GoesOnBehind s.0.found.snapshot s.0.found.journal s.0.rotation.files) }
-    ensures folds { IfOk result (λ s. keeping.is_folded ≡ true
-        → (s.0.rotation.files.snapshot ≡ s.0.rotation.files.last)
-        × IsThere (D.state directory.new) (Snapshot s.0.rotation.files.last) true) }
+        s.found.snapshot s.found.journal) }
+    ensures of_the_row { IfOk result (λ s. s.found.snapshot ≡ row.snapshot) }
+    ensures rotates { IfOk result (λ s. (s.rotation.draft ≡ None)
+        × GoesOnBehind s.found.snapshot s.found.journal s.rotation.files) }
+    ensures folds { IfOk result (λ s. (keeping.is_folded ≡ true) ⊎ (s.found.has_grown ≡ true)
+        → IsBehind s.found s.rotation.files
+        × HasRow (D.state directory.new) s.rotation.files.last) }
     ensures removes { IfOk result (λ s. Removes (D.state directory.old) (D.state directory.new)
-        s.0.found s.0.rotation.files) }
+        s.found s.rotation.files) }
+    ensures means { IfOk result (λ s. GoesOnMeaning D.File.seen s.rotation s.keeper.journal) }
     ensures refuses { IfErr result
         (RefusesUnchanged (D.state directory.old) (D.state directory.new)) }
 {
-    let former: Former<S, D> = former_of(alloc, directory, config, row, shape)?;
-    let change = former.change;
-    let is_due = is_fold_due(keeping, former.is_of_other_meaning, change);
-    let mut started = go_on(alloc, directory, former, keeping)?;
+    let mut told = Telling::new(alloc, watch);
+    let former = former_of(alloc, directory, config, row, shape, &mut told)?;
+    let newest: Newest<S, D::File> = newest_of(alloc, directory, former, &mut told)?;
+    let is_due = is_fold_due(keeping, newest.is_current, newest.read.is_grown);
+    let mut started = match go_on(alloc, directory, newest, keeping) {
+        Ok(started) => started,
+        Err(why) => return Err(why),
+    };
     match fold_if_due(is_due, directory, &mut started) {
-        Ok(()) => Ok((started, change)),
+        Ok(()) => Ok(started),
         Err(why) => Err(why),
     }
 }
 
 /// Adds the topics and partitions that are asked for to a broker of which a snapshot was just taken: it is read again with
 /// them, and another one is taken.
-#[tactic(auto, using(crate::proofs::GoingOn::grown_rotates))]
-fn grow<S: BatchStore + Drop, D: Directory>(
+#[tactic(auto, using(crate::proofs::GoingOn::behind_in_order))]
+fn grow<S: BatchStore + Drop, D: Directory, W: Watching>(
     alloc: S::Alloc,
     directory: &mut D,
     config: &Config<S::Alloc>,
     former: Started<S, D>,
     keeping: Keeping,
+    watch: &mut W,
 ) -> Result<Started<S, D>, StartFault<S::Alloc>>
+    requires behind { IsBehind former.found former.rotation.files }
     ensures is_started { IfOk result (λ s. IsStarted D.File.seen s.keeper) }
     ensures keeps_what_was_found { IfOk result (λ s. s.found ≡ former.found) }
     ensures folds { IfOk result (λ s. (s.rotation.draft ≡ None)
-        × (s.rotation.files.snapshot ≡ s.rotation.files.last)
-        × IsThere (D.state directory.new) (Snapshot s.rotation.files.last) true) }
+        × IsBehind s.found s.rotation.files
+        × HasRow (D.state directory.new) s.rotation.files.last) }
     ensures rotates { IfOk result (λ s. former.found.has_grown ≡ true
         → RotatesFrom s.found s.rotation) }
+    ensures means { IfOk result (λ s. GoesOnMeaning D.File.seen s.rotation s.keeper.journal) }
     ensures fails { IfErr result IsFailure }
 {
     let found = former.found;
@@ -309,8 +379,8 @@ fn grow<S: BatchStore + Drop, D: Directory>(
         is_folded: true,
         ..keeping
     };
-    match start_standing(alloc, directory, config, row, folding, Shape::Asked) {
-        Ok((mut started, _)) => {
+    match start_standing(alloc, directory, config, row, folding, Shape::Asked, watch) {
+        Ok(mut started) => {
             started.found = found;
             Ok(started)
         }
@@ -327,6 +397,8 @@ fn row_of<S: BatchStore, D: Directory>(
 ) -> Result<Row, StartFault<S::Alloc>>
     ensures found { IfOk result (λ row. IfSome standing (λ found. (row ≡ found)
         × (directory.new ≡ directory.old))) }
+    ensures in_order { IfOk result (λ row. IfSome standing (λ found. found.snapshot ≤ found.last)
+        → row.snapshot ≤ row.last) }
     ensures refuses { IfErr result
         (RefusesUnchanged (D.state directory.old) (D.state directory.new)) }
 {
@@ -348,19 +420,21 @@ fn fault_of<A: Allocator>(is_new: bool, why: StartFault<A>) -> StartFault<A>
 
 /// Starts a broker of this configuration with a directory: judges its files and handles the journals' frames again, and
 /// only then cuts what is behind the last sound group, and removes files that are of no use; or makes its files, if it has
-/// none. Where topics or partitions are asked for that it doesn't have, they are added, by a snapshot. The first producer id
-/// that is asked for counts for a new directory alone.
+/// none. What was read is on the disk for certain behind it, whatever a start before found there. Where topics or partitions
+/// are asked for that it doesn't have, they are added, by a snapshot. The first producer id that is asked for counts for a new
+/// directory alone. `watch` is told how far it is.
 ///
 /// # Errors
 ///
 /// The first [`StartFault`] that is found: of the names, of the snapshot, of the configuration, of each journal's head and
 /// its groups, from the snapshot's number on; then the directory is as it was. `Failed` and `OutOfMemory` may come later.
 /// A file of this start's own that can't be read again is `Failed`.
-pub fn start<S: BatchStore + Drop, D: Directory>(
+pub fn start<S: BatchStore + Drop, D: Directory, W: Watching>(
     alloc: S::Alloc,
     directory: &mut D,
     config: &Config<S::Alloc>,
     keeping: Keeping,
+    watch: &mut W,
 ) -> Result<Started<S, D>, StartFault<S::Alloc>>
     ensures is_started { IfOk result (λ s. IsStarted D.File.seen s.keeper) }
     ensures takes_its_files { IfOk result (λ s. TakesFiles (D.state directory.old)
@@ -368,20 +442,20 @@ pub fn start<S: BatchStore + Drop, D: Directory>(
     ensures rotates { IfOk result (λ s. RotatesFrom s.found s.rotation) }
     ensures removes { IfOk result (λ s. s.found.is_new ≡ false
         → Removes (D.state directory.old) (D.state directory.new) s.found s.rotation.files) }
+    ensures means { IfOk result (λ s. GoesOnMeaning D.File.seen s.rotation s.keeper.journal) }
     ensures refuses { IfErr result
         (RefusesUnchanged (D.state directory.old) (D.state directory.new)) }
 {
     let standing = standing_of(alloc, directory)?;
     let row = row_of::<S, D>(alloc, directory, config, standing)?;
-    let begun = start_standing(alloc, directory, config, row, keeping, Shape::Former);
-    let (mut started, change) = match begun {
-        Ok(begun) => begun,
+    let begun = start_standing(alloc, directory, config, row, keeping, Shape::Former, watch);
+    let mut started = match begun {
+        Ok(started) => started,
         Err(why) => return Err(fault_of(standing.is_none(), why)),
     };
     started.found.is_new = standing.is_none();
-    started.found.has_grown = change == Change::Grown;
     if started.found.has_grown {
-        return grow(alloc, directory, config, started, keeping);
+        return grow(alloc, directory, config, started, keeping, watch);
     }
     Ok(started)
 }

@@ -3,6 +3,6 @@ use Rattle.kept_starts.proofs.snapshot.restore_node.Goals as goal
 
 pub returns : goal.returns
 returns g c = record {
-  is_of_its_file = snapshot_holds (g.D.Directory.state c.args.directory.now) (g.D.Directory.gives c.args.directory.now) g.D.File.Disk.seen c.args.number c.in-Ok.disk c.in_ok-node.node
-      c.in-Ok.ensures.was_there c.in-Ok.ensures.is_its_file c.in_ok-node.ensures;
+  is_of_its_file = snapshot_holds (g.D.Directory.state c.args.directory.now) (g.D.Directory.gives c.args.directory.now) g.D.File.Disk.seen c.args.number c.in_ok-front.front.disk
+      c.in_ok-node.node c.in_ok-front.ensures.was_there c.in_ok-front.ensures.is_its_file c.in_ok-node.ensures;
 }
