@@ -7,7 +7,7 @@ use crate::parting::{Dropped, Parting};
 use crate::serving_sessions::{ServedSessions, Unkept};
 use indexmap::IndexMap;
 use kept_starts::sessions::{Seat, Then, Why};
-use kept_starts::{Missed, Place, Sent};
+use kept_starts::{Done, Missed, Name, Place, Sent};
 use mio::event::Event;
 use mio::net::TcpStream;
 use mio::{Interest, Registry, Token};
@@ -131,32 +131,62 @@ impl<B: ServedSessions> Connections<B> {
         self.sessions.is_full()
     }
 
-    /// Keeps what was done in this round: then what is owed for it may leave.
+    /// Puts what was done in this round where it is kept, and gives what wasn't done beside for that. What is owed for it may leave
+    /// once it is synced, where that is due.
     ///
     /// # Errors
     ///
     /// It can't be kept: nothing more may leave.
-    pub(crate) fn settle(&mut self, now: Instant) -> std::result::Result<(), Unkept> {
-        self.sessions.settle(now)
+    pub(crate) fn put(&mut self, clock: u64) -> std::result::Result<Option<Missed>, Unkept> {
+        self.sessions.put(clock)
     }
 
-    /// When there is something to settle, if nothing is done until then.
-    pub(crate) fn settle_at(&self) -> Option<Instant> {
-        self.sessions.settle_at()
+    /// Whether something that was put isn't synced, and will be.
+    pub(crate) fn is_to_sync(&self) -> bool {
+        self.sessions.is_to_sync()
     }
 
-    /// Makes the next step of what is to be done beside, and gives what wasn't done of it.
+    /// Whether that is to be synced now, before what is owed leaves.
+    pub(crate) fn is_sync_due(&mut self, now: Instant) -> bool {
+        self.sessions.is_sync_due(now)
+    }
+
+    /// When something is to be synced, if nothing is done until then.
+    pub(crate) fn sync_at(&self) -> Option<Instant> {
+        self.sessions.sync_at()
+    }
+
+    /// Syncs all that was put.
+    ///
+    /// # Errors
+    ///
+    /// It can't be kept: nothing more may leave.
+    pub(crate) fn sync(&mut self) -> std::result::Result<(), Unkept> {
+        self.sessions.sync()
+    }
+
+    /// The file that is synced, if there is one.
+    pub(crate) fn journal(&self) -> Option<Name> {
+        self.sessions.journal()
+    }
+
+    /// Makes the next step of what is to be done beside, and gives what was done and wasn't.
     ///
     /// # Errors
     ///
     /// What was done can no longer be kept: nothing more may leave.
-    pub(crate) fn tend(&mut self, clock: u64) -> std::result::Result<Option<Missed>, Unkept> {
+    pub(crate) fn tend(&mut self, clock: u64) -> std::result::Result<Done, Unkept> {
         self.sessions.tend(clock)
     }
 
     /// Whether another step is to follow at once.
-    pub(crate) fn is_tending(&self) -> bool {
-        self.sessions.is_tending()
+    pub(crate) fn is_tending(&self, clock: u64) -> bool {
+        self.sessions.is_tending(clock)
+    }
+
+    /// When the next step is to be made by the clock, if nothing is done until then.
+    pub(crate) fn tend_at(&self) -> Option<u64> {
+        self.sessions.tend_at()
     }
 
     /// How many are open, with those whose session is over and that aren't closed yet.

@@ -1,8 +1,9 @@
 //! A broker that keeps its changes in a directory: its start, and why there is none or it ends.
 
-ghost use Rattle.std.specs.Prelude.{◌≤◌, IfErr, IfOk};
+ghost use Rattle.std.specs.Prelude.{◌≡◌, ◌≤◌, IfErr, IfOk};
 
 use crate::options::KeptOptions;
+use crate::progress::Progress;
 use crate::reports::{Reason, say};
 use crate::serving_sessions::Unkept;
 use kept_starts::{
@@ -15,28 +16,29 @@ use std::fs::{File, Files};
 use std::io::{Error, ErrorKind, Write};
 use std::random::RandomSource;
 use std::string::String;
+use std::time::Clock;
 use subcommands::{DONE, FAILED, FAULTY, NO_MEMORY, REFUSED, refuse_configuration};
 
 /// The store of the program's brokers.
-type Store = ProgramStore<Global>;
+pub(crate) type Store = ProgramStore<Global>;
 
 /// Says that there is no memory, and answers the status.
-fn say_no_memory<E: Write>(alloc: Global, err: &mut E) -> u8
-    ensures { result ≤ 4 }
+pub(crate) fn say_no_memory<E: Write>(alloc: Global, err: &mut E) -> u8
+    ensures { result ≡ 3 }
 {
     say(String::from_str(alloc, "kbroker: out of memory\n"), err);
     NO_MEMORY
 }
 
 /// Says why a call on a directory or a file failed, and answers the status.
-fn say_failed<E: Write>(
+pub(crate) fn say_failed<E: Write>(
     alloc: Global,
     directory: &str,
     name: Option<Name>,
     why: &Error,
     err: &mut E,
 ) -> u8
-    ensures { result ≤ 4 }
+    ensures { (3 ≤ result) × (result ≤ 4) }
 {
     if matches!(why.kind(), ErrorKind::OutOfMemory) {
         return say_no_memory(alloc, err);
@@ -117,13 +119,13 @@ fn say_of<E: Write>(alloc: Global, directory: &str, words: &str, err: &mut E) {
 }
 
 /// Says why a broker doesn't start with a directory, and answers the status.
-fn refuse<E: Write>(
+pub(crate) fn refuse<E: Write>(
     alloc: Global,
     directory: &str,
     why: StartFault<Global>,
     err: &mut E,
 ) -> Result<u8, AllocError>
-    ensures is_status { IfOk result (λ status. status ≤ 4) }
+    ensures is_status { IfOk result (λ status. (1 ≤ status) × (status ≤ 4)) }
 {
     if let Some(words) = words_of(alloc, &why)? {
         say_of(alloc, directory, &words, err);
@@ -185,8 +187,25 @@ fn opened<'a, R: Files<File = File> + RandomSource + Alloc + Clone + Drop, E: Wr
 /// A directory, and the broker that was started with it. The directory stays locked as long as the folder is there.
 type InFolder<'a, R> = (Folder<'a, R>, Started<Store, Folder<'a, R>>);
 
+/// Starts a broker with a directory, and says how far it is while that takes long.
+fn begin<'a, R: Clock + Files<File = File> + RandomSource + Alloc + Clone + Drop, E: Write>(
+    rt: &'a R,
+    alloc: Global,
+    folder: &mut Folder<'a, R>,
+    config: &Config<Global>,
+    keeping: Keeping,
+    err: &mut E,
+) -> Result<Started<Store, Folder<'a, R>>, StartFault<Global>> {
+    let mut progress = Progress::new(rt, alloc, "recovering", err);
+    start(alloc, folder, config, keeping, &mut progress)
+}
+
 /// Starts a broker with a directory, and says what was found there; or says why there is none, and gives the status.
-pub(crate) fn started_in<'a, R: Files<File = File> + RandomSource + Alloc + Clone + Drop, E: Write>(
+pub(crate) fn started_in<
+    'a,
+    R: Clock + Files<File = File> + RandomSource + Alloc + Clone + Drop,
+    E: Write,
+>(
     rt: &'a R,
     alloc: Global,
     config: &Config<Global>,
@@ -197,7 +216,7 @@ pub(crate) fn started_in<'a, R: Files<File = File> + RandomSource + Alloc + Clon
     ensures is_status { IfErr result (λ status. status ≤ 4) }
 {
     let mut folder = opened(rt, alloc, directory, err)?;
-    match start(alloc, &mut folder, config, keeping) {
+    match begin(rt, alloc, &mut folder, config, keeping, err) {
         Ok(started) => {
             say(found_words(alloc, directory, &started.found), err);
             Ok((folder, started))
@@ -223,7 +242,11 @@ fn last_snapshot<S: BatchStore + Drop, D: Directory>(started: Started<S, D>) -> 
 }
 
 /// Starts a broker with a directory, takes a snapshot, and says which; answers the status.
-pub(crate) fn fold<'a, R: Files<File = File> + RandomSource + Alloc + Clone + Drop, E: Write>(
+pub(crate) fn fold<
+    'a,
+    R: Clock + Files<File = File> + RandomSource + Alloc + Clone + Drop,
+    E: Write,
+>(
     rt: &'a R,
     alloc: Global,
     config: &'a Config<Global>,

@@ -4,6 +4,7 @@
 
 mod accepting;
 mod addresses;
+mod checking;
 mod connection;
 mod connections;
 mod ending;
@@ -11,13 +12,16 @@ mod incoming;
 mod keeping;
 mod options;
 mod parting;
+mod progress;
 mod reports;
 mod rounds;
 mod serving;
 mod serving_sessions;
 mod standard_streams;
 mod starting;
+mod units;
 
+pub use checking::check_directory;
 pub use connection::{Connection, Replies, Requests};
 pub use options::{KeptOptions, ServeOptions, StartOptions, SyncWay};
 pub use serving::listen;

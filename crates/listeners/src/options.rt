@@ -18,7 +18,7 @@ pub struct ServeOptions {
 pub enum SyncWay {
     /// Before anything leaves that it keeps.
     Always,
-    /// So many milliseconds after it grew at the latest, from 1 to 60,000.
+    /// So many milliseconds after it grew at the latest, from 1 to 60,000; but never within the handling of one request.
     Every(u32),
     /// When the system does.
     Never,

@@ -1,7 +1,8 @@
-//! Lines on standard error about connections: never many in a second, and never waited for.
+//! Lines on standard error about connections and files: never many in a second, and never waited for.
 
 use crate::ending::Ended;
-use kept_starts::Missed;
+use crate::units::{Millis, Size};
+use kept_starts::{Missed, Name, Taken};
 use std::alloc::{AllocError, Global};
 use std::fmt;
 use std::fmt::Display;
@@ -16,14 +17,21 @@ const MOST_LINES: u32 = 100;
 /// For how long, in seconds, no two lines say that as many connections are open as there may be.
 const BETWEEN_FULL: u64 = 10;
 
-/// Why a call of the system failed: its kind in words, or what the system says where it has no kind.
+/// For how long, in seconds, no two lines say that a sync took long.
+const BETWEEN_SLOW: u64 = 10;
+
+/// A sync that takes more milliseconds took long.
+const LONG_SYNC: u64 = 1_000;
+
+/// Why a call failed: its kind in words; or what the system says where it has no kind, and what the program says where it is one of
+/// its own.
 #[derive(Clone, Copy)]
 pub(crate) struct Reason<'a>(pub(crate) &'a Error);
 
 impl fmt::Display for Reason<'_> {
     fn fmt<W: fmt::Write>(&self, f: &mut fmt::Formatter<W>) -> fmt::Result {
         match self.0.kind() {
-            ErrorKind::Uncategorized => Display::fmt(self.0, f),
+            ErrorKind::Uncategorized | ErrorKind::Other => Display::fmt(self.0, f),
             kind => Display::fmt(&kind, f),
         }
     }
@@ -45,6 +53,11 @@ pub(crate) fn is_over(time: Option<Instant>, now: Instant) -> bool {
     }
 }
 
+/// How many milliseconds passed between two times.
+pub(crate) fn millis_between(from: Instant, to: Instant) -> u64 {
+    u64::try_from(to.duration_since(from).as_millis()).unwrap_or(u64::MAX)
+}
+
 /// Writes a line in one piece. Tells whether it, or another line in its place, is worth a later try: where
 /// it wasn't written because it would have had to wait, or for lack of memory.
 fn is_unsaid<E: Write>(line: Option<String>, err: &mut E) -> bool {
@@ -57,7 +70,7 @@ fn is_unsaid<E: Write>(line: Option<String>, err: &mut E) -> bool {
     }
 }
 
-/// What was said of connections lately, and what is still to be said.
+/// What was said lately, and what is still to be said.
 #[derive(Drop)]
 pub(crate) struct Reports {
     alloc: Global,
@@ -71,6 +84,8 @@ pub(crate) struct Reports {
     accepts_silent_until: Option<Instant>,
     /// Until when it isn't said that as many connections are open as there may be.
     full_silent_until: Option<Instant>,
+    /// Until when it isn't said that a sync took long.
+    syncs_silent_until: Option<Instant>,
 }
 
 impl Reports {
@@ -83,6 +98,7 @@ impl Reports {
             unsaid: 0,
             accepts_silent_until: None,
             full_silent_until: None,
+            syncs_silent_until: None,
         }
     }
 
@@ -163,5 +179,36 @@ impl Reports {
             Missed::Unlike => String::from_str(self.alloc, "snapshot: given up\n"),
         };
         is_unsaid(line.ok(), err);
+    }
+
+    /// Says that a snapshot was taken, and in how many milliseconds.
+    pub(crate) fn snapshot_taken<E: Write>(&mut self, taken: &Taken, millis: u64, err: &mut E) {
+        let number = taken.number;
+        let size = Size(taken.size);
+        let took = Millis(millis);
+        is_unsaid(
+            format!(in self.alloc; "snapshot {number}: {size} in {took}\n").ok(),
+            err,
+        );
+    }
+
+    /// Says that a sync of a file took long, if it did, at most once in ten seconds.
+    pub(crate) fn synced<E: Write>(
+        &mut self,
+        name: Name,
+        began: Instant,
+        ended: Instant,
+        err: &mut E,
+    ) {
+        let millis = millis_between(began, ended);
+        if millis <= LONG_SYNC || !is_over(self.syncs_silent_until, ended) {
+            return;
+        }
+        self.syncs_silent_until = ended.checked_add(Duration::from_secs(BETWEEN_SLOW));
+        let took = Millis(millis);
+        is_unsaid(
+            format!(in self.alloc; "{name}: a sync took {took}\n").ok(),
+            err,
+        );
     }
 }

@@ -3,9 +3,9 @@
 use crate::accepting::{Accepted, Acceptor, LISTENER};
 use crate::connections::{Connections, sooner};
 use crate::ending::Ended;
-use crate::reports::{Reports, is_over};
+use crate::reports::{Reports, is_over, millis_between};
 use crate::serving_sessions::{ServedSessions, Unkept};
-use kept_starts::Missed;
+use kept_starts::{Missed, Taken};
 use mio::net::TcpStream;
 use mio::{Events, Poll};
 use std::io::{Error, Result, Write};
@@ -117,9 +117,9 @@ impl<B: ServedSessions> Rounds<B> {
             self.wait(rt)?;
             self.accept(err)?;
             self.wake();
-            self.visit_ready(rt, err);
+            self.visit_ready(rt, err)?;
             self.release(rt, err)?;
-            self.tend(err)?;
+            self.tend(rt, err)?;
             self.wake();
             self.look_for_idle(err);
             self.connections.close_parted(self.now);
@@ -130,27 +130,38 @@ impl<B: ServedSessions> Rounds<B> {
 
     /// How long the next wait may take; without an end where nothing is to be done before an event.
     fn patience(&self) -> Option<Duration> {
-        if self.connections.ready_count() > 0 || self.connections.is_tending() {
+        let is_tending = self.connections.is_tending(self.clock());
+        if is_tending || self.connections.ready_count() > 0 {
             return Some(Duration::ZERO);
         }
         let accept_at = self.acceptor.due(self.connections.count(), self.now);
         let first = sooner(accept_at, sooner(self.look_at, self.reports.due()));
-        let first = sooner(first, self.connections.settle_at());
+        let first = sooner(first, self.connections.sync_at());
+        let first = sooner(first, self.tend_at());
         let first = sooner(first, self.connections.part_at());
         let first = sooner(first, self.next_due())?;
         Some(first.duration_since(self.now))
     }
 
-    /// What the clock says of those that wait: the milliseconds since the first round.
+    /// What the clock says of those that wait, and of a snapshot: the milliseconds since the first round.
     fn clock(&self) -> u64 {
-        let passed = self.now.duration_since(self.began).as_millis();
-        u64::try_from(passed).unwrap_or(u64::MAX)
+        millis_between(self.began, self.now)
+    }
+
+    /// When the clock says so much.
+    fn time_at(&self, clock: u64) -> Option<Instant> {
+        self.began.checked_add(Duration::from_millis(clock))
     }
 
     /// When the first frame that waits will be due.
     fn next_due(&self) -> Option<Instant> {
         let due = u64::try_from(self.connections.next_due()?).ok()?;
-        self.began.checked_add(Duration::from_millis(due))
+        self.time_at(due)
+    }
+
+    /// When the next step of a snapshot is to be made.
+    fn tend_at(&self) -> Option<Instant> {
+        self.time_at(self.connections.tend_at()?)
     }
 
     /// Waits for events, and notes whom they concern.
@@ -233,62 +244,150 @@ impl<B: ServedSessions> Rounds<B> {
     }
 
     /// Visits each connection that is ready once, unless much is to be kept before.
-    fn visit_ready<R: Clock, E: Write>(&mut self, rt: &R, err: &mut E) {
+    ///
+    /// # Errors
+    ///
+    /// What was done can no longer be kept. Nothing more is sent.
+    fn visit_ready<R: Clock, E: Write>(
+        &mut self,
+        rt: &R,
+        err: &mut E,
+    ) -> std::result::Result<(), Stop> {
         let clock = self.clock();
         for _ in 0..self.connections.ready_count() {
             if self.connections.is_full() {
                 break;
             }
             let ended = self.connections.visit_next(self.now, clock);
-            self.note_moved(rt);
+            self.look_at_clock(rt, err)?;
             self.note_end(ended, err);
             self.keep_bounds(err);
         }
+        Ok(())
     }
 
-    /// Has the connection count as moved on which something just did, by the clock as it is now: the round may have been
-    /// long.
-    fn note_moved<R: Clock>(&mut self, rt: &R) {
-        if self.connections.is_moving() {
-            self.connections.note_moved(time(rt, self.now));
+    /// Behind a visit, by the clock as it is now, since the round may have been long: has the connection count as moved on which
+    /// something just did, and syncs what was put in rounds before, where it is time to.
+    ///
+    /// # Errors
+    ///
+    /// It can't be synced.
+    fn look_at_clock<R: Clock, E: Write>(
+        &mut self,
+        rt: &R,
+        err: &mut E,
+    ) -> std::result::Result<(), Stop> {
+        let sync_at = self.connections.sync_at();
+        if sync_at.is_none() && !self.connections.is_moving() {
+            return Ok(());
         }
+        let now = time(rt, self.now);
+        self.connections.note_moved(now);
+        if sync_at.is_some() && is_over(sync_at, now) {
+            return self.sync(rt, now, err);
+        }
+        Ok(())
+    }
+
+    /// Syncs what was put, and says so where that took long.
+    ///
+    /// # Errors
+    ///
+    /// It can't be synced.
+    fn sync<R: Clock, E: Write>(
+        &mut self,
+        rt: &R,
+        began: Instant,
+        err: &mut E,
+    ) -> std::result::Result<(), Stop> {
+        if let Err(why) = self.connections.sync() {
+            return Err(Stop::Keeping(why));
+        }
+        if let Some(name) = self.connections.journal() {
+            self.reports.synced(name, began, time(rt, began), err);
+        }
+        Ok(())
     }
 
     /// Keeps what was done in this round, and then sends what is owed for it.
     ///
     /// # Errors
     ///
-    /// It can't be kept. Nothing is sent.
+    /// It can't be kept. Nothing more is sent.
     fn release<R: Clock, E: Write>(
         &mut self,
         rt: &R,
         err: &mut E,
     ) -> std::result::Result<(), Stop> {
-        match self.connections.settle(self.now) {
-            Ok(()) => {}
+        let clock = self.clock();
+        match self.connections.put(clock) {
+            Ok(missed) => self.note_missed(missed, err),
             Err(why) => return Err(Stop::Keeping(why)),
+        }
+        if self.connections.is_to_sync() {
+            self.sync_if_due(rt, err)?;
         }
         for _ in 0..self.connections.outgoing_count() {
             let ended = self.connections.send_next();
-            self.note_moved(rt);
+            self.look_at_clock(rt, err)?;
             self.note_end(ended, err);
         }
         Ok(())
     }
 
-    /// Makes the next step of a snapshot, and says if none was taken.
+    /// Syncs what was put, where that is due by the clock as it is now.
+    ///
+    /// # Errors
+    ///
+    /// It can't be synced.
+    fn sync_if_due<R: Clock, E: Write>(
+        &mut self,
+        rt: &R,
+        err: &mut E,
+    ) -> std::result::Result<(), Stop> {
+        let now = time(rt, self.now);
+        if self.connections.is_sync_due(now) {
+            return self.sync(rt, now, err);
+        }
+        Ok(())
+    }
+
+    /// Makes the next step of a snapshot, and says if one was taken, or none. What was put is synced before, where it is to be: a step
+    /// may be long.
     ///
     /// # Errors
     ///
     /// What was done can no longer be kept.
-    fn tend<E: Write>(&mut self, err: &mut E) -> std::result::Result<(), Stop> {
-        let clock = self.clock();
-        let missed = match self.connections.tend(clock) {
-            Ok(missed) => missed,
+    fn tend<R: Clock, E: Write>(&mut self, rt: &R, err: &mut E) -> std::result::Result<(), Stop> {
+        let mut began = self.now;
+        if self.is_step_due() {
+            began = time(rt, self.now);
+            if self.connections.is_to_sync() {
+                self.sync(rt, began, err)?;
+            }
+        }
+        let clock = millis_between(self.began, began);
+        let done = match self.connections.tend(clock) {
+            Ok(done) => done,
             Err(why) => return Err(Stop::Keeping(why)),
         };
-        self.note_missed(missed, err);
+        self.note_missed(done.missed, err);
+        if let Some(taken) = done.taken {
+            self.note_taken(&taken, millis_between(began, time(rt, began)), err);
+        }
         Ok(())
+    }
+
+    /// Whether a step of a snapshot is to be made now.
+    fn is_step_due(&self) -> bool {
+        let clock = self.clock();
+        if self.connections.is_tending(clock) {
+            return true;
+        }
+        match self.connections.tend_at() {
+            Some(at) => at <= clock,
+            None => false,
+        }
     }
 
     /// Says why no snapshot was taken, if none was.
@@ -296,6 +395,12 @@ impl<B: ServedSessions> Rounds<B> {
         if let Some(missed) = missed {
             self.reports.snapshot_missed(&missed, err);
         }
+    }
+
+    /// Says that a snapshot was taken, whose last step took so many milliseconds.
+    fn note_taken<E: Write>(&mut self, taken: &Taken, last_step: u64, err: &mut E) {
+        let millis = taken.millis.saturating_add(last_step);
+        self.reports.snapshot_taken(taken, millis, err);
     }
 
     /// Ends connections while too much is kept for all: of the address for whose connections most is, the largest first.

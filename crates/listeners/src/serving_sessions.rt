@@ -5,8 +5,8 @@ use crate::options::SyncWay;
 use crate::reports::is_over;
 use kept_starts::sessions::{Plainly, Seat, Session, Sessions, Visit};
 use kept_starts::{
-    CommitError, Directory, JournalError, Keeper, Missed, Name, Place, Rotation, RotationFault,
-    Sent, Started,
+    CommitError, Directory, Done, JournalError, Keeper, Missed, Name, Place, Put, Rotation,
+    RotationFault, Sent, Started,
 };
 use segment::BatchStore;
 use std::alloc::{AllocError, Global};
@@ -61,20 +61,44 @@ pub(crate) trait ServedSessions {
 
     fn next_due(&self) -> Option<u128>;
 
-    /// Whether so much was done since it was settled that no more is to be.
+    /// Whether so much was done since it was put where it is kept that no more is to be.
     fn is_full(&self) -> bool;
 
-    /// Keeps what was done, so that what is owed for it may leave.
-    fn settle(&mut self, now: Instant) -> Result<(), Unkept>;
+    /// Puts what was done where it is kept, and gives what wasn't done beside for that. What is owed may leave once it is synced,
+    /// where that is due.
+    fn put(&mut self, clock: u64) -> Result<Option<Missed>, Unkept>;
 
-    /// When it is to be settled, though nothing is done.
-    fn settle_at(&self) -> Option<Instant>;
+    /// Whether something that was put isn't synced, and will be.
+    fn is_to_sync(&self) -> bool;
 
-    /// Makes the next step of what is to be done beside, if there is one, and gives what wasn't done of it.
-    fn tend(&mut self, clock: u64) -> Result<Option<Missed>, Unkept>;
+    /// Whether that is to be synced now, before what is owed leaves. Where it isn't, it will be by `sync_at`.
+    fn is_sync_due(&mut self, now: Instant) -> bool;
+
+    /// When it is to be synced, though nothing is done.
+    fn sync_at(&self) -> Option<Instant>;
+
+    /// Syncs all that was put.
+    fn sync(&mut self) -> Result<(), Unkept>;
+
+    /// The file that is synced, if there is one.
+    fn journal(&self) -> Option<Name>;
+
+    /// Makes the next step of what is to be done beside, if there is one, and gives what was done and wasn't.
+    fn tend(&mut self, clock: u64) -> Result<Done, Unkept>;
 
     /// Whether another step is to follow at once.
-    fn is_tending(&self) -> bool;
+    fn is_tending(&self, clock: u64) -> bool;
+
+    /// When the next step is to be made by the clock, though nothing is done.
+    fn tend_at(&self) -> Option<u64>;
+}
+
+/// No step was made.
+fn nothing_done() -> Done {
+    Done {
+        missed: None,
+        taken: None,
+    }
 }
 
 impl<S: BatchStore> ServedSessions for Sessions<S, Global> {
@@ -132,20 +156,40 @@ impl<S: BatchStore> ServedSessions for Sessions<S, Global> {
         false
     }
 
-    fn settle(&mut self, _now: Instant) -> Result<(), Unkept> {
-        Ok(())
-    }
-
-    fn settle_at(&self) -> Option<Instant> {
-        None
-    }
-
-    fn tend(&mut self, _clock: u64) -> Result<Option<Missed>, Unkept> {
+    fn put(&mut self, _clock: u64) -> Result<Option<Missed>, Unkept> {
         Ok(None)
     }
 
-    fn is_tending(&self) -> bool {
+    fn is_to_sync(&self) -> bool {
         false
+    }
+
+    fn is_sync_due(&mut self, _now: Instant) -> bool {
+        false
+    }
+
+    fn sync_at(&self) -> Option<Instant> {
+        None
+    }
+
+    fn sync(&mut self) -> Result<(), Unkept> {
+        Ok(())
+    }
+
+    fn journal(&self) -> Option<Name> {
+        None
+    }
+
+    fn tend(&mut self, _clock: u64) -> Result<Done, Unkept> {
+        Ok(nothing_done())
+    }
+
+    fn is_tending(&self, _clock: u64) -> bool {
+        false
+    }
+
+    fn tend_at(&self) -> Option<u64> {
+        None
     }
 }
 
@@ -190,39 +234,23 @@ impl<S: BatchStore + Drop, D: Directory + Drop> Kept<S, D> {
     }
 
     /// The name of the journal to which groups go.
-    fn journal(&self) -> Name {
+    fn last_journal(&self) -> Name {
         Name::Journal(self.rotation.files().last)
     }
 
-    /// Appends what was noted, and syncs where it is time to, or much isn't synced.
-    fn append_and_sync(&mut self, now: Instant, patience: u32) -> Result<(), Unkept> {
-        why_unkept(self.journal(), self.keeper.append())?;
-        let unsynced = self.keeper.unsynced();
-        if unsynced == 0 {
-            // A snapshot that began behind the last group has synced it.
-            self.sync_at = None;
-            return Ok(());
-        }
+    /// Whether what was put is to be synced: so many milliseconds after it was put, or where much isn't synced.
+    fn is_over_for(&mut self, now: Instant, patience: u32) -> bool {
         if self.sync_at.is_none() {
             self.sync_at = now.checked_add(Duration::from_millis(u64::from(patience)));
         }
-        if unsynced < MOST_UNSYNCED && !is_over(self.sync_at, now) {
-            return Ok(());
-        }
-        self.sync_at = None;
-        match self.keeper.sync() {
-            Ok(()) => Ok(()),
-            Err(why) => Err(Unkept::Journal(self.journal(), why)),
-        }
+        self.keeper.unsynced() >= MOST_UNSYNCED || is_over(self.sync_at, now)
     }
-}
 
-/// Why frames aren't kept that were to be committed to a journal.
-fn why_unkept(journal: Name, committed: Result<(), CommitError>) -> Result<(), Unkept> {
-    match committed {
-        Ok(()) => Ok(()),
-        Err(CommitError::OutOfMemory) => Err(Unkept::OutOfMemory),
-        Err(CommitError::Journal(why)) => Err(Unkept::Journal(journal, why)),
+    /// Forgets when the journal is to be synced, where it is: a snapshot that begins syncs it.
+    fn forget_synced(&mut self) {
+        if self.keeper.unsynced() == 0 {
+            self.sync_at = None;
+        }
     }
 }
 
@@ -286,33 +314,69 @@ impl<S: BatchStore + Drop, D: Directory + Drop> ServedSessions for Kept<S, D> {
         self.keeper.noted() >= FULL_GROUP
     }
 
-    fn settle(&mut self, now: Instant) -> Result<(), Unkept> {
-        match self.sync {
-            SyncWay::Always => why_unkept(self.journal(), self.keeper.commit()),
-            SyncWay::Every(patience) => self.append_and_sync(now, patience),
-            SyncWay::Never => why_unkept(self.journal(), self.keeper.append()),
+    fn put(&mut self, clock: u64) -> Result<Option<Missed>, Unkept> {
+        let journal = self.last_journal();
+        let put = self
+            .rotation
+            .put_group(&mut self.keeper, &mut self.directory, clock, Put::Append);
+        match put {
+            Ok(missed) => Ok(missed),
+            Err(CommitError::OutOfMemory) => Err(Unkept::OutOfMemory),
+            Err(CommitError::Journal(why)) => Err(Unkept::Journal(journal, why)),
         }
     }
 
-    fn settle_at(&self) -> Option<Instant> {
+    fn is_to_sync(&self) -> bool {
+        match self.sync {
+            SyncWay::Never => false,
+            SyncWay::Always | SyncWay::Every(_) => self.keeper.unsynced() > 0,
+        }
+    }
+
+    fn is_sync_due(&mut self, now: Instant) -> bool {
+        match self.sync {
+            SyncWay::Always => true,
+            SyncWay::Every(patience) => self.is_over_for(now, patience),
+            SyncWay::Never => false,
+        }
+    }
+
+    fn sync_at(&self) -> Option<Instant> {
         self.sync_at
     }
 
-    fn tend(&mut self, clock: u64) -> Result<Option<Missed>, Unkept> {
-        let journal = self.journal();
+    fn sync(&mut self) -> Result<(), Unkept> {
+        self.sync_at = None;
+        match self.keeper.sync() {
+            Ok(()) => Ok(()),
+            Err(why) => Err(Unkept::Journal(self.last_journal(), why)),
+        }
+    }
+
+    fn journal(&self) -> Option<Name> {
+        Some(self.last_journal())
+    }
+
+    fn tend(&mut self, clock: u64) -> Result<Done, Unkept> {
+        let journal = self.last_journal();
         let wanted = self.wanted.take();
         let step = self
             .rotation
             .step(&mut self.keeper, &mut self.directory, wanted, clock);
         self.woken = self.put_off.len();
+        self.forget_synced();
         match step {
-            Ok(missed) => Ok(missed),
+            Ok(done) => Ok(done),
             Err(RotationFault::Journal(why)) => Err(Unkept::Journal(journal, why)),
             Err(RotationFault::Directory(name, why)) => Err(Unkept::Directory(name, why)),
         }
     }
 
-    fn is_tending(&self) -> bool {
-        self.rotation.is_going()
+    fn is_tending(&self, clock: u64) -> bool {
+        self.rotation.is_going(clock)
+    }
+
+    fn tend_at(&self) -> Option<u64> {
+        self.rotation.due_at(self.keeper.journal_end())
     }
 }

@@ -237,7 +237,8 @@ fn start_kept<
 ///
 /// At a port that is given it listens once it can answer, so behind a recovery; where the system chooses the port, from the
 /// start. On `out` comes the line `listening ADDRESS:PORT` once it listens and can answer. On `err` come lines on
-/// connections that ended, at most 100 in a second, and on others that can't be accepted. Neither ends
+/// connections that ended, at most 100 in a second, on others that can't be accepted, and on snapshots that were taken or not; a line
+/// each five seconds on how far a recovery is; and at most one in ten seconds on a sync that took over a second. Neither ends
 /// the broker by failing, and neither should be one that waits: [`PromptStream`](crate::PromptStream).
 pub fn start<
     R: Net + Clock + Files<File = File> + RandomSource + Alloc + Clone + Drop,
