@@ -10,7 +10,8 @@ use std::process::ExitCode;
 use std::{env, io};
 use streams::{Sink, Source};
 use tcp_edge::{
-    CommandLine, Connection, FAILED, FAULTY, NO_MEMORY, PromptStream, Replies, Requests, run_start,
+    CommandLine, Connection, FAILED, FAULTY, NO_MEMORY, PromptStream, Replies, Requests, run_check,
+    run_start,
 };
 
 /// The arguments of the command line, the program's name first.
@@ -79,6 +80,23 @@ fn start(rt: &HostRuntime, line: CommandLine<'_, String>) -> u8
     }
 }
 
+/// Looks at a data directory, as the command line asks.
+fn check(rt: &HostRuntime, line: CommandLine<'_, String>) -> u8
+    ensures { result ≤ 4 }
+{
+    match line.checked_directory() {
+        Ok(Some(directory)) => run_check(
+            rt,
+            rt.alloc(),
+            &directory,
+            &mut rt.stdout(),
+            &mut rt.stderr(),
+        ),
+        Ok(None) => FAULTY,
+        Err(_) => no_memory(rt),
+    }
+}
+
 /// Does on the standard streams what the command line asks for, and answers the status. What is printed
 /// leaves in large pieces, and before the next read.
 fn run_on_streams(rt: &HostRuntime, line: CommandLine<'_, String>) -> u8
@@ -102,6 +120,9 @@ fn run(rt: &HostRuntime, arguments: &[String]) -> u8
     let line = CommandLine::parse(rt.alloc(), arguments);
     if line.is_start() {
         return start(rt, line);
+    }
+    if line.is_check() {
+        return check(rt, line);
     }
     match line.serve_port() {
         Ok(Some(port)) => listen(rt, port, line),

@@ -1,6 +1,6 @@
 -- Lemmas on the program's arguments.
 use Rattle.std.proofs.Common.{◌≡◌, ◌≢◌, ◌≤◌, arith, Bool, true, List, [], ◌∷◌, map, ap, refl, sym, subst, inl, inr, false, bytes_eq, ◌∙◌, codes, Option, Some, None}
-use Rattle.std.specs.Prelude.{ℕ, ℤ, pos, ◌⊎◌, option_map, unwrap_or, MatchOption, Result, Ok, Err}
+use Rattle.std.specs.Prelude.{ℕ, ℤ, pos, ◌⊎◌, option_map, unwrap_or, MatchOption, Result, Ok, Err, String}
 use Rattle.std.specs.Int.{w64}
 use Rattle.std.specs.Str.Parse.{ParsesUnsigned, ParsesSigned}
 use Rattle.std.specs.Borrow.{Bor}
@@ -14,16 +14,17 @@ use Rattle.broker_state.specs.State.{ConfigValue}
 use Rattle.tcp_edge.specs.declared.asked.ArgumentsFault.{ArgumentsFault}
 use Rattle.tcp_edge.specs.declared.asked.ArgumentsFault.TheVariants.{Clap, Address, Kept, Topic}
 use Rattle.tcp_edge.specs.declared.asked.Asked.{Asked}
-use Rattle.tcp_edge.specs.declared.asked.Asked.TheVariants.{Table, Session, Serve, Start, Replay, Merge}
+use Rattle.tcp_edge.specs.declared.asked.Asked.TheVariants.{Table, Session, Serve, Start, Check, Replay, Merge}
 use Rattle.tcp_edge.specs.declared.addresses.AddressFault.{AddressFault}
 use Rattle.tcp_edge.specs.declared.addresses.AddressFault.TheVariants.{Listen, Advertise, Unspecified}
 use Rattle.tcp_edge.specs.declared.keeping.KeptFault.{KeptFault}
 use Rattle.tcp_edge.specs.declared.keeping.KeptFault.TheVariants.{Alone, Fold, Sync}
 use Rattle.tcp_edge.specs.Addresses.{IsAddressOf, IsUnfit}
-use Rattle.tcp_edge.specs.Asked.{IsAsked, IsAddressFault, IsConfigFault, IsFaulty, IsKeptFault, IsHelp, IsMistake, IsOutOfMemory, IsParsed, IsListener, IsServeOptionsOf, IsServePortOf, IsStarter, IsStartFault, IsStartOptionsOf, IsStartSaid, IsStop, IfListens, IfMerge, IfNamed, IfReplay, IfSession, IfTable, IsBadValue, AsksForOther, AsksForOtherThan}
+use Rattle.tcp_edge.specs.Asked.{IsAsked, IsAddressFault, IsCheckSaid, IsConfigFault, IsDirectory, IsDirectoryOf, IsFaulty, IsKeptFault, IsHelp, IsMistake, IsOutOfMemory, IsParsed, IsListener, IsServeOptionsOf, IsServePortOf, IsStarter, IsStartFault, IsStartOptionsOf, IsStartSaid, IsStop, IfLeft, IfMerge, IfNamed, IfReplay, IfSession, IfTable, IsBadValue, AsksForOther, AsksForOtherThan}
 use Rattle.listeners.specs.declared.options.ServeOptions.{ServeOptions}
 use Rattle.listeners.specs.declared.options.StartOptions.{StartOptions}
 use Rattle.std.specs.declared.net.socket_addr.SocketAddr.{SocketAddr}
+use Rattle.std.specs.declared.alloc.Global.{Global}
 use Rattle.std.specs.Net.Grammar.{IsSocketText, Parses}
 use Rattle.clap.specs.declared.parser.matches.Found.{Found}
 use Rattle.clap.specs.declared.parser.matches.ArgMatches.{ArgMatches}
@@ -120,6 +121,7 @@ if_subcommand_named Table P Q is leads = tt
 if_subcommand_named (Session g) P Q is leads = leads (codes "session") is
 if_subcommand_named (Serve options) P Q is leads = tt
 if_subcommand_named (Start options) P Q is leads = tt
+if_subcommand_named (Check directory) P Q is leads = tt
 if_subcommand_named Replay P Q is leads = leads (codes "replay") is
 if_subcommand_named Merge P Q is leads = leads (codes "merge") is
 
@@ -254,6 +256,7 @@ session_fault name rows (Topic why) is h = (
   λ table. let bad : true ≡ false = ap (bytes_eq (codes "session")) (sym is ∙ table) in cc,
   λ merge. let bad : true ≡ false = ap (bytes_eq (codes "session")) (sym is ∙ merge) in cc,
   λ replay. let bad : true ≡ false = ap (bytes_eq (codes "session")) (sym is ∙ replay) in cc,
+  λ check. let bad : true ≡ false = ap (bytes_eq (codes "session")) (sym is ∙ check) in cc,
   h,
 )
 
@@ -266,6 +269,7 @@ serve_fault name rows (Topic why) is h = (
   λ table. let bad : true ≡ false = ap (bytes_eq (codes "serve")) (sym is ∙ table) in cc,
   λ merge. let bad : true ≡ false = ap (bytes_eq (codes "serve")) (sym is ∙ merge) in cc,
   λ replay. let bad : true ≡ false = ap (bytes_eq (codes "serve")) (sym is ∙ replay) in cc,
+  λ check. let bad : true ≡ false = ap (bytes_eq (codes "serve")) (sym is ∙ check) in cc,
   h,
 )
 
@@ -278,8 +282,15 @@ start_fault name rows (Topic why) is h = (
   λ table. let bad : true ≡ false = ap (bytes_eq (codes "start")) (sym is ∙ table) in cc,
   λ merge. let bad : true ≡ false = ap (bytes_eq (codes "start")) (sym is ∙ merge) in cc,
   λ replay. let bad : true ≡ false = ap (bytes_eq (codes "start")) (sym is ∙ replay) in cc,
+  λ check. let bad : true ≡ false = ap (bytes_eq (codes "start")) (sym is ∙ check) in cc,
   h.1,
 )
+
+pub check_fault : (name : Text) (rows : List Row) (fault : ArgumentsFault) → name ≡ codes "check" → IsOutOfMemory fault → IsFaulty name rows fault
+check_fault name rows (Clap error) is h = h
+check_fault name rows (Address why) is h = absurd h
+check_fault name rows (Kept why) is h = absurd h
+check_fault name rows (Topic why) is h = absurd h
 
 -- ---- what a parse gives, where the table is asked for
 
@@ -291,6 +302,8 @@ if_table arguments (Session g) P asks is fact =
 if_table arguments (Serve options) P asks is fact =
     let bad : true ≡ false = ap (bytes_eq (codes "table")) (is (codes "table") [] (finds_table arguments asks)).0 in cc
 if_table arguments (Start options) P asks is fact =
+    let bad : true ≡ false = ap (bytes_eq (codes "table")) (is (codes "table") [] (finds_table arguments asks)).0 in cc
+if_table arguments (Check directory) P asks is fact =
     let bad : true ≡ false = ap (bytes_eq (codes "table")) (is (codes "table") [] (finds_table arguments asks)).0 in cc
 if_table arguments Replay P asks is fact =
     let bad : true ≡ false = ap (bytes_eq (codes "table")) (is (codes "table") [] (finds_table arguments asks)) in cc
@@ -318,6 +331,8 @@ if_merge arguments (Serve options) P asks is fact =
     let bad : true ≡ false = ap (bytes_eq (codes "merge")) (is (codes "merge") [] (finds_merge arguments asks)).0 in cc
 if_merge arguments (Start options) P asks is fact =
     let bad : true ≡ false = ap (bytes_eq (codes "merge")) (is (codes "merge") [] (finds_merge arguments asks)).0 in cc
+if_merge arguments (Check directory) P asks is fact =
+    let bad : true ≡ false = ap (bytes_eq (codes "merge")) (is (codes "merge") [] (finds_merge arguments asks)).0 in cc
 if_merge arguments Replay P asks is fact =
     let bad : true ≡ false = ap (bytes_eq (codes "merge")) (is (codes "merge") [] (finds_merge arguments asks)) in cc
 
@@ -338,6 +353,7 @@ if_session rows Table P is fact = absurd (is.0 refl)
 if_session rows (Session g) P is fact = (config_value g, is.1, fact)
 if_session rows (Serve options) P is fact = let bad : true ≡ false = ap (bytes_eq (codes "session")) is.0 in cc
 if_session rows (Start options) P is fact = let bad : true ≡ false = ap (bytes_eq (codes "session")) is.0 in cc
+if_session rows (Check directory) P is fact = let bad : true ≡ false = ap (bytes_eq (codes "session")) is.0 in cc
 if_session rows Replay P is fact = let bad : true ≡ false = ap (bytes_eq (codes "session")) is in cc
 if_session rows Merge P is fact = let bad : true ≡ false = ap (bytes_eq (codes "session")) is in cc
 
@@ -346,33 +362,46 @@ if_replay rows Table P is fact = absurd (is.3 refl)
 if_replay rows (Session g) P is fact = let bad : true ≡ false = ap (bytes_eq (codes "replay")) is.0 in cc
 if_replay rows (Serve options) P is fact = let bad : true ≡ false = ap (bytes_eq (codes "replay")) is.0 in cc
 if_replay rows (Start options) P is fact = let bad : true ≡ false = ap (bytes_eq (codes "replay")) is.0 in cc
+if_replay rows (Check directory) P is fact = let bad : true ≡ false = ap (bytes_eq (codes "replay")) is.0 in cc
 if_replay rows Replay P is fact = fact
 if_replay rows Merge P is fact = let bad : true ≡ false = ap (bytes_eq (codes "replay")) is in cc
 
-pub if_serve : (rows : List Row) (asked : Asked) (P : Type 0) → IsAsked (codes "serve") rows asked → IfListens asked P → P
+pub if_serve : (rows : List Row) (asked : Asked) (P : Type 0) → IsAsked (codes "serve") rows asked → IfLeft asked P → P
 if_serve rows Table P is fact = absurd (is.1 refl)
 if_serve rows (Session g) P is fact = let bad : true ≡ false = ap (bytes_eq (codes "serve")) is.0 in cc
 if_serve rows (Serve options) P is fact = fact
 if_serve rows (Start options) P is fact = let bad : true ≡ false = ap (bytes_eq (codes "serve")) is.0 in cc
+if_serve rows (Check directory) P is fact = let bad : true ≡ false = ap (bytes_eq (codes "serve")) is.0 in cc
 if_serve rows Replay P is fact = let bad : true ≡ false = ap (bytes_eq (codes "serve")) is in cc
 if_serve rows Merge P is fact = let bad : true ≡ false = ap (bytes_eq (codes "serve")) is in cc
 
-pub if_start : (rows : List Row) (asked : Asked) (P : Type 0) → IsAsked (codes "start") rows asked → IfListens asked P → P
+pub if_start : (rows : List Row) (asked : Asked) (P : Type 0) → IsAsked (codes "start") rows asked → IfLeft asked P → P
 if_start rows Table P is fact = absurd (is.2 refl)
 if_start rows (Session g) P is fact = let bad : true ≡ false = ap (bytes_eq (codes "start")) is.0 in cc
 if_start rows (Start options) P is fact = fact
 if_start rows (Serve options) P is fact = let bad : true ≡ false = ap (bytes_eq (codes "start")) is.0 in cc
+if_start rows (Check directory) P is fact = let bad : true ≡ false = ap (bytes_eq (codes "start")) is.0 in cc
 if_start rows Replay P is fact = let bad : true ≡ false = ap (bytes_eq (codes "start")) is in cc
 if_start rows Merge P is fact = let bad : true ≡ false = ap (bytes_eq (codes "start")) is in cc
 
+pub if_check : (rows : List Row) (asked : Asked) (P : Type 0) → IsAsked (codes "check") rows asked → IfLeft asked P → P
+if_check rows Table P is fact = absurd (is.5 refl)
+if_check rows (Session g) P is fact = let bad : true ≡ false = ap (bytes_eq (codes "check")) is.0 in cc
+if_check rows (Serve options) P is fact = let bad : true ≡ false = ap (bytes_eq (codes "check")) is.0 in cc
+if_check rows (Start options) P is fact = let bad : true ≡ false = ap (bytes_eq (codes "check")) is.0 in cc
+if_check rows (Check directory) P is fact = fact
+if_check rows Replay P is fact = let bad : true ≡ false = ap (bytes_eq (codes "check")) is in cc
+if_check rows Merge P is fact = let bad : true ≡ false = ap (bytes_eq (codes "check")) is in cc
+
 -- what was done, by what was asked for
 pub done_by : (arguments : List Text) (asked : Asked) (status : ℕ) (Help T M A B : Type 0) → IfTable asked A → (A → status ≡ 0 → T)
-    → IfMerge asked B → (B → status ≡ 0 → M) → IfListens asked (status ≡ 2) → IfNamed asked (λ name. Names arguments name) → status ≡ 0
+    → IfMerge asked B → (B → status ≡ 0 → M) → IfLeft asked (status ≡ 2) → IfNamed asked (λ name. Names arguments name) → status ≡ 0
     → Help ⊎ T ⊎ M ⊎ NamesSession arguments ⊎ NamesReplay arguments
 done_by arguments Table status Help T M A B table prints merge prints_merge serve named done = inr (inl (prints table done))
 done_by arguments (Session g) status Help T M A B table prints merge prints_merge serve named done = inr (inr (inr (inl named)))
 done_by arguments (Serve options) status Help T M A B table prints merge prints_merge serve named done = absurd (omega (arith, serve, done))
 done_by arguments (Start options) status Help T M A B table prints merge prints_merge serve named done = absurd (omega (arith, serve, done))
+done_by arguments (Check directory) status Help T M A B table prints merge prints_merge serve named done = absurd (omega (arith, serve, done))
 done_by arguments Replay status Help T M A B table prints merge prints_merge serve named done = inr (inr (inr (inr named)))
 done_by arguments Merge status Help T M A B table prints merge prints_merge serve named done = inr (inr (inl (prints_merge merge done)))
 
@@ -382,7 +411,7 @@ pub topic_or_memory : (name : Text) (rows : List Row) (fault : ArgumentsFault) �
 topic_or_memory name rows (Clap error) other is = inl is
 topic_or_memory name rows (Address why) other is = absurd (other is.0)
 topic_or_memory name rows (Kept why) other is = absurd (other is.0)
-topic_or_memory name rows (Topic why) other is = inr (tt, is.3)
+topic_or_memory name rows (Topic why) other is = inr (tt, is.4)
 
 pub session_is_no_start : codes "session" ≢ codes "start"
 session_is_no_start is = let bad : true ≡ false = ap (bytes_eq (codes "session")) is in cc
@@ -406,7 +435,7 @@ pub unfit_or_memory : (name : Text) (rows : List Row) (fault : ArgumentsFault) �
 unfit_or_memory name rows (Clap error) is = inl is
 unfit_or_memory name rows (Address why) is = inr (tt, unfit_address rows why is.1)
 unfit_or_memory name rows (Kept why) is = inr (tt, unfit_kept rows why is.1)
-unfit_or_memory name rows (Topic why) is = inr (tt, inr (inr (inr (inr (inr is.3)))))
+unfit_or_memory name rows (Topic why) is = inr (tt, inr (inr (inr (inr (inr is.4)))))
 
 -- so the status is 3, or it says that a word is none
 pub refused_left : (fault : ArgumentsFault) (status : ℕ) (P H : Type 0) → IsOutOfMemory fault ⊎ (IsBadValue fault × H)
@@ -427,6 +456,12 @@ replay_fault rows (Address why) is = let bad : true ≡ false = ap (bytes_eq (co
 replay_fault rows (Kept why) is = let bad : true ≡ false = ap (bytes_eq (codes "replay")) is.0 in cc
 replay_fault rows (Topic why) is = absurd (is.2 refl)
 
+pub check_memory : (rows : List Row) (fault : ArgumentsFault) → IsFaulty (codes "check") rows fault → IsOutOfMemory fault
+check_memory rows (Clap error) is = is
+check_memory rows (Address why) is = let bad : true ≡ false = ap (bytes_eq (codes "check")) is.0 in cc
+check_memory rows (Kept why) is = let bad : true ≡ false = ap (bytes_eq (codes "check")) is.0 in cc
+check_memory rows (Topic why) is = absurd (is.3 refl)
+
 -- ---- and where something else than a broker that listens is
 
 pub no_options : (arguments : List Text) (asked : Asked) (options : Option ServeOptions) → AsksForOther arguments
@@ -437,6 +472,7 @@ no_options arguments (Session g) options asks is stops of = of
 no_options arguments (Serve p) options (inl asks) is stops of = absurd (asks.3 (is asks.0 asks.1 asks.2).0)
 no_options arguments (Serve p) options (inr stopped) is stops of = absurd (stops stopped.0 stopped.1)
 no_options arguments (Start p) options asks is stops of = of
+no_options arguments (Check d) options asks is stops of = of
 no_options arguments Replay options asks is stops of = of
 no_options arguments Merge options asks is stops of = of
 
@@ -448,6 +484,7 @@ no_start arguments (Session g) options asks is stops of = of
 no_start arguments (Serve p) options asks is stops of = of
 no_start arguments (Start p) options (inl asks) is stops of = absurd (asks.3 (is asks.0 asks.1 asks.2).0)
 no_start arguments (Start p) options (inr stopped) is stops of = absurd (stops stopped.0 stopped.1)
+no_start arguments (Check d) options asks is stops of = of
 no_start arguments Replay options asks is stops of = of
 no_start arguments Merge options asks is stops of = of
 
@@ -471,6 +508,7 @@ not_said arguments (Session g) said asks is stops of = of
 not_said arguments (Serve p) said asks is stops of = of
 not_said arguments (Start p) said (inl asks) is stops of = absurd (asks.3 (is asks.0 asks.1 asks.2).0)
 not_said arguments (Start p) said (inr stopped) is stops of = absurd (stops stopped.0 stopped.1)
+not_said arguments (Check d) said asks is stops of = of
 not_said arguments Replay said asks is stops of = of
 not_said arguments Merge said asks is stops of = of
 
@@ -485,6 +523,8 @@ options_found arguments rows (Session g) options finds is of =
 options_found arguments rows (Serve asked) options finds is of =
     subst (λ (p : Option ServeOptions). MatchOption p (¬ HasTopics (topic_words rows)) (IsListener rows)) (sym of) (is (codes "serve") rows finds).1
 options_found arguments rows (Start asked) options finds is of =
+    let bad : true ≡ false = ap (bytes_eq (codes "serve")) (is (codes "serve") rows finds).0 in cc
+options_found arguments rows (Check asked) options finds is of =
     let bad : true ≡ false = ap (bytes_eq (codes "serve")) (is (codes "serve") rows finds).0 in cc
 options_found arguments rows Replay options finds is of =
     let bad : true ≡ false = ap (bytes_eq (codes "serve")) (is (codes "serve") rows finds) in cc
@@ -501,6 +541,8 @@ start_found arguments rows (Serve asked) options finds is of =
     let bad : true ≡ false = ap (bytes_eq (codes "start")) (is (codes "start") rows finds).0 in cc
 start_found arguments rows (Start asked) options finds is of =
     subst (λ (p : Option StartOptions). MatchOption p (IsUnfit rows) (IsStarter rows)) (sym of) (is (codes "start") rows finds).1
+start_found arguments rows (Check asked) options finds is of =
+    let bad : true ≡ false = ap (bytes_eq (codes "start")) (is (codes "start") rows finds).0 in cc
 start_found arguments rows Replay options finds is of =
     let bad : true ≡ false = ap (bytes_eq (codes "start")) (is (codes "start") rows finds) in cc
 start_found arguments rows Merge options finds is of =
@@ -537,6 +579,8 @@ port_found arguments rows (Serve asked) port finds is of =
     (subst (IsPort rows) (sym listens.config.port_is) listens.is_port, (_, listens.config.topics))
 port_found arguments rows (Start asked) port finds is of =
     let bad : true ≡ false = ap (bytes_eq (codes "serve")) (is (codes "serve") rows finds).0 in cc
+port_found arguments rows (Check asked) port finds is of =
+    let bad : true ≡ false = ap (bytes_eq (codes "serve")) (is (codes "serve") rows finds).0 in cc
 port_found arguments rows Replay port finds is of =
     let bad : true ≡ false = ap (bytes_eq (codes "serve")) (is (codes "serve") rows finds) in cc
 port_found arguments rows Merge port finds is of =
@@ -550,5 +594,54 @@ no_port_asked arguments (Session g) port asks is stops of = of
 no_port_asked arguments (Serve p) port (inl asks) is stops of = absurd (asks.3 (is asks.0 asks.1 asks.2).0)
 no_port_asked arguments (Serve p) port (inr stopped) is stops of = absurd (stops stopped.0 stopped.1)
 no_port_asked arguments (Start p) port asks is stops of = of
+no_port_asked arguments (Check d) port asks is stops of = of
 no_port_asked arguments Replay port asks is stops of = of
 no_port_asked arguments Merge port asks is stops of = of
+
+-- ---- a look at a directory
+
+pub no_directory : (arguments : List Text) (asked : Asked) (directory : Option (String Global)) → AsksForOtherThan (codes "check") arguments
+    → ((name : Text) (rows : List Row) → Finds arguments name rows → IsAsked name rows asked)
+    → ((kinds : Kinds) → Stops arguments kinds → ⊥) → IsDirectoryOf asked directory → directory ≡ None
+no_directory arguments Table directory asks is stops of = of
+no_directory arguments (Session g) directory asks is stops of = of
+no_directory arguments (Serve p) directory asks is stops of = of
+no_directory arguments (Start p) directory asks is stops of = of
+no_directory arguments (Check d) directory (inl asks) is stops of = absurd (asks.3 (is asks.0 asks.1 asks.2).0)
+no_directory arguments (Check d) directory (inr stopped) is stops of = absurd (stops stopped.0 stopped.1)
+no_directory arguments Replay directory asks is stops of = of
+no_directory arguments Merge directory asks is stops of = of
+
+pub no_check_said : (arguments : List Text) (asked : Asked) (said : Bool) → AsksForOtherThan (codes "check") arguments
+    → ((name : Text) (rows : List Row) → Finds arguments name rows → IsAsked name rows asked)
+    → ((kinds : Kinds) → Stops arguments kinds → ⊥) → IsCheckSaid asked said → said ≡ false
+no_check_said arguments Table said asks is stops of = of
+no_check_said arguments (Session g) said asks is stops of = of
+no_check_said arguments (Serve p) said asks is stops of = of
+no_check_said arguments (Start p) said asks is stops of = of
+no_check_said arguments (Check d) said (inl asks) is stops of = absurd (asks.3 (is asks.0 asks.1 asks.2).0)
+no_check_said arguments (Check d) said (inr stopped) is stops of = absurd (stops stopped.0 stopped.1)
+no_check_said arguments Replay said asks is stops of = of
+no_check_said arguments Merge said asks is stops of = of
+
+pub directory_found : (arguments : List Text) (rows : List Row) (asked : Asked) (directory : Option (String Global)) → Finds arguments (codes "check") rows
+    → ((name : Text) (rows : List Row) → Finds arguments name rows → IsAsked name rows asked) → IsDirectoryOf asked directory
+    → MatchOption directory ⊥ (IsDirectory rows)
+directory_found arguments rows Table directory finds is of = absurd ((is (codes "check") rows finds).5 refl)
+directory_found arguments rows (Session g) directory finds is of =
+    let bad : true ≡ false = ap (bytes_eq (codes "check")) (is (codes "check") rows finds).0 in cc
+directory_found arguments rows (Serve asked) directory finds is of =
+    let bad : true ≡ false = ap (bytes_eq (codes "check")) (is (codes "check") rows finds).0 in cc
+directory_found arguments rows (Start asked) directory finds is of =
+    let bad : true ≡ false = ap (bytes_eq (codes "check")) (is (codes "check") rows finds).0 in cc
+directory_found arguments rows (Check asked) directory finds is of =
+    subst (λ (d : Option (String Global)). MatchOption d ⊥ (IsDirectory rows)) (sym of) (is (codes "check") rows finds).1
+directory_found arguments rows Replay directory finds is of =
+    let bad : true ≡ false = ap (bytes_eq (codes "check")) (is (codes "check") rows finds) in cc
+directory_found arguments rows Merge directory finds is of =
+    let bad : true ≡ false = ap (bytes_eq (codes "check")) (is (codes "check") rows finds) in cc
+
+-- where none was found there was no memory
+pub only_memory_lacks : (arguments : List Text) (rows : List Row) (fault : ArgumentsFault) → Finds arguments (codes "check") rows
+    → ((name : Text) (rows : List Row) → Finds arguments name rows → IsFaulty name rows fault) → ¬ IsOutOfMemory fault → ⊥
+only_memory_lacks arguments rows fault finds is enough = enough (check_memory rows fault (is (codes "check") rows finds))

@@ -15,9 +15,9 @@ use Rattle.clap.specs.declared.builder.value_parser.Reading.TheVariants.{AsWritt
 use Rattle.clap.specs.declared.error.kind.ErrorKind.TheVariants.{InvalidValue}
 use Rattle.clap.specs.declared.parser.matches.ValueSource.TheVariants.{CommandLine, DefaultValue}
 use Rattle.clap.proofs.OnLiterals.{clap_on_literals}
-use Rattle.tcp_edge.specs.CommandLine.{kbroker, Finds, Roles, IsRoles, HasTopics, IsTextAndNumber, IsTopic, topic_words}
+use Rattle.tcp_edge.specs.CommandLine.{kbroker, Finds, Roles, IsRoles, HasTopics, IsTextAndNumber, IsTopic, directory_word, topic_words}
 use Rattle.tcp_edge.specs.Addresses.{Advertises, IsInBrackets, IsListen, IsUnfit}
-use Rattle.tcp_edge.specs.Examples.{session_line, serve_line, start_line, replay_line}
+use Rattle.tcp_edge.specs.Examples.{session_line, serve_line, start_line, check_line, replay_line}
 
 -- ---- the word for a role, where none is given
 
@@ -65,6 +65,9 @@ start_rows =
     ∷ by_default (codes "snapshot-after") (codes "67108864") WithoutMinus
     ∷ by_default (codes "fold") (codes "false") AsWritten ∷ []
 
+abbrev pub check_rows : List Row
+check_rows = given (codes "directory") (codes "data") AsWritten ∷ []
+
 -- ---- what is found
 
 session_fault : (roles : Roles) → IsRoles roles → fault_of (kbroker roles) session_line ≡ []
@@ -90,6 +93,14 @@ start_fault roles is = subst (λ (b : Bool). role_fault b ≡ []) (sym (is_role 
 start_found : (roles : Roles) → subcommand_of (kbroker roles) start_line ≡ Some (codes "start", start_rows)
 unfolding clap_on_literals
 start_found roles = refl
+
+check_fault : (roles : Roles) → fault_of (kbroker roles) check_line ≡ []
+unfolding clap_on_literals
+check_fault roles = refl
+
+check_found : (roles : Roles) → subcommand_of (kbroker roles) check_line ≡ Some (codes "check", check_rows)
+unfolding clap_on_literals
+check_found roles = refl
 
 replay_fault : (roles : Roles) → fault_of (kbroker roles) replay_line ≡ []
 unfolding clap_on_literals
@@ -151,6 +162,10 @@ serve_asked = (serve_rows, record { no_fault = serve_fault; found = λ roles are
 
 pub start_asked : (rows : List Row) × Finds start_line (codes "start") rows × ¬ IsUnfit rows
 start_asked = (start_rows, record { no_fault = start_fault; found = λ roles are. start_found roles }, is_fit)
+
+pub check_asked : (rows : List Row) × Finds check_line (codes "check") rows × (directory_word rows ≡ codes "data")
+unfolding clap_on_literals
+check_asked = (check_rows, record { no_fault = λ roles are. check_fault roles; found = λ roles are. check_found roles }, refl)
 
 pub replay_asked : Finds replay_line (codes "replay") []
 replay_asked = record { no_fault = λ roles are. replay_fault roles; found = λ roles are. replay_found roles }

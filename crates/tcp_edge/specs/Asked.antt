@@ -1,11 +1,11 @@
 -- What a parse of the command line gives, by the subcommand that clap found and its values.
-use Rattle.std.specs.Prelude.{◌≡◌, ◌≢◌, ◌⊎◌, ℕ, Bool, true, false, List, codes, ⊤, Option, Some, None, Result, IfOk, IsErrAnd, MatchResult}
+use Rattle.std.specs.Prelude.{◌≡◌, ◌≢◌, ◌⊎◌, ℕ, Bool, true, false, List, codes, ⊤, Option, Some, None, Result, IfOk, IsErrAnd, MatchResult, String, string_bytes}
 use Rattle.clap.specs.Words.{HasKind, Kinds, Row, Text, kind_of, one_of}
 use Rattle.clap.specs.declared.error.kind.ErrorKind.TheVariants as kind
 use Rattle.broker_state.specs.ConfigValues.{config_value}
 use Rattle.broker_state.specs.State.{ConfigValue}
 use Rattle.tcp_edge.specs.declared.asked.Asked.{Asked}
-use Rattle.tcp_edge.specs.declared.asked.Asked.TheVariants.{Table, Session, Serve, Start, Replay, Merge}
+use Rattle.tcp_edge.specs.declared.asked.Asked.TheVariants.{Table, Session, Serve, Start, Check, Replay, Merge}
 use Rattle.listeners.specs.declared.options.ServeOptions.{ServeOptions}
 use Rattle.listeners.specs.declared.options.StartOptions.{StartOptions}
 use Rattle.listeners.specs.declared.options.KeptOptions.{KeptOptions}
@@ -15,10 +15,11 @@ use Rattle.tcp_edge.specs.declared.keeping.KeptFault.{KeptFault}
 use Rattle.tcp_edge.specs.declared.keeping.KeptFault.TheVariants.{Alone, Fold, Sync}
 use Rattle.tcp_edge.specs.declared.asked.ArgumentsFault.{ArgumentsFault}
 use Rattle.std.specs.declared.net.socket_addr.SocketAddr.{SocketAddr}
+use Rattle.std.specs.declared.alloc.Global.{Global}
 use Rattle.tcp_edge.specs.declared.asked.ArgumentsFault.TheVariants.{Clap, Address, Kept, Topic}
 use Rattle.tcp_edge.specs.Addresses.{Advertises, HasNoAdvertised, HasNoListen, IsListen}
 use Rattle.tcp_edge.specs.Keeping.{HasFoldAlone, HasNoSyncWay, HasSyncAlone, IsKept}
-use Rattle.tcp_edge.specs.CommandLine.{HasTopics, IsConfigAt, IsConfigOf, IsGivenNumber, IsNumberOf, IsPort, IsConnections, Finds, Names, Stops, topic_words}
+use Rattle.tcp_edge.specs.CommandLine.{HasTopics, IsConfigAt, IsConfigOf, IsGivenNumber, IsNumberOf, IsPort, IsConnections, Finds, Names, Stops, directory_word, topic_words}
 
 -- a broker that listens: at first its configuration has the port that was asked for
 pub record IsListener (rows : List Row) (options : ServeOptions) : Type 0 where
@@ -41,21 +42,27 @@ pub record IsStarter (rows : List Row) (options : StartOptions) : Type 0 where
   pub snapshot_after : IsNumberOf 64 (one_of (codes "snapshot-after") rows) options.snapshot_after
   pub kept : IsKept rows options.kept
 
+-- the directory to look at, as it is given
+abbrev pub IsDirectory : List Row → String Global → Type 0
+IsDirectory rows directory = string_bytes directory ≡ directory_word rows
+
 abbrev pub IsAsked : Text → List Row → Asked → Type 0
 IsAsked name rows Table = (name ≢ codes "session") × (name ≢ codes "serve") × (name ≢ codes "start") × (name ≢ codes "replay")
-    × (name ≢ codes "merge")
+    × (name ≢ codes "merge") × (name ≢ codes "check")
 IsAsked name rows (Session g) = (name ≡ codes "session") × IsConfigOf rows 9092 (config_value g)
 IsAsked name rows (Serve options) = (name ≡ codes "serve") × IsListener rows options
 IsAsked name rows (Start options) = (name ≡ codes "start") × IsStarter rows options
+IsAsked name rows (Check directory) = (name ≡ codes "check") × IsDirectory rows directory
 IsAsked name rows Replay = name ≡ codes "replay"
 IsAsked name rows Merge = name ≡ codes "merge"
 
--- a fact of the subcommand's name, where it is not the table's and no listener's
+-- a fact of the subcommand's name, where it is not the table's and none that is left to a call of its own
 abbrev pub IfNamed : Asked → (Text → Type 0) → Type 0
 IfNamed Table P = ⊤
 IfNamed (Session g) P = P (codes "session")
 IfNamed (Serve options) P = ⊤
 IfNamed (Start options) P = ⊤
+IfNamed (Check directory) P = ⊤
 IfNamed Replay P = P (codes "replay")
 IfNamed Merge P = P (codes "merge")
 
@@ -79,11 +86,12 @@ abbrev pub IfMerge : Asked → Type 0 → Type 0
 IfMerge Merge P = P
 IfMerge asked P = ⊤
 
--- a fact, where a broker that listens is
-abbrev pub IfListens : Asked → Type 0 → Type 0
-IfListens (Serve options) P = P
-IfListens (Start options) P = P
-IfListens asked P = ⊤
+-- a fact, where what is asked for is left to a call of its own: a broker that listens, or a look at a directory
+abbrev pub IfLeft : Asked → Type 0 → Type 0
+IfLeft (Serve options) P = P
+IfLeft (Start options) P = P
+IfLeft (Check directory) P = P
+IfLeft asked P = ⊤
 
 -- there was no memory to look at the arguments
 abbrev pub IsOutOfMemory : ArgumentsFault → Type 0
@@ -173,7 +181,7 @@ IsFaulty name rows (Clap error) = kind_of error ≡ kind.OutOfMemory
 IsFaulty name rows (Address why) = (name ≡ codes "start") × IsAddressFault rows why
 IsFaulty name rows (Kept why) = (name ≡ codes "start") × IsKeptFault rows why
 IsFaulty name rows (Topic why) =
-    (name ≢ codes "table") × (name ≢ codes "merge") × (name ≢ codes "replay") × ¬ HasTopics (topic_words rows)
+    (name ≢ codes "table") × (name ≢ codes "merge") × (name ≢ codes "replay") × (name ≢ codes "check") × ¬ HasTopics (topic_words rows)
 
 -- the broker that listens for one connection after the other, where it is asked for
 abbrev pub IsServeOptionsOf : Asked → Option ServeOptions → Type 0
@@ -193,6 +201,16 @@ IsStartOptionsOf asked options = options ≡ None
 abbrev pub IsStartSaid : Asked → Bool → Type 0
 IsStartSaid (Start asked) said = said ≡ true
 IsStartSaid asked said = said ≡ false
+
+-- the directory that is looked at, where one is
+abbrev pub IsDirectoryOf : Asked → Option (String Global) → Type 0
+IsDirectoryOf (Check asked) directory = directory ≡ Some asked
+IsDirectoryOf asked directory = directory ≡ None
+
+-- whether it is
+abbrev pub IsCheckSaid : Asked → Bool → Type 0
+IsCheckSaid (Check directory) said = said ≡ true
+IsCheckSaid asked said = said ≡ false
 
 -- what a parse of the arguments gives
 pub record IsParsed (arguments : List Text) (parsed : Result Asked ArgumentsFault) : Type 0 where

@@ -91,6 +91,10 @@ snapshot_after_rule = record (option_rule (codes "snapshot-after") (parsers.Sign
 abbrev pub fold_rule : Rule
 fold_rule = record (new_rule (codes "fold")) { long = Some (codes "fold"); action = Some SetTrue }
 
+-- `DIR`, any text but the empty one
+abbrev pub directory_rule : Rule
+directory_rule = record (new_rule (codes "directory")) { value_names = 1; required = true; parser = Some parsers.NonEmptyString }
+
 -- the topics, at least one
 abbrev pub topics_rule : Rule
 topics_rule = record (new_rule (codes "topics")) {
@@ -114,6 +118,9 @@ start_app roles = with_rule (with_rule (with_rule (with_rule (with_rule (with_ru
     (new_app (codes "start")) listen_rule) advertise_rule) (role_rule roles)) first_producer_rule) most_connections_rule) most_per_address_rule)
     most_held_rule) idle_rule) data_rule) sync_rule) snapshot_after_rule) fold_rule) topics_rule
 
+abbrev pub check_app : App
+check_app = with_rule (new_app (codes "check")) directory_rule
+
 -- added to a command, it is a subcommand with these rules
 abbrev pub IsSubcommand : App → Command → Type 0
 IsSubcommand app command = (old new : Command) → AddsSubcommand old command new
@@ -125,10 +132,10 @@ top = record (new_app (codes "kbroker")).top { has_version = true; subcommand_re
 
 -- the command `kbroker`, with its subcommands
 abbrev pub kbroker : Roles → App
-kbroker roles = with_subcommand (with_subcommand (with_subcommand (with_subcommand (with_subcommand (with_subcommand
+kbroker roles = with_subcommand (with_subcommand (with_subcommand (with_subcommand (with_subcommand (with_subcommand (with_subcommand
     (record { top = top; subs = [] })
     (new_app (codes "table")).top) (session_app roles).top) (serve_app roles).top) (start_app roles).top)
-    (new_app (codes "replay")).top) (new_app (codes "merge")).top
+    check_app.top) (new_app (codes "replay")).top) (new_app (codes "merge")).top
 
 -- the two words that clap takes for a role
 abbrev pub IsRoles : Roles → Type 0
@@ -172,6 +179,10 @@ role_of rows = if option_map_or (λ word. bytes_eq word (codes "follower")) (fir
 -- `--fold` is given
 abbrev pub folds : List Row → Bool
 folds rows = option_map_or (λ word. bytes_eq word (codes "true")) (first_of (codes "fold") rows) false
+
+-- the argument in the place of a directory, if there is one, and else nothing
+abbrev pub directory_word : List Row → Text
+directory_word rows = unwrap_or (first_of (codes "directory") rows) []
 
 -- the arguments in the place of topics
 abbrev pub topic_words : List Row → List Text

@@ -15,6 +15,10 @@ serve_line =
 abbrev pub start_line : List Text
 start_line = codes "kbroker" ∷ codes "start" ∷ codes "--advertise" ∷ codes "h:1" ∷ codes "t:1" ∷ []
 
+-- kbroker check data
+abbrev pub check_line : List Text
+check_line = codes "kbroker" ∷ codes "check" ∷ codes "data" ∷ []
+
 -- kbroker replay
 abbrev pub replay_line : List Text
 replay_line = codes "kbroker" ∷ codes "replay" ∷ []

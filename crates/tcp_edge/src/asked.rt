@@ -4,7 +4,7 @@ ghost use Rattle.std.specs.Prelude.{◌≡◌, ◌≢◌, ℕ, pos, List, Some, 
 ghost use Rattle.std.specs.Bool.{MatchBool};
 ghost use Rattle.broker_state.specs.ConfigValues.{config_value};
 ghost use Rattle.clap.specs.Words.{Kinds, Row, Text, found_of, one_of, rows_of, subcommand_name_of, subcommand_rows_of};
-ghost use Rattle.tcp_edge.specs.Asked.{IfNamed, IsAsked, IsConfigFault, IsFaulty, IsListener, IsOutOfMemory, IsServeOptionsOf, IsServePortOf, IsStarter, IsStartFault, IsStartOptionsOf, IsStartSaid, IsStop};
+ghost use Rattle.tcp_edge.specs.Asked.{IfNamed, IsAsked, IsCheckSaid, IsConfigFault, IsDirectory, IsDirectoryOf, IsFaulty, IsListener, IsOutOfMemory, IsServeOptionsOf, IsServePortOf, IsStarter, IsStartFault, IsStartOptionsOf, IsStartSaid, IsStop};
 ghost use Rattle.tcp_edge.specs.CommandLine.{Finds, IsConfigAt, IsFirstProducer, IsGivenNumber, IsNumberOf, IsPort, Names, Stops, role_of, topic_words};
 
 use crate::addresses::{AddressFault, advertised_of, listen_of};
@@ -39,6 +39,8 @@ pub(crate) enum Asked {
     Serve(ServeOptions),
     /// A broker that listens for many connections at once.
     Start(StartOptions),
+    /// What a start would find in this directory.
+    Check(String),
     /// What comes of a script's lines.
     Replay,
     /// Two images merged.
@@ -78,6 +80,7 @@ impl Asked {
             Asked::Table => None,
             Asked::Session(_config) => None,
             Asked::Start(_options) => None,
+            Asked::Check(_directory) => None,
             Asked::Replay | Asked::Merge => None,
         }
     }
@@ -98,6 +101,28 @@ impl Asked {
             Asked::Table => None,
             Asked::Session(_config) => None,
             Asked::Serve(_options) => None,
+            Asked::Check(_directory) => None,
+            Asked::Replay | Asked::Merge => None,
+        }
+    }
+
+    /// Whether a look at a directory was asked for.
+    pub(crate) fn is_check(&self) -> bool
+        ensures { IsCheckSaid self.now result }
+    {
+        matches!(self, Asked::Check(_))
+    }
+
+    /// The directory to look at, if that was asked for.
+    pub(crate) fn checked_directory(self) -> Option<String>
+        ensures { IsDirectoryOf self result }
+    {
+        match self {
+            Asked::Check(directory) => Some(directory),
+            Asked::Table => None,
+            Asked::Session(_config) => None,
+            Asked::Serve(_options) => None,
+            Asked::Start(_options) => None,
             Asked::Replay | Asked::Merge => None,
         }
     }
@@ -238,13 +263,23 @@ fn start_options_of(alloc: Global, matches: &ArgMatches<'_>) -> Result<StartOpti
     })
 }
 
+/// The directory to look at; an empty name where there is none in the matches.
+#[tactic(auto, using(crate::proofs::Arguments::first_row))]
+fn directory_of(alloc: Global, matches: &ArgMatches<'_>) -> Result<String, ArgumentsFault>
+    ensures directory { IfOk result (IsDirectory (rows_of (found_of matches.now))) }
+    ensures fault { IfErr result IsOutOfMemory }
+{
+    let directory = matches.get_str("directory").unwrap_or("");
+    Ok(String::from_str(alloc, directory)?)
+}
+
 /// What the matches of a subcommand without arguments ask for: `table` if they are of none of the others.
 #[tactic(auto, using(crate::proofs::Arguments::name_found))]
 fn asked_plainly(matches: &ArgMatches<'_>) -> Asked
     ensures asked { (name : Text) (rows : List Row)
         → subcommand_rows_of matches.now ≡ Some (name, rows)
         → name ≢ codes "session" → name ≢ codes "serve" → name ≢ codes "start"
-        → IsAsked name rows result }
+        → name ≢ codes "check" → IsAsked name rows result }
     ensures named { IfNamed result (λ name. subcommand_name_of matches.now ≡ Some name) }
 {
     match matches.subcommand_matches("replay") {
@@ -258,7 +293,7 @@ fn asked_plainly(matches: &ArgMatches<'_>) -> Asked
 }
 
 /// What the matches ask for.
-#[tactic(auto, using(crate::proofs::Arguments::name_found, crate::proofs::Arguments::session_fault, crate::proofs::Arguments::serve_fault, crate::proofs::Arguments::start_fault))]
+#[tactic(auto, using(crate::proofs::Arguments::name_found, crate::proofs::Arguments::session_fault, crate::proofs::Arguments::serve_fault, crate::proofs::Arguments::start_fault, crate::proofs::Arguments::check_fault))]
 fn asked_by(alloc: Global, matches: &ArgMatches<'_>) -> Result<Asked, ArgumentsFault>
     ensures asked { (name : Text) (rows : List Row)
         → subcommand_rows_of matches.now ≡ Some (name, rows)
@@ -275,7 +310,11 @@ fn asked_by(alloc: Global, matches: &ArgMatches<'_>) -> Result<Asked, ArgumentsF
         None => {}
     }
     match matches.subcommand_matches("start") {
-        Some(inner) => Ok(Asked::Start(start_options_of(alloc, inner)?)),
+        Some(inner) => return Ok(Asked::Start(start_options_of(alloc, inner)?)),
+        None => {}
+    }
+    match matches.subcommand_matches("check") {
+        Some(inner) => Ok(Asked::Check(directory_of(alloc, inner)?)),
         None => Ok(asked_plainly(matches)),
     }
 }

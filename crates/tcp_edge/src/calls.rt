@@ -5,7 +5,7 @@ ghost use Rattle.broker_state.specs.Configs.{IsValidConfig};
 ghost use Rattle.broker_state.specs.State.{ConfigValue};
 ghost use Rattle.clap.specs.Words.{Row};
 ghost use Rattle.tcp_edge.specs.Addresses.{IsUnfit};
-ghost use Rattle.tcp_edge.specs.Asked.{AsksForOther, AsksForOtherThan, IsStarter};
+ghost use Rattle.tcp_edge.specs.Asked.{AsksForOther, AsksForOtherThan, IsDirectory, IsStarter};
 ghost use Rattle.tcp_edge.specs.CommandLine.{AsksForHelp, AsksForMerge, AsksForTable, Finds, HasMistake, HasTopics, IsConfigOf, IsPort, NamesReplay, NamesSession, topic_words};
 ghost use Rattle.listeners.specs.Below.{PrintsMerge};
 ghost use Rattle.listeners.specs.Below.{IsUntouched};
@@ -14,20 +14,22 @@ ghost use Rattle.listeners.specs.Below.{RunsSession};
 ghost use Rattle.listeners.specs.Below.{PrintsTable};
 
 use crate::command_line::CommandLine;
-use listeners::{StartOptions, start};
+use listeners::{StartOptions, check_directory, start};
 use std::alloc::{Alloc, AllocError, Global};
 use std::convert::AsStr;
 use std::fs::{File, Files};
 use std::io::{Read, Write};
 use std::net::{Net, TcpListener};
 use std::random::RandomSource;
+use std::string::String;
 use std::time::Clock;
 use streams::{Sink, Source};
 
 /// Runs the program on its arguments, of which the first is its name, and answers its status: 0
 /// done, 1 input refused, 2 a faulty command line or configuration, 3 out of memory, 4 a read or a
 /// write failed. A status of 1, 3 or 4 comes with one line on `err`. Arguments that ask for a broker
-/// that listens are left to `run_serve` and `run_start`: the status is 2, and nothing is printed.
+/// that listens, or for a look at a directory, are left to `run_serve`, `run_start` and `run_check`: the
+/// status is 2, and nothing is printed.
 pub fn run_line<S: AsStr, R: Read, W: Write, E: Write>(
     alloc: Global,
     arguments: &[S],
@@ -87,6 +89,12 @@ pub fn run_line<S: AsStr, R: Read, W: Write, E: Write>(
     ensures start_says_nothing { (rows : List Row)
         → Finds (map S.text arguments.now) (codes "start") rows → ¬ IsUnfit rows
         → result ≡ 2 → err.new ≡ err.old }
+    // A look at a directory is left to `run_check`.
+    ensures check_is_left { (rows : List Row)
+        → Finds (map S.text arguments.now) (codes "check") rows → (2 ≤ result) × (result ≤ 3)
+        × IsUntouched source.old source.new sink.old sink.new }
+    ensures check_says_nothing { (rows : List Row)
+        → Finds (map S.text arguments.now) (codes "check") rows → result ≡ 2 → err.new ≡ err.old }
 {
     CommandLine::parse(alloc, arguments).run(alloc, source, sink, err)
 }
@@ -161,4 +169,37 @@ pub fn run_start<
     ensures is_status { result ≤ 4 }
 {
     start(rt, alloc, options, out, err)
+}
+
+/// The directory that the arguments ask to look at; none where they have a fault, or ask for something else.
+/// That is for `run_line`, as what this answers is for `run_check`.
+///
+/// # Errors
+///
+/// `AllocError` where there is no memory to look them up.
+pub fn checked_directory<S: AsStr>(
+    alloc: Global,
+    arguments: &[S],
+) -> Result<Option<String>, AllocError>
+    ensures other_has_none { AsksForOtherThan (codes "check") (map S.text arguments.now)
+        → IfOk result (λ directory. directory ≡ None) }
+    // Where one is asked for, there is one, or no memory.
+    ensures is_asked_for { (rows : List Row) → Finds (map S.text arguments.now) (codes "check") rows
+        → IfOk result (λ directory. MatchOption directory ⊥ (IsDirectory rows)) }
+{
+    CommandLine::parse(alloc, arguments).checked_directory()
+}
+
+/// Reads a data directory without starting a broker, and changes nothing. Says of each file what it is, and what
+/// a start would recover, cut or refuse. Answers the status: 0 a start would take it, 1 a start would refuse one
+/// of its files, 2 it is no data directory, 3 out of memory, 4 a call of the system failed or `out` takes no
+/// more.
+pub fn run_check<
+    R: Clock + Files<File = File> + RandomSource + Alloc + Clone + Drop,
+    W: Write,
+    E: Write,
+>(rt: &R, alloc: Global, directory: &str, out: &mut W, err: &mut E) -> u8
+    ensures is_status { result ≤ 4 }
+{
+    check_directory(rt, alloc, directory, out, err)
 }

@@ -5,7 +5,7 @@ ghost use Rattle.broker_state.specs.Configs.{IsValidConfig};
 ghost use Rattle.broker_state.specs.State.{ConfigValue};
 ghost use Rattle.clap.specs.Words.{Row};
 ghost use Rattle.tcp_edge.specs.Addresses.{IsUnfit};
-ghost use Rattle.tcp_edge.specs.Asked.{AsksForOther, AsksForOtherThan, IfListens, IfMerge, IfReplay, IfSession, IfTable, IsListener, IsOutOfMemory, IsParsed, IsStarter};
+ghost use Rattle.tcp_edge.specs.Asked.{AsksForOther, AsksForOtherThan, IfLeft, IfMerge, IfReplay, IfSession, IfTable, IsDirectory, IsListener, IsOutOfMemory, IsParsed, IsStarter};
 ghost use Rattle.tcp_edge.specs.CommandLine.{AsksForHelp, AsksForMerge, AsksForTable, Finds, HasMistake, HasTopics, IsConfigOf, IsPort, NamesReplay, NamesSession, topic_words};
 ghost use Rattle.listeners.specs.Below.{PrintsMerge};
 ghost use Rattle.listeners.specs.Below.{IsUntouched};
@@ -24,6 +24,7 @@ use std::convert::AsStr;
 use std::io::{Read, Write};
 use std::marker::Model;
 use std::net::TcpListener;
+use std::string::String;
 use streams::{Sink, Source};
 
 /// The arguments of a command line, of which the first is the program's name, and what they ask for.
@@ -57,7 +58,7 @@ fn nothing_asked<T>(why: &ArgumentsFault) -> Result<Option<T>, AllocError>
     Ok(None)
 }
 
-/// Does what was asked for, but for a broker that listens, and answers the status.
+/// Does what was asked for, but for a broker that listens and a look at a directory, and answers the status.
 fn run_asked<R: Read, W: Write, E: Write>(
     alloc: Global,
     asked: Asked,
@@ -74,8 +75,8 @@ fn run_asked<R: Read, W: Write, E: Write>(
     ensures session { IfSession asked (λ config.
         RunsSession config source.old source.new sink.old sink.new result) }
     ensures replay_is_no_fault { IfReplay asked (result ≢ 2) }
-    ensures listener_is_left { IfListens asked (result ≡ 2) }
-    ensures listener_does_nothing { IfListens asked (IsUntouched source.old source.new sink.old sink.new
+    ensures left_is_faulty { IfLeft asked (result ≡ 2) }
+    ensures left_does_nothing { IfLeft asked (IsUntouched source.old source.new sink.old sink.new
         × (err.new ≡ err.old)) }
 {
     match asked {
@@ -83,7 +84,7 @@ fn run_asked<R: Read, W: Write, E: Write>(
         Asked::Session(config) => run_session(alloc, config, source, sink, err),
         Asked::Replay => run_replay(alloc, source, sink, err),
         Asked::Merge => run_merge(alloc, source, sink, err),
-        Asked::Serve(_) | Asked::Start(_) => FAULTY,
+        Asked::Serve(_) | Asked::Start(_) | Asked::Check(_) => FAULTY,
     }
 }
 
@@ -156,6 +157,12 @@ impl<'a, S: AsStr> CommandLine<'a, S> {
         ensures start_says_nothing { (rows : List Row)
             → Finds self.entry (codes "start") rows → ¬ IsUnfit rows
             → result ≡ 2 → err.new ≡ err.old }
+        // A look at a directory is left to `run_check`.
+        ensures check_is_left { (rows : List Row)
+            → Finds self.entry (codes "check") rows → (2 ≤ result) × (result ≤ 3)
+            × IsUntouched source.old source.new sink.old sink.new }
+        ensures check_says_nothing { (rows : List Row)
+            → Finds self.entry (codes "check") rows → result ≡ 2 → err.new ≡ err.old }
     {
         let parsed = self.parsed;
         match parsed {
@@ -248,6 +255,35 @@ impl<'a, S: AsStr> CommandLine<'a, S> {
         let parsed = self.parsed;
         match parsed {
             Ok(asked) => Ok(asked.start_options()),
+            Err(why) => nothing_asked(&why),
+        }
+    }
+
+    /// Whether a look at a directory is asked for.
+    pub fn is_check(&self) -> bool
+        ensures other_is_not { AsksForOtherThan (codes "check") self.now → result ≡ false }
+    {
+        match &self.parsed {
+            Ok(asked) => asked.is_check(),
+            Err(_) => false,
+        }
+    }
+
+    /// The directory to look at, as `checked_directory` has it.
+    ///
+    /// # Errors
+    ///
+    /// `AllocError` where there was no memory to look the arguments up.
+    pub fn checked_directory(self) -> Result<Option<String>, AllocError>
+        ensures other_has_none { AsksForOtherThan (codes "check") self.entry
+            → IfOk result (λ directory. directory ≡ None) }
+        // Where one is asked for, there is one, or no memory.
+        ensures is_asked_for { (rows : List Row) → Finds self.entry (codes "check") rows
+            → IfOk result (λ directory. MatchOption directory ⊥ (IsDirectory rows)) }
+    {
+        let parsed = self.parsed;
+        match parsed {
+            Ok(asked) => Ok(asked.checked_directory()),
             Err(why) => nothing_asked(&why),
         }
     }

@@ -2,7 +2,7 @@
 
 ghost use Rattle.std.specs.Prelude.{◌≡◌, [], IfOk, codes, false};
 ghost use Rattle.clap.specs.Words.{App, app_of, new_app, rule_of, with_subcommand};
-ghost use Rattle.tcp_edge.specs.CommandLine.{IsRoles, IsSubcommand, Roles, kbroker, session_app, serve_app, role_rule, first_producer_rule, top, topics_rule, port_rule, connections_rule, start_app, listen_rule, advertise_rule, most_connections_rule, most_per_address_rule, most_held_rule, idle_rule, data_rule, sync_rule, snapshot_after_rule, fold_rule};
+ghost use Rattle.tcp_edge.specs.CommandLine.{IsRoles, IsSubcommand, Roles, kbroker, session_app, serve_app, role_rule, first_producer_rule, top, topics_rule, port_rule, connections_rule, start_app, listen_rule, advertise_rule, most_connections_rule, most_per_address_rule, most_held_rule, idle_rule, data_rule, sync_rule, snapshot_after_rule, fold_rule, check_app, directory_rule};
 
 use clap::builder::ValueParser;
 use clap::{Arg, ArgAction, Command, value_parser};
@@ -25,6 +25,10 @@ at a time, and prints a line for each";
 const ABOUT_START: &str =
     "Runs a broker with these topics, a new one or the one that a directory keeps, \
 and serves many connections at once, until it is stopped";
+
+const ABOUT_CHECK: &str =
+    "Reads a data directory without starting a broker, and changes nothing. Says of each \
+file what it is, and what a start would recover, cut or refuse";
 
 const ABOUT_REPLAY: &str =
     "Reads a script from standard input, applies its events to the replicas of one \
@@ -56,6 +60,8 @@ const EXAMPLE_SERVE: &str = "Example: kbroker serve --port 9092 --connections 10
 
 const EXAMPLE_START: &str =
     "Example: kbroker start --listen 0.0.0.0:9092 --advertise broker.example.com:9092 orders:3 prices:1";
+
+const EXAMPLE_CHECK: &str = "Example: kbroker check /var/lib/kbroker";
 
 const HELP_TOPICS: &str = "A topic's name and its number of partitions, such as orders:3";
 
@@ -102,6 +108,9 @@ const HELP_SNAPSHOT_AFTER: &str =
 and at least as many as that snapshot";
 
 const HELP_FOLD: &str = "Takes a snapshot as a checkpoint of all data, and exits";
+
+const HELP_DIRECTORY: &str =
+    "The data directory of a broker, also of one that runs, or a copy of it";
 
 static ROLES: [&str; 2] = ["leader", "follower"];
 
@@ -297,6 +306,18 @@ fn fold_arg<'a>(alloc: Global) -> Arg<'a>
         .action(ArgAction::SetTrue)
 }
 
+/// The directory that is looked at.
+fn directory_arg<'a>(alloc: Global) -> Arg<'a>
+    ensures rule { rule_of result ≡ directory_rule }
+    ensures local { result.global ≡ false }
+{
+    Arg::new(alloc, "directory")
+        .value_name("DIR")
+        .help(HELP_DIRECTORY)
+        .required(true)
+        .value_parser(ValueParser::NonEmptyString)
+}
+
 /// The subcommand `session`.
 fn session<'a>(alloc: Global, roles: &'a [&'a str]) -> Result<Command<'a>, AllocError>
     ensures { IfOk result (IsSubcommand (session_app roles.entry)) }
@@ -343,6 +364,16 @@ fn start<'a>(alloc: Global, roles: &'a [&'a str]) -> Result<Command<'a>, AllocEr
         .arg(snapshot_after_arg(alloc))?
         .arg(fold_arg(alloc))?
         .arg(topics_arg(alloc))
+}
+
+/// The subcommand `check`.
+fn check<'a>(alloc: Global) -> Result<Command<'a>, AllocError>
+    ensures { IfOk result (IsSubcommand check_app) }
+{
+    Command::new(alloc, "check")
+        .about(ABOUT_CHECK)
+        .after_help(EXAMPLE_CHECK)
+        .arg(directory_arg(alloc))
 }
 
 /// The command, with a subcommand more, where both were made. Only here a command is let go.
@@ -404,6 +435,7 @@ pub(crate) fn command<'a>(alloc: Global) -> Result<Command<'a>, AllocError>
     let second = add_subcommand(first, session(alloc, roles));
     let third = add_subcommand(second, serve(alloc, roles));
     let fourth = add_subcommand(third, start(alloc, roles));
-    let fifth = add_subcommand(fourth, Ok(replay(alloc)));
-    add_subcommand(fifth, Ok(merge(alloc)))
+    let fifth = add_subcommand(fourth, check(alloc));
+    let sixth = add_subcommand(fifth, Ok(replay(alloc)));
+    add_subcommand(sixth, Ok(merge(alloc)))
 }

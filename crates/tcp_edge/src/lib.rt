@@ -12,7 +12,9 @@ mod keeping;
 mod refusals;
 mod topics;
 
-pub use calls::{run_line, run_serve, run_start, serve_port, start_options};
+pub use calls::{
+    checked_directory, run_check, run_line, run_serve, run_start, serve_port, start_options,
+};
 pub use command_line::CommandLine;
 pub use listeners::{
     Answer, Config, ConfigError, Connection, DONE, Ended, FAILED, FAULTY, GROUP_TOPIC, ImagesError,

@@ -20,3 +20,9 @@ returns-clause-mistake_is_refused g c = rw (← c.parse.ensures) c.run.ensures.m
 
 pub returns-clause-start_says_nothing : goal.returns-clause-start_says_nothing
 returns-clause-start_says_nothing g c = rw (← c.parse.ensures) c.run.ensures.start_says_nothing
+
+pub returns-clause-check_is_left : goal.returns-clause-check_is_left
+returns-clause-check_is_left g c = rw (← c.parse.ensures) c.run.ensures.check_is_left
+
+pub returns-clause-check_says_nothing : goal.returns-clause-check_says_nothing
+returns-clause-check_says_nothing g c = rw (← c.parse.ensures) c.run.ensures.check_says_nothing

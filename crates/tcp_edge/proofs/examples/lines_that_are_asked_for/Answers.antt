@@ -1,4 +1,4 @@
-use Rattle.tcp_edge.proofs.ExampleLines.{session_asked, serve_asked, start_asked, replay_asked}
+use Rattle.tcp_edge.proofs.ExampleLines.{session_asked, serve_asked, start_asked, check_asked, replay_asked}
 use Rattle.tcp_edge.proofs.examples.lines_that_are_asked_for.Goals as goal
 
 pub returns-clause-session : goal.returns-clause-session
@@ -9,6 +9,9 @@ returns-clause-serve c = serve_asked
 
 pub returns-clause-start : goal.returns-clause-start
 returns-clause-start c = start_asked
+
+pub returns-clause-check : goal.returns-clause-check
+returns-clause-check c = check_asked
 
 pub returns-clause-replay : goal.returns-clause-replay
 returns-clause-replay c = replay_asked

@@ -1,5 +1,5 @@
 use Rattle.std.proofs.Common.{◌≡◌, codes, inl, inr, refl, sym, ◌∙◌, arith}
-use Rattle.tcp_edge.proofs.Arguments.{done_by, if_table, if_merge, if_session, if_replay, if_serve, if_start, table_fault, merge_fault, replay_fault, session_is_no_start, serve_is_no_start, topic_or_memory, unfit_or_memory, refused_left, refused_topic, mistake_stops, help_stops, helped, no_help, parsed_ok, parsed_err}
+use Rattle.tcp_edge.proofs.Arguments.{done_by, if_table, if_merge, if_session, if_replay, if_serve, if_start, if_check, table_fault, merge_fault, replay_fault, check_memory, session_is_no_start, serve_is_no_start, topic_or_memory, unfit_or_memory, refused_left, refused_topic, mistake_stops, help_stops, helped, no_help, parsed_ok, parsed_err}
 use Rattle.listeners.proofs.Below.{table_out_of_memory, merge_out_of_memory}
 use Rattle.tcp_edge.proofs.command_line.CommandLine.run.Goals as goal
 
@@ -9,7 +9,7 @@ pub returns-in-Ok-clause-done_prints_help_or_table_or_merge_or_serves_or_replays
 returns-in-Ok-clause-done_prints_help_or_table_or_merge_or_serves_or_replays g c =
     let line = parsed_ok _ c.args.self _ c.in-Ok.asked c.self.view_is c.in-Ok.is c.self.invariant in
     done_by c.args.self c.in-Ok.asked c.run_asked.result _ _ _ _ _
-    c.run_asked.ensures.table (λ t. t.prints_table) c.run_asked.ensures.merge (λ m. m.prints_the_merge) c.run_asked.ensures.listener_is_left line.named
+    c.run_asked.ensures.table (λ t. t.prints_table) c.run_asked.ensures.merge (λ m. m.prints_the_merge) c.run_asked.ensures.left_is_faulty line.named
 
 pub returns-in-Ok-clause-table : goal.returns-in-Ok-clause-table
 returns-in-Ok-clause-table g c =
@@ -43,23 +43,37 @@ pub returns-in-Ok-clause-serve_is_left : goal.returns-in-Ok-clause-serve_is_left
 returns-in-Ok-clause-serve_is_left g c =
     let line = parsed_ok _ c.args.self _ c.in-Ok.asked c.self.view_is c.in-Ok.is c.self.invariant in
     λ rows finds.
-    let two : c.run_asked.result ≡ 2 = if_serve rows c.in-Ok.asked _ (line.asked (codes "serve") rows finds) c.run_asked.ensures.listener_is_left in
-    let nothing = if_serve rows c.in-Ok.asked _ (line.asked (codes "serve") rows finds) c.run_asked.ensures.listener_does_nothing in
+    let two : c.run_asked.result ≡ 2 = if_serve rows c.in-Ok.asked _ (line.asked (codes "serve") rows finds) c.run_asked.ensures.left_is_faulty in
+    let nothing = if_serve rows c.in-Ok.asked _ (line.asked (codes "serve") rows finds) c.run_asked.ensures.left_does_nothing in
     (omega (arith, two), omega (arith, two), nothing.0)
 
 pub returns-in-Ok-clause-start_is_left : goal.returns-in-Ok-clause-start_is_left
 returns-in-Ok-clause-start_is_left g c =
     let line = parsed_ok _ c.args.self _ c.in-Ok.asked c.self.view_is c.in-Ok.is c.self.invariant in
     λ rows finds.
-    let two : c.run_asked.result ≡ 2 = if_start rows c.in-Ok.asked _ (line.asked (codes "start") rows finds) c.run_asked.ensures.listener_is_left in
-    let nothing = if_start rows c.in-Ok.asked _ (line.asked (codes "start") rows finds) c.run_asked.ensures.listener_does_nothing in
+    let two : c.run_asked.result ≡ 2 = if_start rows c.in-Ok.asked _ (line.asked (codes "start") rows finds) c.run_asked.ensures.left_is_faulty in
+    let nothing = if_start rows c.in-Ok.asked _ (line.asked (codes "start") rows finds) c.run_asked.ensures.left_does_nothing in
     (omega (arith, two), omega (arith, two), nothing.0)
 
 pub returns-in-Ok-clause-start_says_nothing : goal.returns-in-Ok-clause-start_says_nothing
 returns-in-Ok-clause-start_says_nothing g c =
     let line = parsed_ok _ c.args.self _ c.in-Ok.asked c.self.view_is c.in-Ok.is c.self.invariant in
     λ rows finds fit two.
-    (if_start rows c.in-Ok.asked _ (line.asked (codes "start") rows finds) c.run_asked.ensures.listener_does_nothing).1
+    (if_start rows c.in-Ok.asked _ (line.asked (codes "start") rows finds) c.run_asked.ensures.left_does_nothing).1
+
+pub returns-in-Ok-clause-check_is_left : goal.returns-in-Ok-clause-check_is_left
+returns-in-Ok-clause-check_is_left g c =
+    let line = parsed_ok _ c.args.self _ c.in-Ok.asked c.self.view_is c.in-Ok.is c.self.invariant in
+    λ rows finds.
+    let two : c.run_asked.result ≡ 2 = if_check rows c.in-Ok.asked _ (line.asked (codes "check") rows finds) c.run_asked.ensures.left_is_faulty in
+    let nothing = if_check rows c.in-Ok.asked _ (line.asked (codes "check") rows finds) c.run_asked.ensures.left_does_nothing in
+    (omega (arith, two), omega (arith, two), nothing.0)
+
+pub returns-in-Ok-clause-check_says_nothing : goal.returns-in-Ok-clause-check_says_nothing
+returns-in-Ok-clause-check_says_nothing g c =
+    let line = parsed_ok _ c.args.self _ c.in-Ok.asked c.self.view_is c.in-Ok.is c.self.invariant in
+    λ rows finds two.
+    (if_check rows c.in-Ok.asked _ (line.asked (codes "check") rows finds) c.run_asked.ensures.left_does_nothing).1
 
 pub returns-in-Ok-clause-replay_is_no_fault : goal.returns-in-Ok-clause-replay_is_no_fault
 returns-in-Ok-clause-replay_is_no_fault g c =
@@ -76,7 +90,7 @@ pub returns-in-Ok-clause-serve_says_nothing : goal.returns-in-Ok-clause-serve_sa
 returns-in-Ok-clause-serve_says_nothing g c =
     let line = parsed_ok _ c.args.self _ c.in-Ok.asked c.self.view_is c.in-Ok.is c.self.invariant in
     λ rows finds topics two.
-    (if_serve rows c.in-Ok.asked _ (line.asked (codes "serve") rows finds) c.run_asked.ensures.listener_does_nothing).1
+    (if_serve rows c.in-Ok.asked _ (line.asked (codes "serve") rows finds) c.run_asked.ensures.left_does_nothing).1
 
 -- ---- the command line is refused, or memory ran out
 
@@ -142,6 +156,20 @@ returns-in-Err-clause-replay_is_no_fault g c =
     let line = parsed_err _ c.args.self _ c.in-Err.why c.self.view_is c.in-Err.is c.self.invariant in
     λ rows finds status.
     let three = c.refuse_line.ensures.out_of_memory (replay_fault rows c.in-Err.why (line.asked (codes "replay") rows finds)) in
+    let bad : 2 ≡ 3 = sym status ∙ three in absurd (omega arith)
+
+pub returns-in-Err-clause-check_is_left : goal.returns-in-Err-clause-check_is_left
+returns-in-Err-clause-check_is_left g c =
+    let line = parsed_err _ c.args.self _ c.in-Err.why c.self.view_is c.in-Err.is c.self.invariant in
+    λ rows finds.
+    let three = c.refuse_line.ensures.out_of_memory (check_memory rows c.in-Err.why (line.asked (codes "check") rows finds)) in
+    (omega (arith, three), omega (arith, three), (refl, c.refuse_line.ensures.out_of_memory_prints_nothing three))
+
+pub returns-in-Err-clause-check_says_nothing : goal.returns-in-Err-clause-check_says_nothing
+returns-in-Err-clause-check_says_nothing g c =
+    let line = parsed_err _ c.args.self _ c.in-Err.why c.self.view_is c.in-Err.is c.self.invariant in
+    λ rows finds status.
+    let three = c.refuse_line.ensures.out_of_memory (check_memory rows c.in-Err.why (line.asked (codes "check") rows finds)) in
     let bad : 2 ≡ 3 = sym status ∙ three in absurd (omega arith)
 
 pub returns-in-Err-clause-serve_says_nothing : goal.returns-in-Err-clause-serve_says_nothing
