@@ -5,4 +5,6 @@ mod drafts;
 mod groups;
 mod journal_bytes;
 mod journal_memory;
+mod keepers;
 mod lent;
+mod mending;

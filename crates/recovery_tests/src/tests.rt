@@ -7,3 +7,4 @@ mod left_behind;
 mod lives;
 mod recoveries;
 mod recoveries_memory;
+mod unsure_disks;

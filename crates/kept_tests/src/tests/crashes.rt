@@ -14,7 +14,7 @@ use std::alloc::{AllocError, Allocator};
 
 /// How a group is written.
 #[derive(Clone, Copy)]
-enum Way {
+pub(crate) enum Way {
     /// It is appended.
     Append,
     /// It is appended, and then synced.
@@ -24,7 +24,7 @@ enum Way {
 }
 
 /// The frames of the groups in turn: of three sectors in all.
-static GROUPS: [(&[u8], Way); 5] = [
+pub(crate) static GROUPS: [(&[u8], Way); 5] = [
     (&[1; 5], Way::Append),
     (&[2; 430], Way::Sync),
     (&[3; 1], Way::Commit),
@@ -33,10 +33,10 @@ static GROUPS: [(&[u8], Way); 5] = [
 ];
 
 /// More calls of a disk than are made.
-const MOST_CALLS: u64 = 40;
+pub(crate) const MOST_CALLS: u64 = 40;
 
 /// Writes a group.
-fn put<D: Disk, A: Allocator + Copy>(
+pub(crate) fn put<D: Disk, A: Allocator + Copy>(
     journal: &mut Journal<D>,
     group: &mut GroupBuffer<A>,
     way: Way,
@@ -52,7 +52,7 @@ fn put<D: Disk, A: Allocator + Copy>(
 }
 
 /// Whether each further call is refused.
-fn is_closed<D: Disk, A: Allocator + Copy>(
+pub(crate) fn is_closed<D: Disk, A: Allocator + Copy>(
     journal: &mut Journal<D>,
     group: &mut GroupBuffer<A>,
 ) -> bool {
@@ -65,7 +65,10 @@ fn is_closed<D: Disk, A: Allocator + Copy>(
 }
 
 /// How many groups are written to a journal, up to the first that fails; none where a call behind it doesn't.
-fn written_to<D: Disk, A: Allocator + Copy>(alloc: A, journal: &mut Journal<D>) -> Option<usize> {
+pub(crate) fn written_to<D: Disk, A: Allocator + Copy>(
+    alloc: A,
+    journal: &mut Journal<D>,
+) -> Option<usize> {
     let mut count = 0_usize;
     for (frames, way) in &GROUPS {
         let mut group = group_of(alloc, frames);
@@ -151,7 +154,7 @@ fn has_further<A: Allocator + Copy>(alloc: A, lent: Lent<'_, A>, count: usize) -
 }
 
 /// Whether a file is read and gone on with so.
-fn goes_on<A: Allocator + Copy>(alloc: A, file: &[u8], count: usize) -> bool {
+pub(crate) fn goes_on<A: Allocator + Copy>(alloc: A, file: &[u8], count: usize) -> bool {
     let Ok(mut watched) = Watched::new(alloc, file) else {
         return false;
     };
@@ -241,7 +244,7 @@ fn first_wrong_sector<A: Allocator + Copy, B: Allocator + Copy>(
 }
 
 /// The first thing that a crash may leave and that isn't read as it should: the size of a front, or a torn sector.
-fn first_wrong<A: Allocator + Copy, B: Allocator + Copy>(
+pub(crate) fn first_wrong<A: Allocator + Copy, B: Allocator + Copy>(
     alloc: B,
     watched: &Watched<A>,
 ) -> Option<(&'static str, usize)> {

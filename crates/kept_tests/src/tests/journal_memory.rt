@@ -220,11 +220,11 @@ fn each_call_lacks_it_once(rt: HostRuntime) -> Result<(), Fail> {
         all_without_memory(rt.alloc(), torn),
     ];
     assert_eq!(rt; of_memory, [Some(NEXT | LATER); 2]);
-    // the length and the head; of the first group two reads, of the second one; of the search three; or one, and a cut
-    // and a sync
+    // the length and the head; of the first group two reads, of the second one; of the search three; or one, and of the
+    // group that isn't known to be on the disk two reads and two writes, a cut and a sync
     let of_disk = [
         all_without_disk(rt.alloc(), damaged, 2 + 2 + 1 + 3),
-        all_without_disk(rt.alloc(), torn, 2 + 2 + 1 + 1 + 2),
+        all_without_disk(rt.alloc(), torn, 2 + 2 + 1 + 1 + 4 + 2),
     ];
     let wanted = OPEN | NEXT | LATER;
     assert_eq!(rt; of_disk, [Some(wanted), Some(wanted | SETTLE)]);

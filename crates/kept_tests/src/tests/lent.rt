@@ -1,9 +1,10 @@
 //! A disk in memory that is lent to a journal or to a reader, so that its bytes are seen behind it.
 
-ghost use Rattle.std.specs.Prelude.{None, true};
+ghost use Rattle.std.specs.Prelude.{None, true, ⊤};
 
 use journal::{Disk, MemoryDisk};
 use std::alloc::{AllocError, Allocator};
+use std::cell::Cell;
 use std::io;
 
 /// A disk in memory, what of it was synced, and what a call that failed may have left more of.
@@ -14,6 +15,14 @@ pub(crate) struct Watched<A: Allocator + Copy> {
     pub(crate) synced: usize,
     /// The bytes of an append that failed.
     pub(crate) lost: Vec<u8, A>,
+    /// Whether an append that fails leaves half of its bytes.
+    pub(crate) is_tearing: bool,
+    /// Which call fails behind an append that failed, counted from it; none where it is 0.
+    pub(crate) then: u64,
+    /// From which byte on a read gives zeros.
+    pub(crate) gone: Cell<usize>,
+    /// The first byte that was written again, and how many were.
+    pub(crate) again: (usize, usize),
 }
 
 impl<A: Allocator + Copy> Watched<A> {
@@ -23,7 +32,31 @@ impl<A: Allocator + Copy> Watched<A> {
             disk: MemoryDisk::new(alloc, bytes)?,
             synced: bytes.len(),
             lost: Vec::new(alloc),
+            is_tearing: false,
+            then: 0,
+            gone: Cell::new(usize::MAX),
+            again: (usize::MAX, 0),
         })
+    }
+
+    /// Appends so many of the bytes, and tells whether that was done.
+    fn append_front(&mut self, bytes: &[u8], count: usize) -> bool {
+        match bytes.get(..count) {
+            Some(front) => self.disk.append(front).is_ok(),
+            None => false,
+        }
+    }
+
+    /// Notes what is lost of an append that failed, where it leaves half of its bytes or none.
+    fn lose(&mut self, bytes: &[u8]) {
+        let half = bytes.len() / 2;
+        let is_torn = self.is_tearing && self.append_front(bytes, half);
+        let from = if is_torn { half } else { 0 };
+        let _kept = self
+            .lost
+            .extend_from_slice(bytes.get(from..).unwrap_or(b""));
+        let then = self.then;
+        self.disk.fail_at(then);
     }
 }
 
@@ -42,6 +75,8 @@ impl<'a, A: Allocator + Copy> Disk for Lent<'a, A> {
 
     ghost left_since = { λ disk t c. ⊥ };
 
+    ghost written = { λ disk i. ⊤ };
+
     ghost may_fail = { λ disk. true };
 
     ghost has_failed = { λ disk. true };
@@ -53,9 +88,22 @@ impl<'a, A: Allocator + Copy> Disk for Lent<'a, A> {
     fn append(&mut self, bytes: &[u8]) -> io::Result<()> {
         let written = self.watched.disk.append(bytes);
         if written.is_err() {
-            let _kept = self.watched.lost.extend_from_slice(bytes);
+            self.watched.lose(bytes);
         }
         written
+    }
+
+    fn rewrite(&mut self, at: u64, bytes: &[u8]) -> io::Result<()> {
+        // Counted as a call of the disk, which may fail.
+        self.watched.disk.len()?;
+        let at = at as usize;
+        let end = at.saturating_add(bytes.len());
+        if self.watched.disk.bytes().get(at..end) != Some(bytes) {
+            return Err(io::Error::from(io::ErrorKind::InvalidInput));
+        }
+        let (first, count) = self.watched.again;
+        self.watched.again = (first.min(at), count.saturating_add(bytes.len()));
+        Ok(())
     }
 
     fn sync(&mut self) -> io::Result<()> {
@@ -68,7 +116,9 @@ impl<'a, A: Allocator + Copy> Disk for Lent<'a, A> {
         if size > self.watched.disk.bytes().len() as u64 {
             return Err(io::Error::from(io::ErrorKind::InvalidInput));
         }
-        self.watched.disk.cut(size)
+        self.watched.disk.cut(size)?;
+        self.watched.lost.clear();
+        Ok(())
     }
 
     fn len(&self) -> io::Result<u64> {
@@ -76,6 +126,11 @@ impl<'a, A: Allocator + Copy> Disk for Lent<'a, A> {
     }
 
     fn read_at(&self, at: u64, room: &mut [u8]) -> io::Result<usize> {
-        self.watched.disk.read_at(at, room)
+        let count = self.watched.disk.read_at(at, room)?;
+        let gone = self.watched.gone.get().saturating_sub(at as usize);
+        if let Some(lost) = room.get_mut(gone.min(count)..count) {
+            lost.fill(0);
+        }
+        Ok(count)
     }
 }

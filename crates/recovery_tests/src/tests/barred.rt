@@ -3,7 +3,7 @@
 
 use crate::tests::lives::UNTURNED;
 use kept_starts::sessions::{Seat, Then, Visit};
-use kept_starts::{Disk, Keeper, Place, Role, start};
+use kept_starts::{Disk, Keeper, Place, Role, Unwatched, start};
 use memory_directories::{MemoryDirectory, Store};
 use sample_brokers::exchanges::{
     CLEAN, COMMIT, DELIVER, Exchange, FORGET, MERGE, PATCH, POSITION, PRODUCER_ID, SILENT, STORE,
@@ -90,7 +90,8 @@ fn is_right<A: Allocator + Copy>(alloc: A, row: &(Exchange, Option<(usize, usize
     let Ok(config) = configured(alloc, Role::Leader) else {
         return false;
     };
-    let Ok(mut started) = start::<VecStore<A>, _>(alloc, &mut directory, &config, UNTURNED) else {
+    let told = start::<VecStore<A>, _, _>(alloc, &mut directory, &config, UNTURNED, &mut Unwatched);
+    let Ok(mut started) = told else {
         return false;
     };
     let keeper = &mut started.keeper;

@@ -2,7 +2,7 @@
 
 use crate::tests::known_replies::{ASKED_CHANGES, Known};
 use crate::tests::lives::{End, Keeping, Life, UNTURNED, end_of_start, found_in_all, play};
-use kept_starts::{Disk, Keeper, Role, start};
+use kept_starts::{Role, Started, Unwatched, start};
 use memory_directories::{MemoryDirectory, Store};
 use sample_brokers::small::configured;
 use segment::BatchStore;
@@ -70,10 +70,10 @@ impl Bounds {
 }
 
 /// Asks a broker once, and keeps it.
-fn ask_once<S: BatchStore, A: Allocator + Copy, D: Disk, B: Allocator + Copy>(
-    keeper: &mut Keeper<S, A, D>,
-    alloc: B,
-    known: &Known<B>,
+fn ask_once<'a, S: BatchStore + Drop, B: Allocator + Copy>(
+    started: &mut Started<S, MemoryDirectory<'a, B>>,
+    directory: &mut MemoryDirectory<'a, B>,
+    (alloc, known): (B, &Known<B>),
     place: Option<Place>,
     life: &mut Life,
 ) -> End {
@@ -84,16 +84,19 @@ fn ask_once<S: BatchStore, A: Allocator + Copy, D: Disk, B: Allocator + Copy>(
         return End::Wrong("not known");
     };
     let mut out = Vec::new(alloc);
-    match keeper.open() {
-        Ok(number) => play(keeper, (number, Keeping::Commit), frames, &mut out, life),
+    match started.keeper.open() {
+        Ok(number) => {
+            let how = (number, Keeping::Commit);
+            play(started, directory, how, frames, &mut out, life)
+        }
         Err(_) => End::NoMemory,
     }
 }
 
 /// A later life over a directory: a start that finds what is within bounds, and asks once.
-fn later_life<S: BatchStore + Drop, B: Allocator + Copy>(
+fn later_life<'a, S: BatchStore + Drop, B: Allocator + Copy>(
     heap: S::Alloc,
-    directory: &mut MemoryDirectory<'_, B>,
+    directory: &mut MemoryDirectory<'a, B>,
     (alloc, known): (B, &Known<B>),
     bounds: &Bounds,
 ) -> Life {
@@ -102,12 +105,12 @@ fn later_life<S: BatchStore + Drop, B: Allocator + Copy>(
         life.end = End::NoMemory;
         return life;
     };
-    match start::<S, _>(heap, directory, &config, UNTURNED) {
+    match start::<S, _, _>(heap, directory, &config, UNTURNED, &mut Unwatched) {
         Ok(mut started) => {
             let found = found_in_all(&started, directory);
             life.starts(found);
             let place = bounds.place(found);
-            life.end = ask_once(&mut started.keeper, alloc, known, place, &mut life);
+            life.end = ask_once(&mut started, directory, (alloc, known), place, &mut life);
         }
         Err(why) => life.end = end_of_start(&why),
     }

@@ -4,8 +4,8 @@
 
 use kept_starts::sessions::{Seat, Then};
 use kept_starts::{
-    CommitError, Disk, JournalError, Keeper, Keeping as Kept, Role, RotationFault, Sent,
-    StartFault, Started, start,
+    CommitError, Disk, JournalError, Keeper, Keeping as Kept, Place, Put, Role, RotationFault,
+    Sent, StartFault, Started, Unwatched, start,
 };
 use memory_directories::MemoryDirectory;
 use sample_brokers::exchanges::Exchange;
@@ -116,19 +116,22 @@ fn is_held_back<S: BatchStore, A: Allocator + Copy, D: Disk, B: Allocator + Copy
 }
 
 /// What comes of keeping the frames that were noted. Where they aren't in the journal, nothing leaves.
-fn kept<S: BatchStore, A: Allocator + Copy, D: Disk, B: Allocator + Copy>(
-    keeper: &mut Keeper<S, A, D>,
-    number: u64,
-    keeping: Keeping,
+fn kept<'a, S: BatchStore + Drop, B: Allocator + Copy>(
+    started: &mut Started<S, MemoryDirectory<'a, B>>,
+    directory: &mut MemoryDirectory<'a, B>,
+    (number, keeping): (u64, Keeping),
     out: &mut Vec<u8, B>,
 ) -> End {
-    let told = match keeping {
-        Keeping::Commit => keeper.commit(),
-        Keeping::Append | Keeping::Sync => keeper.append(),
+    let how = match keeping {
+        Keeping::Commit => Put::Commit,
+        Keeping::Append | Keeping::Sync => Put::Append,
     };
+    let told = started
+        .rotation
+        .put_group(&mut started.keeper, directory, 0, how);
     match told {
-        Ok(()) => End::Clean,
-        Err(why) if is_held_back(keeper, number, out) => end_of_keeping(&why),
+        Ok(_) => End::Clean,
+        Err(why) if is_held_back(&mut started.keeper, number, out) => end_of_keeping(&why),
         Err(_) => End::Wrong("not held back"),
     }
 }
@@ -148,24 +151,35 @@ fn synced<S: BatchStore, A: Allocator + Copy, D: Disk>(
     }
 }
 
-/// Visits a session to which frames came, and again behind each that is dear, and tells how many were answered.
-fn answered<S: BatchStore, A: Allocator + Copy, D: Disk>(
-    keeper: &mut Keeper<S, A, D>,
-    number: u64,
-    frames: &[u8],
-) -> Option<u64> {
+/// Visits a session to which frames came, and again behind each that is dear, and tells how many were answered. Where the
+/// first one is put off, a step writes the image that it waits for, as long as the life goes on.
+fn answered<'a, S: BatchStore + Drop, B: Allocator + Copy>(
+    started: &mut Started<S, MemoryDirectory<'a, B>>,
+    directory: &mut MemoryDirectory<'a, B>,
+    (number, frames): (u64, &[u8]),
+    life: &mut Life,
+) -> Result<u64, End> {
     let mut seat = Seat::new();
     seat.may_read = true;
     let mut from = frames;
     let mut count = 0u64;
     for _ in 0..frames.len().saturating_add(1) {
-        let visit = keeper.answer(number, 0, &mut seat, &mut from)?;
+        let Some(visit) = started.keeper.answer(number, 0, &mut seat, &mut from) else {
+            return Ok(0);
+        };
         count = count.saturating_add(visit.answered);
-        if !matches!(visit.then, Then::Dear) {
-            break;
+        match visit.then {
+            Then::Dear => {}
+            Then::PutOff(place) if count == 0 => {
+                match turn(started, directory, Some(place), life) {
+                    End::Clean => {}
+                    end => return Err(end),
+                }
+            }
+            _ => break,
         }
     }
-    Some(count)
+    Ok(count)
 }
 
 /// What comes of sending a session what it is owed.
@@ -203,14 +217,15 @@ fn then(first: End, second: End) -> End {
 }
 
 /// Keeps and sends what was answered, of frames that were answered all, or some for lack of memory.
-fn keep_and_send<S: BatchStore, A: Allocator + Copy, D: Disk, B: Allocator + Copy>(
-    keeper: &mut Keeper<S, A, D>,
+fn keep_and_send<'a, S: BatchStore + Drop, B: Allocator + Copy>(
+    started: &mut Started<S, MemoryDirectory<'a, B>>,
+    directory: &mut MemoryDirectory<'a, B>,
     (number, keeping): (u64, Keeping),
     frames: Frames<'_>,
     out: &mut Vec<u8, B>,
     life: &mut Life,
 ) -> End {
-    let end = kept(keeper, number, keeping, out);
+    let end = kept(started, directory, (number, keeping), out);
     if end != End::Clean {
         return end;
     }
@@ -218,31 +233,35 @@ fn keep_and_send<S: BatchStore, A: Allocator + Copy, D: Disk, B: Allocator + Cop
     if keeping == Keeping::Commit {
         life.synced = life.handled;
     }
-    let end = synced(keeper, keeping);
+    let end = synced(&mut started.keeper, keeping);
     if end != End::Clean {
         return end;
     }
     if keeping == Keeping::Sync {
         life.synced = life.handled;
     }
-    sent(keeper, number, out, frames.replies)
+    sent(&mut started.keeper, number, out, frames.replies)
 }
 
 /// A round of a session: what ends the life with it, if it isn't clean.
-pub(crate) fn play<S: BatchStore, A: Allocator + Copy, D: Disk, B: Allocator + Copy>(
-    keeper: &mut Keeper<S, A, D>,
+pub(crate) fn play<'a, S: BatchStore + Drop, B: Allocator + Copy>(
+    started: &mut Started<S, MemoryDirectory<'a, B>>,
+    directory: &mut MemoryDirectory<'a, B>,
     (number, keeping): (u64, Keeping),
     frames: Frames<'_>,
     out: &mut Vec<u8, B>,
     life: &mut Life,
 ) -> End {
-    let answered = answered(keeper, number, frames.bytes);
+    let answered = match answered(started, directory, (number, frames.bytes), life) {
+        Ok(answered) => answered,
+        Err(end) => return end,
+    };
     life.handled = life.handled.saturating_add(frames.changes);
-    if answered == Some(frames.count) {
-        return keep_and_send(keeper, (number, keeping), frames, out, life);
+    if answered == frames.count {
+        return keep_and_send(started, directory, (number, keeping), frames, out, life);
     }
     // Some aren't answered: the others may be kept, but how many that are isn't known.
-    let end = kept(keeper, number, keeping, out);
+    let end = kept(started, directory, (number, keeping), out);
     then(end, End::NoMemory)
 }
 
@@ -272,8 +291,9 @@ fn bytes_of<B: Allocator + Copy>(
 }
 
 /// One round of a table.
-fn table_round<S: BatchStore, A: Allocator + Copy, D: Disk, B: Allocator + Copy>(
-    keeper: &mut Keeper<S, A, D>,
+fn table_round<'a, S: BatchStore + Drop, B: Allocator + Copy>(
+    started: &mut Started<S, MemoryDirectory<'a, B>>,
+    directory: &mut MemoryDirectory<'a, B>,
     (alloc, number): (B, u64),
     row: &Round,
     out: &mut Vec<u8, B>,
@@ -288,7 +308,7 @@ fn table_round<S: BatchStore, A: Allocator + Copy, D: Disk, B: Allocator + Copy>
         changes: changes_of(row),
         replies: &replies,
     };
-    play(keeper, (number, row.keeping), frames, out, life)
+    play(started, directory, (number, row.keeping), frames, out, life)
 }
 
 // ---- snapshots
@@ -305,16 +325,18 @@ const TURNED: Kept = Kept {
     most_journal: 1,
 };
 
-/// One step of a snapshot: what ends the life with it, if it isn't clean. Where none is taken, the life goes on.
+/// One step of a snapshot, which may wait for the image of a partition: what ends the life with it, if it isn't clean. Where
+/// none is taken, the life goes on.
 fn turn<'a, S: BatchStore + Drop, B: Allocator + Copy>(
     started: &mut Started<S, MemoryDirectory<'a, B>>,
     directory: &mut MemoryDirectory<'a, B>,
+    wanted: Option<Place>,
     life: &mut Life,
 ) -> End {
     let before = started.rotation.files().last;
     let step = started
         .rotation
-        .step(&mut started.keeper, directory, None, 0);
+        .step(&mut started.keeper, directory, wanted, 0);
     let last = started.rotation.files().last;
     if last != before {
         directory.note_base(last, life.handled);
@@ -337,7 +359,7 @@ fn turns<'a, S: BatchStore + Drop, B: Allocator + Copy>(
     life: &mut Life,
 ) -> End {
     for _ in 0..steps {
-        let end = turn(started, directory, life);
+        let end = turn(started, directory, None, life);
         if end != End::Clean {
             return end;
         }
@@ -358,7 +380,7 @@ fn table_rounds<'a, S: BatchStore + Drop, B: Allocator + Copy>(
     };
     let mut out = Vec::new(alloc);
     for row in rounds {
-        let end = table_round(&mut started.keeper, (alloc, number), row, &mut out, life);
+        let end = table_round(started, directory, (alloc, number), row, &mut out, life);
         let end = match end {
             End::Clean => turns(started, directory, steps, life),
             other => other,
@@ -392,7 +414,7 @@ pub(crate) fn first_life<S: BatchStore + Drop, B: Allocator + Copy>(
         return life;
     };
     let kept = if table.1 > 0 { TURNED } else { UNTURNED };
-    match start::<S, _>(heap, directory, &config, kept) {
+    match start::<S, _, _>(heap, directory, &config, kept, &mut Unwatched) {
         Ok(mut started) => {
             life.starts(found_in_all(&started, directory));
             life.end = table_rounds(&mut started, directory, alloc, table, &mut life);

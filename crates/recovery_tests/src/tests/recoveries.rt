@@ -16,7 +16,7 @@ use std::alloc::{AllocError, Allocator};
 use std::cell::{Cell, RefCell};
 
 /// Rounds that are each committed before a reply leaves. The last two groups are of more than a sector in all.
-static COMMITTED: [Round; 6] = [
+pub(crate) static COMMITTED: [Round; 6] = [
     Round {
         exchanges: &[STORE],
         keeping: Keeping::Commit,
@@ -72,7 +72,7 @@ pub(crate) static APPENDED: [Round; 6] = [
 ];
 
 /// More calls than a life makes.
-const MOST_CALLS: u64 = 400;
+pub(crate) const MOST_CALLS: u64 = 600;
 
 /// So many steps behind each round make a snapshot whole, and remove the files that it takes the place of.
 pub(crate) const STEPS: u32 = 16;
@@ -98,7 +98,7 @@ pub(crate) struct Ended<A: Allocator + Copy> {
 
 impl<A: Allocator + Copy> Ended<A> {
     /// No life, and an empty directory.
-    fn none(alloc: A) -> Ended<A> {
+    pub(crate) fn none(alloc: A) -> Ended<A> {
         Ended {
             life: Life::new(),
             store: Store::new(alloc),
@@ -106,18 +106,18 @@ impl<A: Allocator + Copy> Ended<A> {
     }
 
     /// Whether another left the same and knows the same.
-    fn is_same(&self, other: &Ended<A>) -> bool {
+    pub(crate) fn is_same(&self, other: &Ended<A>) -> bool {
         self.life == other.life && self.store.is_same(&other.store)
     }
 
     /// Whether the call of this number was made.
-    fn has_made(&self, call: u64) -> bool {
+    pub(crate) fn has_made(&self, call: u64) -> bool {
         call <= self.store.calls()
     }
 
     /// Whether it ended as it has to where the call of this number fails: that it failed, if it was made. Where snapshots are
     /// taken, it may go on without one.
-    fn is_right(&self, failing: u64, steps: u32) -> bool {
+    pub(crate) fn is_right(&self, failing: u64, steps: u32) -> bool {
         let may_go_on = steps > 0 && self.life.end == End::Clean;
         if self.has_made(failing) {
             self.life.end == End::Failed || may_go_on
@@ -202,25 +202,38 @@ fn failing_second<A: Allocator + Copy>(
 ) -> Result<Ended<A>, AllocError> {
     let mut store = first.store.copy()?;
     store.fail_at(failing, Way::Last);
-    let store = RefCell::new(store);
-    let known = (story.alloc, story.known);
-    let killed = Bounds::killed(&first.life);
-    let life = life_of::<VecStore<A>, A>(story.alloc, &store, known, &killed);
-    Ok(Ended {
-        life,
-        store: store.into_inner(),
-    })
+    Ok(second_of(story, store, &Bounds::killed(&first.life)))
 }
 
-/// What a crash behind a second life leaves.
+/// A second life over files and names in which is what is within bounds.
+pub(crate) fn second_of<A: Allocator + Copy>(
+    story: &Story<'_, A>,
+    store: Store<A>,
+    bounds: &Bounds,
+) -> Ended<A> {
+    let store = RefCell::new(store);
+    let known = (story.alloc, story.known);
+    let life = life_of::<VecStore<A>, A>(story.alloc, &store, known, bounds);
+    Ended {
+        life,
+        store: store.into_inner(),
+    }
+}
+
+/// What a crash behind a second life leaves, which found what a kill of the first one leaves.
 fn bounds_behind(first: &Life, second: &Life) -> Bounds {
+    bounds_beyond(&Bounds::killed(first), &Bounds::crashed(first), second)
+}
+
+/// What a crash behind a second life leaves: what it found within bounds and asked; or, where it didn't begin, what is within others.
+pub(crate) fn bounds_beyond(found: &Bounds, unfound: &Bounds, second: &Life) -> Bounds {
     let place = match second.found {
-        Some(found) => Bounds::killed(first).place(found),
+        Some(frames) => found.place(frames),
         None => None,
     };
     match place {
         Some(place) => Bounds::behind(place, second),
-        None => Bounds::crashed(first),
+        None => *unfound,
     }
 }
 
@@ -285,8 +298,9 @@ fn both_calls<A: Allocator + Copy>(story: &Story<'_, A>) -> Result<u64, Wrong> {
 
 /// How calls fail, and how much of what a crash may leave is tried then. Of a call that fails alone only the life differs
 /// from that of the last one: it ends all the same.
-static WAYS: [(Way, Reach); 3] = [
+static WAYS: [(Way, Reach); 4] = [
     (Way::Last, Reach::Many),
+    (Way::Lost, Reach::Outermost),
     (Way::Alone, Reach::Kill),
     (Way::Untold, Reach::Outermost),
 ];
@@ -328,10 +342,10 @@ fn told<A: Allocator + Copy>(
 
 #[test]
 fn each_call_fails(rt: HostRuntime) {
-    // a start makes some twenty calls, and each of five groups an append and a sync
+    // a start with an empty directory makes more than forty calls, and each of five groups an append and a sync
     for rounds in [&COMMITTED, &APPENDED] {
         let told = told(rt.alloc(), (rounds, 0), false);
-        let is_right = matches!(told, Ok((calls, tried)) if 80 < calls && 300 < tried);
+        let is_right = matches!(told, Ok((calls, tried)) if 150 < calls && 5_000 < tried);
         assert!(rt; is_right, "{told:?}");
     }
 }
@@ -339,7 +353,7 @@ fn each_call_fails(rt: HostRuntime) {
 #[test]
 fn each_call_of_two_lives_fails(rt: HostRuntime) {
     let told = told(rt.alloc(), (&APPENDED, 0), true);
-    let is_right = matches!(told, Ok((calls, tried)) if 25 < calls && 100 < tried);
+    let is_right = matches!(told, Ok((calls, tried)) if 40 < calls && 4_000 < tried);
     assert!(rt; is_right, "{told:?}");
 }
 
@@ -347,7 +361,7 @@ fn each_call_of_two_lives_fails(rt: HostRuntime) {
 fn each_call_fails_beside_snapshots(rt: HostRuntime) {
     for rounds in [&COMMITTED, &APPENDED] {
         let told = told(rt.alloc(), (rounds, STEPS), false);
-        let is_right = matches!(told, Ok((calls, tried)) if 300 < calls && 900 < tried);
+        let is_right = matches!(told, Ok((calls, tried)) if 400 < calls && 20_000 < tried);
         assert!(rt; is_right, "{told:?}");
     }
 }
@@ -355,6 +369,6 @@ fn each_call_fails_beside_snapshots(rt: HostRuntime) {
 #[test]
 fn each_call_of_two_lives_fails_beside_snapshots(rt: HostRuntime) {
     let told = told(rt.alloc(), (&APPENDED, STEPS), true);
-    let is_right = matches!(told, Ok((calls, tried)) if 100 < calls && 400 < tried);
+    let is_right = matches!(told, Ok((calls, tried)) if 100 < calls && 5_000 < tried);
     assert!(rt; is_right, "{told:?}");
 }

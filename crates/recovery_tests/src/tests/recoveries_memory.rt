@@ -1,10 +1,10 @@
 //! A broker over a directory in memory, for which each allocation fails in turn: during its first start and rounds, and
-//! during a later one. A start that lacks memory leaves a directory that has files as it was; a round that lacks it isn't
-//! kept, or goes on; and the next start has the state behind what was kept.
+//! during a later one. A start that lacks memory leaves a directory that has files as it was, or with all that it read on the
+//! disk for certain; a round that lacks it isn't kept, or goes on; and the next start has the state behind what was kept.
 
 use crate::tests::known_replies::known_of;
 use crate::tests::later_lives::{Bounds, life_of};
-use crate::tests::left_behind::{Fault, Story, wrong_kill};
+use crate::tests::left_behind::{Fault, Story, wrong_kill, wrong_outermost};
 use crate::tests::lives::{End, Keeping, Life, Round};
 use crate::tests::recoveries::{APPENDED, Ended, STEPS, changes_in, failing_first, first_of};
 use memory_directories::{Store, Way};
@@ -35,8 +35,12 @@ static CHANGING: [Round; 3] = [
 /// More allocations than a life asks for.
 const MOST: u64 = 3_000;
 
-/// The call of a first life that appends the group before the last: those behind the third aren't synced.
-const LATE: u64 = 31;
+/// The call of a first life that appends the group before the last, which an append and a sync follow: the groups behind the third
+/// aren't synced then.
+fn late_call<A: Allocator + Copy>(alloc: A, table: (&[Round], u32)) -> u64 {
+    let whole = failing_first(alloc, table, 0, Way::Alone);
+    whole.store.calls().saturating_sub(2)
+}
 
 /// What came of lives of which each lacked memory once: how many ended for that, and how many went on.
 #[derive(Clone, Copy, Debug)]
@@ -61,7 +65,7 @@ impl Came {
 
     /// Whether some came of each.
     fn is_each(&self) -> bool {
-        self.unstarted > 10 && self.ended > 5 && self.done > 0
+        self.unstarted > 40 && self.ended > 10 && self.done > 0
     }
 
     /// Counts a life.
@@ -120,7 +124,22 @@ fn later_without<A: Allocator + Copy>(
     Ok((ended, heap.calls() >= refused))
 }
 
-/// What is wrong with such a life, and with what it leaves: all as it was, where there was no start.
+/// What is wrong where there was no start for lack of memory. The directory is as it was; or the last journal is settled, and
+/// the start lacked memory behind that: then all that it had read is found again, also behind a crash.
+fn wrong_unstarted<A: Allocator + Copy>(
+    story: &Story<'_, A>,
+    first: &Ended<A>,
+    later: &Ended<A>,
+) -> Option<Fault> {
+    let ended = wrong_life(&later.life, &[End::NoMemory]);
+    if ended.is_some() || later.store.is_same(&first.store) {
+        return ended;
+    }
+    let killed = Bounds::killed(&first.life);
+    wrong_kill(story, &later.store, &killed).or(wrong_outermost(story, &later.store, &killed))
+}
+
+/// What is wrong with such a life, and with what it leaves.
 fn wrong_later<A: Allocator + Copy>(
     story: &Story<'_, A>,
     first: &Ended<A>,
@@ -128,12 +147,7 @@ fn wrong_later<A: Allocator + Copy>(
 ) -> Option<Fault> {
     let killed = Bounds::killed(&first.life);
     let Some(found) = later.life.found else {
-        let is_right = later.life.end == End::NoMemory && later.store.is_same(&first.store);
-        return if is_right {
-            None
-        } else {
-            Some((None, 0, later.life.end))
-        };
+        return wrong_unstarted(story, first, later);
     };
     let fault = wrong_life(&later.life, &[End::Clean, End::NoMemory, End::OtherReply]);
     let bounds = match killed.place(found) {
@@ -176,8 +190,8 @@ fn all_later<A: Allocator + Copy>(story: &Story<'_, A>, first: &Ended<A>) -> Res
     Err((MOST, (None, 0, End::Clean)))
 }
 
-/// What comes of first lives over a table, each round with so many steps of snapshots behind it, or of lives over what a first one left: groups that aren't synced and, behind
-/// them, a half one.
+/// What comes of first lives over a table, each round with so many steps of snapshots behind it; or of lives over what a first
+/// one left: groups that aren't synced and, behind them, a half one.
 fn told<A: Allocator + Copy>(
     alloc: A,
     (rounds, steps): (&'static [Round], u32),
@@ -195,9 +209,10 @@ fn told<A: Allocator + Copy>(
         tried: &tried,
     };
     if of_later {
+        let late = late_call(alloc, (rounds, steps));
         all_later(
             &story,
-            &failing_first(alloc, (rounds, steps), LATE, Way::Alone),
+            &failing_first(alloc, (rounds, steps), late, Way::Alone),
         )
     } else {
         all_first(&story)
@@ -206,11 +221,21 @@ fn told<A: Allocator + Copy>(
 
 #[test]
 fn each_allocation_fails(rt: HostRuntime) {
-    let first = told(rt.alloc(), (&CHANGING, 0), false);
-    let beside = told(rt.alloc(), (&CHANGING, STEPS), false);
-    let later = told(rt.alloc(), (&APPENDED, 0), true);
-    for told in [first, beside, later] {
-        let is_right = matches!(told, Ok(came) if came.is_each());
-        assert!(rt; is_right, "{told:?}");
-    }
+    let told = told(rt.alloc(), (&CHANGING, 0), false);
+    let is_right = matches!(told, Ok(came) if came.is_each());
+    assert!(rt; is_right, "{told:?}");
+}
+
+#[test]
+fn each_allocation_fails_beside_snapshots(rt: HostRuntime) {
+    let told = told(rt.alloc(), (&CHANGING, STEPS), false);
+    let is_right = matches!(told, Ok(came) if came.is_each());
+    assert!(rt; is_right, "{told:?}");
+}
+
+#[test]
+fn each_allocation_of_a_later_life_fails(rt: HostRuntime) {
+    let told = told(rt.alloc(), (&APPENDED, 0), true);
+    let is_right = matches!(told, Ok(came) if came.is_each());
+    assert!(rt; is_right, "{told:?}");
 }
