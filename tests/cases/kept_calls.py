@@ -33,6 +33,7 @@ from cases.kept_runs import (
     recovered,
     write,
 )
+from cases.kept_watched import by_path_or_handle, name_in
 from cases.started import CannotBeTried, Fault, holds, is_soon, reply, request, same
 from models import kept_files
 
@@ -82,7 +83,7 @@ class Traced(Kept):
         kind, opened = KINDS[call], OPEN_FILE.match(arguments)
         path = opened[1] if opened else ""
         if kind in ("make", "rename", "remove"):
-            name = " ".join(os.path.relpath(it, self.folder) for it in NAMES.findall(arguments))
+            name = " ".join(name_in(self.folder, it) for it in NAMES.findall(arguments))
         elif kind == "write" and '"listening' in arguments:
             name = "listening"
         elif path.startswith(("socket:", "TCP")):
@@ -263,8 +264,7 @@ class Failing(Kept):
     def __init__(self, program, folder, call, error, number, names=("", JOURNAL, SNAPSHOT, IN_THE_MAKING, ".."), arguments=(), **ways):
         super().__init__(shutil.which("strace"), folder, *arguments, **ways)
         self.trace = f"{os.path.dirname(folder)}/calls"
-        paths = [it for name in names for it in ("-P", os.path.normpath(f"{folder}/{name}"))]
-        told = ["-D", "-f", "-o", self.trace, *paths, "-e", f"trace={call}", "-e", f"inject={call}:error={error}:when={number}"]
+        told = ["-D", "-f", "-o", self.trace, *by_path_or_handle(folder, names), "-e", f"trace={call}", "-e", f"inject={call}:error={error}:when={number}"]
         self.command = ["strace", *told, program, *self.command[1:]]
 
     def has_failed(self):
@@ -376,11 +376,11 @@ def each_call_of_snapshots_fails(program):
 
 
 # calls of a snapshot that fail, by their number or from a number on, on some names; the line that is said, and the names that are there
-# then where the broker goes on. Of `fsync` on the directory the first is the start's, the second for the next journal's name, and then
-# for that it is gone, or for the snapshot's name.
+# then where the broker goes on. Of `fsync` on the directory the first is the start's, the second for the next journal's name, and the
+# third for the snapshot's name. One that fails is never asked again: the broker ends.
 OF_A_SNAPSHOT = [
     ("fdatasync", 1, ["journal.2"], "snapshot: journal.2: ", [JOURNAL, SNAPSHOT]),
-    ("fsync", 2, [""], "snapshot: journal.2: ", [JOURNAL, SNAPSHOT]),
+    ("fsync", 2, [""], "kbroker: {}: ", None),
     ("fsync", "2+", [""], "kbroker: {}: ", None),
     ("fdatasync,unlink", "1+", ["journal.2"], "kbroker: {}/journal.2: ", None),
     ("pwrite64", 1, [IN_THE_MAKING], "snapshot: snapshot.tmp: ", [JOURNAL, "journal.2", SNAPSHOT]),
@@ -424,7 +424,7 @@ def snapshots_left(program):
 # calls of a start with --fold, or with a partition more, that fail behind what it recovered, and the line
 OF_A_FOLD = [
     ("fdatasync", 1, ["journal.2"], "kbroker: {}/journal.2: "),
-    ("fsync", 2, [""], "kbroker: {}/journal.2: "),
+    ("fsync", 2, [""], "kbroker: {}: "),
     ("pwrite64", 1, [IN_THE_MAKING], "kbroker: {}/snapshot.tmp: "),
     ("pwrite64", 3, [IN_THE_MAKING], "kbroker: {}/snapshot.tmp: "),
     ("fdatasync", 2, [IN_THE_MAKING], "kbroker: {}/snapshot.tmp: "),
@@ -470,8 +470,8 @@ def answered_behind_a_snapshot(program):
 
 
 class KilledAt(Kept):
-    """A program that is killed as it comes to its `fsync` of this number: 1 of a new directory, 2 of the one it stands in, 3 of the
-    journal's name, 4 of the snapshot's."""
+    """A program that is killed as it comes to its `fsync` of this number: 1 of a new directory, with the journal's name, 2 of the one it
+    stands in, 3 of the snapshot's name."""
 
     def __init__(self, program, folder, number):
         super().__init__(shutil.which("strace"), folder)
@@ -481,7 +481,7 @@ class KilledAt(Kept):
 
 def names_synced_in_the_end(program):
     """What a start that was killed left unsynced the next one syncs before it listens: the directory's own name, and the snapshot's."""
-    for number, wanted in ((1, ("sync", "..")), (4, ("sync", "."))):
+    for number, wanted in ((1, ("sync", "..")), (2, ("sync", "..")), (3, ("sync", "."))):
         with new_folder() as folder:
             try:
                 with KilledAt(program, folder, number):

@@ -2,13 +2,11 @@
 
 What must come is worked by hand, or by the plain models of tests/models/broker.py and tests/models/kept_files.py.
 """
-import contextlib
 import functools
 import os
 import random
 import resource
 import shlex
-import shutil
 import signal
 import socket
 import struct
@@ -17,7 +15,8 @@ import tempfile
 import threading
 import time
 
-from cases import kept_calls, kept_damage, kept_kills, kept_rotations, kept_rounds, kept_stored
+from cases import kept_calls, kept_checks, kept_damage, kept_disks, kept_kills, kept_moved, kept_rotations, kept_rounds, kept_stored
+from cases import kept_times
 from cases import limits, many_clients, random_clients, waiting
 from cases.kept_runs import (
     ANOTHER,
@@ -49,6 +48,7 @@ from cases.kept_runs import (
     recovered,
     refusal,
     refused,
+    run_by_another,
     write,
 )
 from cases.many_clients import frame
@@ -330,6 +330,9 @@ def faulty_arguments(program):
         for words in (["--sync", "always"], ["--data", ""], ["--fold"], ["--snapshot-after", "0"], ["--snapshot-after", "x"]):
             status, out, err = ends_by_itself(program, *words, "t:1")
             same(f"what comes of {words} alone", (status, out, err[:7]), (ANOTHER, "", "error: "))
+        for words, option in ((["--sync", "40"], "--sync <WHEN>"), (["--fold"], "--fold")):
+            said = ends_by_itself(program, *words, "t:1")
+            same(f"what is said of {words} alone", said, (ANOTHER, "", f"error: '{option}' needs '--data <DIR>'\n"))
         same("the directory", os.path.exists(folder), False)
 
 
@@ -454,21 +457,6 @@ def begun(broker, listening, refusals):
         listening.append(broker.__enter__())
     except Ended as ended:
         refusals.append((ended.status, ended.lines))
-
-
-NOBODY = 65534
-
-
-@contextlib.contextmanager
-def run_by_another(program, folder):
-    """A program that another user may run; the folder's parents let everybody in."""
-    parent = os.path.dirname(folder)
-    os.chmod(parent, 0o755)
-    copy = f"{parent}/kbroker"
-    shutil.copy(program, copy)
-    os.chmod(copy, 0o755)
-    yield copy, NOBODY if os.getuid() == 0 else None
-    os.chmod(folder, 0o755)
 
 
 def of_another_user(program):
@@ -782,5 +770,9 @@ CASES = [
     *kept_rounds.CASES,
     *kept_stored.CASES,
     *kept_rotations.CASES,
+    *kept_disks.CASES,
+    *kept_moved.CASES,
+    *kept_times.CASES,
+    *kept_checks.CASES,
     *kept_kills.CASES,
 ]

@@ -18,6 +18,7 @@ from cases.kept_runs import (
     Kept,
     all_of,
     another,
+    checked,
     content,
     damaged,
     has_state,
@@ -29,6 +30,7 @@ from cases.kept_runs import (
     new_folder,
     recovered,
     refused,
+    would,
     write,
 )
 from cases.many_clients import frame
@@ -65,8 +67,10 @@ def leaves(program, folder, what, journal, count):
     kept_frames = [it for round_ in ROUNDS[:count] for it in round_]
     end = [FIRST, SECOND, LAST, len(SOUND)][count]
     lay(folder, journal)
+    line = recovered(len(kept_frames), len(journal) - end, end)
+    same(f"the line of a check, of {what}", checked(program, folder), would(line))
     with Kept(program, folder) as broker:
-        same(f"the line, of {what}", broker.said(), recovered(len(kept_frames), len(journal) - end, end))
+        same(f"the line, of {what}", broker.said(), line)
         has_state(broker, kept_files.node_after(kept_frames, NAMES_OF_TOPICS), what)
         same(f"the journal behind the start, of {what}", content(folder, JOURNAL), journal[:end])
 
@@ -276,8 +280,10 @@ def leaves_alike(program, folder, what, journal, count):
     """As `leaves`, of a journal of such groups; what these lead to isn't looked at."""
     end = ALIKE_AT[count]
     lay(folder, journal)
+    line = recovered(count, len(journal) - end, end)
+    same(f"the line of a check, of {what}", checked(program, folder), would(line))
     with Kept(program, folder) as broker:
-        same(f"the line, of {what}", broker.said(), recovered(count, len(journal) - end, end))
+        same(f"the line, of {what}", broker.said(), line)
     same(f"the journal behind the start, of {what}", content(folder, JOURNAL), journal[:end])
 
 

@@ -10,12 +10,14 @@ import contextlib
 import itertools
 import os
 import random
+import re
 import select
 import struct
 import threading
 import time
 
-from cases.kept_runs import WAYS, Kept, found, new, new_folder
+from cases.kept_runs import FAILED, WAYS, Ended, Kept, found, new, new_folder
+from cases.kept_watched import fill, is_small, left_of
 from cases.random_clients import CLEAN, COMMIT, EXPORT, FETCH, FORGET, OFFSETS, PRODUCE, PRODUCER_ID, TRIM, framed
 from cases.started import RANDOM, SECONDS, Fault, holds, same, slow
 from encoders import batches, copies
@@ -35,6 +37,8 @@ OF_OWNERS = 24  # partitions
 TOPICS = (f"s:{PARTITIONS}", f"o:{OF_OWNERS}")
 OWN = OF_OWNERS // OWNERS  # partitions of each
 WHOLE = 8_000_000  # bytes of a Fetch that asks for all
+ROOM = (60_000, 1_500_000)  # bytes, from which to which a directory on a small disk has room
+NO_ROOM = re.compile(r"kbroker: .*: no storage space")
 
 
 # ---- what is known of a partition that all produce to
@@ -435,7 +439,8 @@ class Reader:
 class World:
     """What is known of one directory's broker, over all of its lives."""
 
-    def __init__(self, program, folder, sync, seed, directory, after=None):
+    def __init__(self, program, folder, sync, seed, directory, after=None, may_be_full=False):
+        self.may_be_full, self.ends = may_be_full, 0  # the ends for which there was no room
         self.program, self.folder, self.sync, self.seed, self.directory = program, folder, sync, f"{seed} {directory}", directory
         self.after, self.snapshot = after, 1
         self.drawn, self.logs, self.ids = random.Random(self.seed), [Log(index) for index in range(PARTITIONS)], set()
@@ -490,8 +495,22 @@ class World:
         after = ["--snapshot-after", str(self.after)] if self.after else []
         return Kept(self.program, self.folder, *after, *arguments, sync=self.sync, topics=TOPICS)
 
+    def is_full(self, status, lines):
+        """Whether it ended since there was no room, which it may on a small disk."""
+        is_so = self.may_be_full and status == FAILED and bool(lines) and NO_ROOM.fullmatch(lines[-1]) is not None
+        self.ends += is_so
+        return is_so
+
     def live(self):
         """Starts it, looks at what there is, lets all ask, and kills it."""
+        try:
+            self.live_on()
+        except Ended as ended:
+            if not self.is_full(ended.status, ended.lines):
+                raise
+        self.kills += 1
+
+    def live_on(self):
         with self.kept() as started:
             self.check(started)
             self.is_new = False
@@ -507,8 +526,10 @@ class World:
             killer.join()
             for it in self.askers:
                 it.client.close()
-            same("the status", started.process.wait(SECONDS), -9)
-        self.kills += 1
+            status = started.process.wait(SECONDS)
+            if status != -9:
+                started.reader.join()
+                holds(f"it ended with status {status}: {started.lines[-3:]}", self.is_full(status, started.lines))
 
     def drive(self, started, most):
         """Lets all ask until it is gone, or until there were so many responses, and kills it then."""
@@ -541,6 +562,8 @@ class World:
         path = f"{self.folder}/journal.{max(numbers, default=1)}"
         if self.is_new or self.drawn.random() < 0.6 or os.path.getsize(path) < kept_files.HEAD_SIZE:
             return
+        if self.may_be_full and left_of(self.folder) < 100_000:
+            return
         with open(path, "r+b") as file:
             old = file.read(300)
             file.seek(0, os.SEEK_END)
@@ -552,26 +575,40 @@ class World:
                 self.end_early()
             self.live()
             self.spoil()
+        with contextlib.suppress(FileNotFoundError):
+            os.remove(f"{os.path.dirname(self.folder)}/filler")  # (that there be room for the last start)
         with self.kept() as started:
             self.check(started)
 
 
-def run(program, kills, seed, seconds, after=None):
-    """Kills it so often, or for so long, in directories with the ways of syncing by turns, and says what came of it."""
-    late, done, answered, ids, rotations = time.monotonic() + seconds, 0, collections.Counter(), 0, 0
+@contextlib.contextmanager
+def folder_of(seed, directory, there):
+    """A directory's path; on a small disk it has room for some hundred kB, by the luck of the draw."""
+    with new_folder(there) as folder:
+        if there is not None and is_small(there):
+            fill(os.path.dirname(folder), random.Random(f"{seed} {directory} room").randrange(*ROOM))
+        yield folder
+
+
+def run(program, kills, seed, seconds, after=None, there=None):
+    """Kills it so often, or for so long, in directories with the ways of syncing by turns, and says what came of it. The directories stand
+    in the folder `there`, if one is given, which may be a small disk."""
+    late, done, answered, ids, rotations, full = time.monotonic() + seconds, 0, collections.Counter(), 0, 0, 0
     for directory in itertools.count():
         if done >= kills or time.monotonic() > late:
             break
-        with new_folder() as folder:
-            world = World(program, folder, WAYS[directory % len(WAYS)], seed, directory, after)
+        with folder_of(seed, directory, there) as folder:
+            world = World(program, folder, WAYS[directory % len(WAYS)], seed, directory, after, there is not None)
             try:
                 world.run(min(KILLS_OF_ONE, kills - done))
             except Fault as why:
                 raise Fault(f"directory {directory}, --sync {world.sync}, kill {world.kills}, seed {seed}: {why}") from None
             done, ids, rotations = done + world.kills, ids + len(world.ids), rotations + world.snapshot - 1
             answered[world.sync] += world.answered
+            full += world.ends
     of_each = ", ".join(f"{count} with {sync}" for sync, count in answered.items())
-    return f"{done} kills of {directory} directories; answered: {of_each}; {ids} producer ids; {rotations} snapshots"
+    without_room = f"; {full} ends without room" if there is not None else ""
+    return f"{done} kills of {directory} directories; answered: {of_each}; {ids} producer ids{without_room}; {rotations} snapshots"
 
 
 @slow(RANDOM)

@@ -22,6 +22,7 @@ from cases.kept_runs import (
     acknowledged_of,
     all_of,
     another,
+    checked,
     content,
     damaged,
     folded,
@@ -31,8 +32,10 @@ from cases.kept_runs import (
     missing,
     new,
     new_folder,
+    plainly,
     recovered,
     refused,
+    would,
     write,
 )
 from cases.started import Fault, ends_by_itself, holds, is_soon, reply, request, same
@@ -66,7 +69,8 @@ def names_in(folder):
 
 
 def state_behind(program, folder, frames, said, names, *arguments):
-    """A start must say this, be in the state behind these frames, and have these files then."""
+    """A start must say this, be in the state behind these frames, and have these files then; and a check says it before."""
+    same("the line of a check", checked(program, folder), would(said))
     with Kept(program, folder, *arguments) as broker:
         same("the line", broker.said(), said)
         has_state(broker, kept_files.node_after(frames, NAMES), "the state")
@@ -193,7 +197,7 @@ def fold(program, folder, *words, topics=TOPICS):
     """The lines of a start that takes a snapshot and ends."""
     status, out, err = ends_by_itself(program, "--data", folder, "--fold", *words, *topics)
     same("the status and the output", (status, out), (0, ""))
-    return err.splitlines()
+    return plainly(err.splitlines())
 
 
 def folded_once(program):
@@ -370,7 +374,8 @@ def taken_when_due(program):
         laid(folder, {"snapshot.3": kept_files.snapshot_of(kept_files.node_after([], NAMES), NAMES, 3), **files, "journal.5": journal(5)})
         with Kept(program, folder, "--snapshot-after", "2000") as broker:
             story.tell(broker, [])
-            holds(f"the names of a start on two journals with enough: {names_in(folder)}", stands_at(folder, 6))
+            there = stands_at(folder, 5)  # (the last journal has no group)
+            holds(f"the names of a start on two journals with enough: {names_in(folder)}", there)
 
 
 def missed_and_tried_again(program):

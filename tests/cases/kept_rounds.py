@@ -129,11 +129,11 @@ def much_in_a_round(program):
 
 
 class Failing(Kept):
-    """A program whose `fdatasync` fails from the second one on: the first is that of a start on files that are there."""
+    """A program whose `fdatasync` of the journal fails from the second one on: the first is that of a start on files that are there."""
 
     def __init__(self, program, folder, **ways):
         super().__init__(shutil.which("strace"), folder, **ways)
-        told = ["-D", "-f", "-o", "/dev/null", "-e", "trace=fdatasync", "-e", "inject=fdatasync:error=EIO:when=2+"]
+        told = ["-D", "-f", "-o", "/dev/null", "-P", f"{folder}/{JOURNAL}", "-e", "trace=fdatasync", "-e", "inject=fdatasync:error=EIO:when=2+"]
         self.command = ["strace", *told, program, *self.command[1:]]
 
 

@@ -6,9 +6,11 @@ import contextlib
 import os
 import re
 import resource
+import shutil
 import signal
 import stat
 import struct
+import subprocess
 import tempfile
 
 from cases.started import SECONDS, Ends, Fault, Started, holds, is_soon, request, same
@@ -72,6 +74,14 @@ def in_use(folder):
 
 OUT_OF_MEMORY = "kbroker: out of memory"
 
+# what may be said at any time, on a slow machine too: how far a start is, a snapshot that was taken or not, and a sync that took long
+MEANWHILE = re.compile(r"recovering .*|snapshot( \d+)?: .*|(journal|snapshot)\.\w+: a sync took .*|a sync took .*")
+
+
+def plainly(lines):
+    """The lines of a start that are none of those that may be said at any time."""
+    return [it for it in lines if not MEANWHILE.fullmatch(it)]
+
 
 # ---- the program
 
@@ -109,12 +119,12 @@ class Kept(Started):
         try:
             return super().first_line()
         except Fault:
-            raise Ended(self.process.returncode, self.lines) from None
+            raise Ended(self.process.returncode, plainly(self.lines)) from None
 
     def said(self):
-        """The one line that it says before it listens."""
-        is_soon(lambda: self.lines)
-        others = Ends(self.lines).others
+        """The one line that it says before it listens, but for those that may be said at any time."""
+        is_soon(lambda: plainly(self.lines))
+        others = plainly(Ends(self.lines).others)
         holds(f"not one line at the start: {others}", len(others) == 1)
         return others[0]
 
@@ -137,19 +147,36 @@ def refusal(program, folder, *arguments, **ways):
 
 
 def refused(program, folder, status, line, *arguments, **ways):
-    """A start must be refused with this status and line, and leave the directory as it was."""
+    """A start must be refused with this status and line, and leave the directory as it was. Where that is for its files, a check says the
+    same."""
     before = all_of(folder)
     same(f"the refusal of {arguments}", refusal(program, folder, *arguments, **ways), (status, line))
     same("the directory behind a refusal", all_of(folder), before)
+    if status == REFUSED:
+        same("the status and the line of a check", checked(program, folder), (status, line))
+        same("the directory behind a check", all_of(folder), before)
+
+
+def checked(program, folder):
+    """The status of a check, and its last line: of what a start would do, or why it would refuse the directory."""
+    ways = {"stdin": subprocess.DEVNULL, "stdout": subprocess.PIPE, "stderr": subprocess.PIPE, "timeout": SECONDS}
+    ran = subprocess.run([program, "check", folder], **ways)
+    lines = (ran.stderr if ran.returncode else ran.stdout).decode("ascii", "replace").splitlines()
+    return ran.returncode, lines[-1] if lines else None
+
+
+def would(line):
+    """What a check says where a start says this."""
+    return 0, f"a start would {line.replace('recovered', 'recover', 1)}"
 
 
 # ---- directories
 
 
 @contextlib.contextmanager
-def new_folder():
-    """The path of a directory that isn't there yet, of which all goes at the end."""
-    with tempfile.TemporaryDirectory() as parent:
+def new_folder(there=None):
+    """The path of a directory that isn't there yet, of which all goes at the end; it stands in a folder that is there, if one is given."""
+    with tempfile.TemporaryDirectory(dir=there) as parent:
         yield f"{parent}/data"
 
 
@@ -189,6 +216,21 @@ def lay(folder, journal, topics=TOPICS, **snapshot):
         os.remove(os.path.join(os.fsencode(folder), name))
     write(folder, SNAPSHOT, kept_files.snapshot(kept_files.topics_of(topics), **snapshot))
     write(folder, JOURNAL, journal)
+
+
+NOBODY = 65534
+
+
+@contextlib.contextmanager
+def run_by_another(program, folder):
+    """A program that another user may run; the folder's parents let everybody in."""
+    parent = os.path.dirname(folder)
+    os.chmod(parent, 0o755)
+    copy = f"{parent}/kbroker"
+    shutil.copy(program, copy)
+    os.chmod(copy, 0o755)
+    yield copy, NOBODY if os.getuid() == 0 else None
+    os.chmod(folder, 0o755)
 
 
 # ---- what it holds
