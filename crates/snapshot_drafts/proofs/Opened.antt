@@ -1,5 +1,5 @@
 -- A draft that is begun for what a broker holds, and one that is finished.
-use Rattle.std.proofs.Common.{◌≡◌, ℕ, ℤ, pos, ◌+◌, ◌<◌, true, List, [], ◌∷◌, ◌++◌, length, Option, Some, refl, ap, ◌∙◌, subst}
+use Rattle.std.proofs.Common.{◌≡◌, ℕ, pos, ◌+◌, ◌<◌, true, List, [], ◌∷◌, ◌++◌, length, Option, Some, refl, ap, ◌∙◌, subst}
 use Rattle.std.specs.Prelude.{IfSome, map, is_some, get_or, slice_get}
 use Rattle.std.specs.List.{concat}
 use Rattle.std.specs.Option.{option_map}
@@ -9,8 +9,8 @@ use Rattle.copy_images.specs.Images.{image_of}
 use Rattle.broker_state.specs.declared.place.Place.{Place}
 use Rattle.broker_state.specs.State.{Topic, State, partition_of}
 use Rattle.broker_state.specs.Parts.{TopicParts, topic_contents}
-use Rattle.snapshots.specs.Heads.{head_bytes}
-use Rattle.state_snapshots.specs.Snapshots.{state_said, snapshot_bytes}
+use Rattle.snapshots.specs.declared.writing.SnapshotId.{SnapshotId}
+use Rattle.state_snapshots.specs.Snapshots.{state_head, snapshot_bytes}
 use Rattle.snapshot_drafts.specs.declared.slots.Slot.{Slot}
 use Rattle.snapshot_drafts.specs.Files.{with_bytes}
 use Rattle.snapshot_drafts.specs.Slots.{has_missing, part_in, new_slots, new_topics}
@@ -55,11 +55,11 @@ module _ (slots : List (List Slot)) (start : ℕ) (head : List ℕ) (ts : List T
       ∙ part_missing (length head) (all_images s) place
       ∙ part_known (λ (t : Topic). t.partitions) image_of s.topics place
 
-pub state_begun : {F : Type 0} (seen : F → Option (List ℕ)) (number told : ℤ) (s : State) (old new : F) (d : DraftState F) (slots : List (List Slot)) (size start : ℕ) (head bytes : List ℕ) (ts : List TopicParts)
-    → d ≡ record { file = new; topics = slots; size = size } → seen new ≡ option_map (with_bytes 0 bytes) (seen old) → bytes ≡ head → told ≡ number → head ≡ head_bytes (state_said told s) → start ≡ length head
-    → map topic_contents ts ≡ s.topics → slots ≡ new_topics start (map images ts) → size ≡ start + sum_all (map images ts) → IfSome (seen old) (λ file. file ≡ []) → IsDraftOf seen number s d
-state_begun seen number told s old new d slots size start head bytes ts made written same number_is is at are placed ends none =
-    subst (λ (h : List ℕ). HasParts seen h (all_images s) d) (is ∙ ap (λ (n : ℤ). head_bytes (state_said n s)) number_is)
+pub state_begun : {F : Type 0} (seen : F → Option (List ℕ)) (id : SnapshotId) (s : State) (old new : F) (d : DraftState F) (slots : List (List Slot)) (size start : ℕ) (head bytes : List ℕ) (ts : List TopicParts)
+    → d ≡ record { file = new; topics = slots; size = size } → seen new ≡ option_map (with_bytes 0 bytes) (seen old) → bytes ≡ head → head ≡ state_head id s → start ≡ length head
+    → map topic_contents ts ≡ s.topics → slots ≡ new_topics start (map images ts) → size ≡ start + sum_all (map images ts) → IfSome (seen old) (λ file. file ≡ []) → IsDraftOf seen id s d
+state_begun seen id s old new d slots size start head bytes ts made written same is at are placed ends none =
+    subst (λ (h : List ℕ). HasParts seen h (all_images s) d) is
     (draft_begun seen head (all_images s) old d
     (ap (λ d. seen d.file) made ∙ written ∙ ap (λ (l : List ℕ). option_map (with_bytes 0 l) (seen old)) same)
     (ap (λ d. d.topics) made ∙ slots_here slots start head ts s at are placed)
@@ -72,5 +72,5 @@ state_missing s new d slots size start head ts made at are placed place =
     ap (λ d. is_missing d place) made ∙ missing_here slots start head ts s at are placed place
 
 -- the whole file is the snapshot
-pub whole_is : (number : ℤ) (s : State) → whole_of (head_bytes (state_said number s)) (all_images s) ≡ snapshot_bytes number s
-whole_is number s = ap (λ (l : List ℕ). head_bytes (state_said number s) ++ l) (whole_images (λ (t : Topic). t.partitions) image_of s.topics)
+pub whole_is : (id : SnapshotId) (s : State) → whole_of (state_head id s) (all_images s) ≡ snapshot_bytes id s
+whole_is id s = ap (λ (l : List ℕ). state_head id s ++ l) (whole_images (λ (t : Topic). t.partitions) image_of s.topics)

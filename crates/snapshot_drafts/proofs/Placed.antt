@@ -11,8 +11,8 @@ use Rattle.broker_state.specs.State.{Topic, State, topic_of, partition_of, parti
 use Rattle.broker_state.specs.Parts.{TopicParts, topic_contents}
 use Rattle.broker_state.specs.Places.{IsPlaceOf}
 use Rattle.broker_state.proofs.PlacedTopics.{first_at}
-use Rattle.snapshots.specs.Heads.{head_bytes}
-use Rattle.state_snapshots.specs.Snapshots.{state_said}
+use Rattle.snapshots.specs.declared.writing.SnapshotId.{SnapshotId}
+use Rattle.state_snapshots.specs.Snapshots.{state_head}
 use Rattle.snapshot_drafts.specs.Parts.{DraftState, is_missing}
 use Rattle.snapshot_drafts.specs.Drafts.{IsDraftOf, content_in, partition_images}
 use Rattle.snapshot_drafts.proofs.Whole.{part_known}
@@ -43,7 +43,7 @@ indexed_content s ts place t c are low at is =
     by_topic s place ∙ ap (option_and_then (partition_of (pos place.partition))) here ∙ is
 
 -- a partition whose image is missing is one that the broker has
-pub missing_is_there : {F : Type 0} (seen : F → Option (List ℕ)) (number : ℤ) (base : State) (d : DraftState F) (place : Place) → IsDraftOf seen number base d → is_missing d place ≡ true → is_some (content_in base place) ≡ true
-missing_is_there seen number base d place is missing =
+pub missing_is_there : {F : Type 0} (seen : F → Option (List ℕ)) (id : SnapshotId) (base : State) (d : DraftState F) (place : Place) → IsDraftOf seen id base d → is_missing d place ≡ true → is_some (content_in base place) ≡ true
+missing_is_there seen id base d place is missing =
     sym (part_known (λ (t : Topic). t.partitions) image_of base.topics place)
-    ∙ part_is_there (seen d.file) (length (head_bytes (state_said number base))) (map partition_images base.topics) d.topics place.topic place.partition is.slots missing
+    ∙ part_is_there (seen d.file) (length (state_head id base)) (map partition_images base.topics) d.topics place.topic place.partition is.slots missing

@@ -32,6 +32,9 @@ part_there {X = X} topics place x there = by (slice_get topics place.topic) refl
 pub found_missing : (topics : List (List Slot)) (place : Place) (slot : Slot) → part_in topics place ≡ Some slot → slot.missing ≡ true → has_missing (part_in topics place) ≡ true
 found_missing topics place slot there missing = ap has_missing there ∙ missing
 
+pub of_this_size : (topics : List (List Slot)) (place : Place) (slot : Slot) (image : List ℕ) → part_in topics place ≡ Some slot → slot.size ≡ length image → IfSome (part_in topics place) (λ s. s.size ≡ length image)
+of_this_size topics place slot image there is = subst (λ (o : Option Slot). IfSome o (λ s. s.size ≡ length image)) (sym there) is
+
 set_here : {X : Type 0} (xs : List X) (i : ℕ) (x y : X) → slice_get xs i ≡ Some x → slice_get (set xs i y) i ≡ Some y
 set_here [] i x y there = absurd (none-some _ there)
 set_here (z ∷ xs) zero x y there = refl

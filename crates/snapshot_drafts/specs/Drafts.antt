@@ -1,11 +1,11 @@
 -- A snapshot in the making, of what a broker held when it began.
-use Rattle.std.specs.Prelude.{◌≡◌, ◌≢◌, ℕ, ℤ, ⊤, true, List, length, map, Option, IfSome}
+use Rattle.std.specs.Prelude.{◌≡◌, ◌≢◌, ℕ, ⊤, true, List, length, map, Option, IfSome}
 use Rattle.content.specs.Content.{Content}
 use Rattle.copy_images.specs.Images.{image_of}
 use Rattle.broker_state.specs.declared.place.Place.{Place}
 use Rattle.broker_state.specs.State.{Topic, State}
-use Rattle.snapshots.specs.Heads.{head_bytes}
-use Rattle.state_snapshots.specs.Snapshots.{state_said}
+use Rattle.snapshots.specs.declared.writing.SnapshotId.{SnapshotId}
+use Rattle.state_snapshots.specs.Snapshots.{state_head}
 use Rattle.snapshot_drafts.specs.declared.error.DraftError.{DraftError}
 use Rattle.snapshot_drafts.specs.declared.error.DraftError.TheVariants.{OutOfMemory, OtherSize, Unfinished, OnDisk}
 use Rattle.snapshot_drafts.specs.Slots.{part_in}
@@ -24,8 +24,8 @@ all_images s = map partition_images s.topics
 
 -- The draft is one of the snapshot of what a broker held (`base`): its file begins with the head of that, and each image that
 -- isn't missing is that of what the broker held, and stands at its place.
-abbrev pub IsDraftOf : {F : Type 0} (seen : F → Option (List ℕ)) (number : ℤ) (base : State) → DraftState F → Type 0
-IsDraftOf seen number base d = HasParts seen (head_bytes (state_said number base)) (all_images base) d
+abbrev pub IsDraftOf : {F : Type 0} (seen : F → Option (List ℕ)) (id : SnapshotId) (base : State) → DraftState F → Type 0
+IsDraftOf seen id base d = HasParts seen (state_head id base) (all_images base) d
 
 -- Why the image of a partition isn't written.
 abbrev pub RefusesImage : {F : Type 0} → DraftState F → Place → (image : List ℕ) → DraftError → Type 0

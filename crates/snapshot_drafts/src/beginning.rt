@@ -16,6 +16,7 @@ use crate::slots::{Slot, TopicSlots};
 use broker_state::{BrokerState, TopicLogs};
 use copy_images::{PartitionLog, image_size};
 use segment::BatchStore;
+use snapshots::SnapshotId;
 use state_snapshots::head_of;
 use std::alloc::{AllocError, Allocator};
 
@@ -89,15 +90,16 @@ impl<F: DraftFile + Drop, A: Allocator + Copy> Draft<F, A> {
     pub fn begin<S: BatchStore>(
         alloc: A,
         mut file: F,
-        number: i64,
+        id: SnapshotId,
         state: &BrokerState<S>,
     ) -> Result<Draft<F, A>, DraftError>
         ensures begins { IfOk result (λ draft. IfSome (F.seen file) (λ bytes. bytes ≡ [])
-            → IsDraftOf F.seen number state.now draft) }
+            → IsDraftOf F.seen id state.now draft) }
         ensures misses_all { IfOk result (λ draft. (place : Place)
             → is_missing draft place ≡ is_some (content_in state.now place)) }
+        ensures is_the_one { IfOk result (λ draft. F.number draft.file ≡ F.number file) }
     {
-        let head = head_of(alloc, number, state)?;
+        let head = head_of(alloc, id, state)?;
         let (topics, size) = slots_of_all(alloc, state.topics(), head.len() as u64)?;
         file.write_at(0, &head)?;
         Ok(Draft::new(file, topics, size))

@@ -77,6 +77,7 @@ impl<F: DraftFile + Drop, A: Allocator + Copy> Draft<F, A> {
         requires { part_in self.old.topics place ≡ Some slot }
         ensures puts { OnOk result (PutsImage F.seen self.old place slot image.now self.new) }
         ensures syncs { OnOk result (F.synced self.new.file ≡ F.seen self.new.file) }
+        ensures is_the_one { F.number self.new.file ≡ F.number self.old.file }
     {
         self.file.write_at(slot.at, image)?;
         self.file.sync()?;
@@ -97,6 +98,7 @@ impl<F: DraftFile + Drop, A: Allocator + Copy> Draft<F, A> {
             → IfOk result (λ file. IfSome (F.seen file) (λ bytes. bytes ≡ whole_of head topics)) }
         ensures syncs { IfOk result (λ file. F.synced file ≡ F.seen file) }
         ensures none { OnOk result ((place : Place) → is_missing self place ≡ false) }
+        ensures is_the_one { IfOk result (λ file. F.number file ≡ F.number self.file) }
         ensures refuses { IsErrOf result DraftError.Unfinished
             → (place : Place) × (is_missing self place ≡ true) }
     {

@@ -17,14 +17,19 @@ pub trait DraftFile {
     /// The bytes that are on the disk for certain, where that is known.
     ghost synced: { Self → Option (List ℕ) };
 
+    /// Which file it is, of those that were made as it was.
+    ghost number: { Self → ℕ };
+
     /// Writes all of the bytes at a byte offset. They replace what stands there; what is missing before them
     /// is zeros.
     fn write_at(&mut self, at: u64, bytes: &[u8]) -> io::Result<()>
-        ensures { OnOk result
-            (seen self.new ≡ option_map (with_bytes at bytes.now) (seen self.old)) };
+        ensures writes { OnOk result
+            (seen self.new ≡ option_map (with_bytes at bytes.now) (seen self.old)) }
+        ensures is_the_one { number self.new ≡ number self.old };
 
     /// After it, what a read gives is on the disk.
     fn sync(&mut self) -> io::Result<()>
         ensures keeps { OnOk result (seen self.new ≡ seen self.old) }
-        ensures durable { OnOk result (synced self.new ≡ seen self.new) };
+        ensures durable { OnOk result (synced self.new ≡ seen self.new) }
+        ensures is_the_one { number self.new ≡ number self.old };
 }

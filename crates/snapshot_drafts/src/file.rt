@@ -27,6 +27,8 @@ impl DraftFile for FileDraft {
 
     ghost synced = { λ file. None };
 
+    ghost number = { λ file. 0 };
+
     fn write_at(&mut self, at: u64, bytes: &[u8]) -> io::Result<()> {
         self.file.write_all_at(bytes, at)
     }

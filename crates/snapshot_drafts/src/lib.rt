@@ -5,7 +5,7 @@
 //! written first.
 //!
 //! ```
-//! let mut draft = Draft::begin(alloc, FileDraft::new(file), number, &state)?;
+//! let mut draft = Draft::begin(alloc, FileDraft::new(file), id, &state)?;
 //! while let Some(place) = draft.next() {
 //!     let topic = &state.topics()[place.topic];
 //!     draft.write(place, topic.partition_copy(place.partition), &mut buffer)?;

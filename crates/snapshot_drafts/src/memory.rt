@@ -2,7 +2,7 @@
 
 ghost use Rattle.std.specs.Prelude.{◌≡◌, ◌↔◌, ◌+◌, ◌-◌, ◌≤◌, ◌++◌, Some, [], length, take, drop, replicate, IsTrue, OnOk};
 ghost use Rattle.snapshot_drafts.specs.Files.{with_bytes};
-ghost use Rattle.snapshot_drafts.specs.MemoryDrafts.{bytes_of, synced_of};
+ghost use Rattle.snapshot_drafts.specs.MemoryDrafts.{bytes_of, number_of, synced_of};
 
 use crate::draft_file::DraftFile;
 use std::alloc::{AllocError, Allocator};
@@ -13,6 +13,8 @@ use std::io;
 pub struct MemoryDraft<A: Allocator + Copy> {
     bytes: Vec<u8, A>,
     synced: bool,
+    /// Which file it is.
+    number: u64,
     calls: u64,
     failing: u64,
 }
@@ -57,9 +59,18 @@ impl<A: Allocator + Copy> MemoryDraft<A> {
     pub fn new(alloc: A) -> MemoryDraft<A>
         ensures { bytes_of result ≡ [] }
     {
+        MemoryDraft::of_number(alloc, 0)
+    }
+
+    /// A file without bytes, which is the one of this number. It takes no memory.
+    pub fn of_number(alloc: A, number: u64) -> MemoryDraft<A>
+        ensures is_empty { bytes_of result ≡ [] }
+        ensures is_the_one { number_of result ≡ number }
+    {
         MemoryDraft {
             bytes: Vec::new(alloc),
             synced: false,
+            number,
             calls: 0,
             failing: 0,
         }
@@ -67,7 +78,8 @@ impl<A: Allocator + Copy> MemoryDraft<A> {
 
     /// From now on the call of this number fails, counted from 1 from now on; none where it is 0.
     pub fn fail_at(&mut self, call: u64)
-        ensures { bytes_of self.new ≡ bytes_of self.old }
+        ensures keeps { bytes_of self.new ≡ bytes_of self.old }
+        ensures is_the_one { number_of self.new ≡ number_of self.old }
     {
         self.calls = 0;
         self.failing = call;
@@ -89,7 +101,8 @@ impl<A: Allocator + Copy> MemoryDraft<A> {
 
     /// Counts a call, and tells whether it is to fail.
     fn is_to_fail(&mut self) -> bool
-        ensures { bytes_of self.new ≡ bytes_of self.old }
+        ensures keeps { bytes_of self.new ≡ bytes_of self.old }
+        ensures is_the_one { number_of self.new ≡ number_of self.old }
     {
         self.calls = self.calls.saturating_add(1);
         self.calls == self.failing
@@ -105,6 +118,8 @@ impl<A: Allocator + Copy> DraftFile for MemoryDraft<A> {
     ghost seen = { λ file. Some (bytes_of file) };
 
     ghost synced = { λ file. synced_of file };
+
+    ghost number = { λ file. number_of file };
 
     fn write_at(&mut self, at: u64, bytes: &[u8]) -> io::Result<()> {
         if self.is_to_fail() {

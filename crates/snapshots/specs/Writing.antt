@@ -13,4 +13,4 @@ topic_value t = (t.name.now, (map (λ z. (z, nothing)) t.sizes.now, nothing))
 
 -- those of all fields
 abbrev pub fields_value : SnapshotNumbers → List SnapshotTopic → Value snapshot_fields
-fields_value n ts = (n.number, (n.role, (n.first_producer, (n.next_producer, (map topic_value ts, nothing)))))
+fields_value n ts = (n.id.number, (n.role, (n.first_producer, (n.next_producer, (map topic_value ts, nothing)))))

@@ -4,7 +4,8 @@
 //! |---|---|
 //! | INT32 | the crc: the CRC-32C of all that is behind it in the head |
 //! | INT32 | the mark, `KSNP` |
-//! | INT16 | the version: 0 |
+//! | INT16 | the version: 1, or 0 |
+//! | INT64 | in version 1: the key of the journal that has the snapshot's number |
 //! | BYTES | the fields, below |
 //!
 //! | type | field |
@@ -17,5 +18,7 @@
 
 /// The mark, `KSNP`.
 pub const MARK: i32 = 0x4b53_4e50;
-/// The version that is written and read.
-pub const VERSION: i16 = 0;
+/// The version that is written.
+pub const VERSION: i16 = 1;
+/// The version before it, which is read too. It has no key.
+pub const OLD_VERSION: i16 = 0;

@@ -14,4 +14,4 @@ mod writing;
 pub use error::SnapshotError;
 pub use head::{SnapshotHead, judge_head};
 pub use partition::SnapshotPartition;
-pub use writing::{SnapshotNumbers, SnapshotTopic, put_head};
+pub use writing::{SnapshotId, SnapshotNumbers, SnapshotTopic, put_head};

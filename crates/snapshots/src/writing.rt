@@ -1,10 +1,10 @@
 //! The head of a snapshot, written.
 
-ghost use Rattle.std.specs.Prelude.{◌≡◌, ◌++◌, pos, length, map, OnOk, OnErr};
+ghost use Rattle.std.specs.Prelude.{◌≡◌, ◌++◌, pos, length, map, OnOk, OnErr, Some};
 ghost use Rattle.std.specs.List.{flat_map};
-ghost use Rattle.frame_fields.specs.Fields.{be, elements, encoded, size16, size64};
+ghost use Rattle.frame_fields.specs.Fields.{be, elements, encoded, size16, size32, size64};
 ghost use Rattle.frame_fields.specs.Types.{topic};
-ghost use Rattle.snapshots.specs.Heads.{front_of, head_bytes, partition_fields, snapshot_fields};
+ghost use Rattle.snapshots.specs.Heads.{front_of, head_bytes, partition_fields, snapshot_fields, start_of};
 ghost use Rattle.snapshots.specs.Writing.{fields_value, topic_value};
 
 use crate::head::crc_of_head;
@@ -21,11 +21,20 @@ pub struct SnapshotTopic<'a> {
     pub sizes: &'a [i64],
 }
 
+/// Which snapshot it is.
+#[derive(Clone, Copy)]
+pub struct SnapshotId {
+    /// Its number.
+    pub number: i64,
+    /// The key of the journal that has this number.
+    pub key: i64,
+}
+
 /// How a broker was set up, and where it stands.
 #[derive(Clone, Copy)]
 pub struct SnapshotNumbers {
-    /// The snapshot's number.
-    pub number: i64,
+    /// Which snapshot it is.
+    pub id: SnapshotId,
     /// What the broker is to its partitions: 0 their leader, 1 a follower.
     pub role: i16,
     /// The first producer id that the broker was set up to give out.
@@ -34,12 +43,22 @@ pub struct SnapshotNumbers {
     pub next_producer: i64,
 }
 
+/// How many bytes stand before the key.
+const START_BYTES: usize = 10;
+
 /// How many bytes stand before the fields.
-const FRONT_BYTES: usize = 14;
+const FRONT_BYTES: usize = 22;
 
 /// The bytes of an INT64.
 fn int64_bytes(number: &i64) -> [u8; 8]
     ensures { result ≡ be size64 number.now }
+{
+    number.to_be_bytes()
+}
+
+/// The bytes of an INT32.
+fn int32_bytes(number: &i32) -> [u8; 4]
+    ensures { result ≡ be size32 number.now }
 {
     number.to_be_bytes()
 }
@@ -107,23 +126,41 @@ fn put_fields<A: Allocator + Copy>(
     ensures { OnOk result (out.new.items
         ≡ out.old.items ++ encoded snapshot_fields (fields_value numbers topics.now)) }
 {
-    append_fixed(out, &int64_bytes(&numbers.number))?;
+    append_fixed(out, &int64_bytes(&numbers.id.number))?;
     append_fixed(out, &int16_bytes(&numbers.role))?;
     append_fixed(out, &int64_bytes(&numbers.first_producer))?;
     append_fixed(out, &int64_bytes(&numbers.next_producer))?;
     put_topics(out, topics)
 }
 
-/// What stands before these fields: their crc, the mark, the version and how many bytes they are.
-#[tactic(auto, unfolding(crate::specs::Heads::front_of))]
-fn front_bytes(fields: &[u8]) -> [u8; FRONT_BYTES]
-    ensures { result ≡ front_of fields.now }
+/// What the head of these fields begins with: the crc, the mark and the version.
+fn start_bytes(key: i64, fields: &[u8]) -> [u8; START_BYTES]
+    ensures { result ≡ start_of (Some key) fields.now }
 {
-    let [a, b, c, d] = crc_of_head(fields).to_be_bytes();
-    let [e, f, g, h] = MARK.to_be_bytes();
-    let [i, j] = VERSION.to_be_bytes();
-    let [_, _, _, _, k, l, m, n] = fields.len().to_be_bytes();
-    [a, b, c, d, e, f, g, h, i, j, k, l, m, n]
+    let [a, b, c, d] = int32_bytes(&crc_of_head(key, fields));
+    let [e, f, g, h] = int32_bytes(&MARK);
+    let [i, j] = int16_bytes(&VERSION);
+    [a, b, c, d, e, f, g, h, i, j]
+}
+
+/// How many bytes of fields there are, as an INT32.
+fn size_bytes(fields: &[u8]) -> [u8; 4]
+    ensures { result ≡ be size32 (pos (length fields.now)) }
+{
+    let [_, _, _, _, a, b, c, d] = fields.len().to_be_bytes();
+    [a, b, c, d]
+}
+
+/// What stands before these fields: the crc, the mark, the version, the key and how many bytes they are.
+fn front_bytes(key: i64, fields: &[u8]) -> [u8; FRONT_BYTES]
+    ensures { result ≡ front_of (Some key) fields.now }
+{
+    let [a, b, c, d, e, f, g, h, i, j] = start_bytes(key, fields);
+    let [k, l, m, n, o, p, q, r] = int64_bytes(&key);
+    let [s, t, u, v] = size_bytes(fields);
+    [
+        a, b, c, d, e, f, g, h, i, j, k, l, m, n, o, p, q, r, s, t, u, v,
+    ]
 }
 
 /// Appends the head of a snapshot. All or nothing.
@@ -142,12 +179,12 @@ pub fn put_head<A: Allocator + Copy>(
     out: &mut Vec<u8, A>,
 ) -> Result<(), AllocError>
     ensures appends { OnOk result (out.new.items
-        ≡ out.old.items ++ head_bytes (fields_value numbers topics.now)) }
+        ≡ out.old.items ++ head_bytes (Some numbers.id.key) (fields_value numbers topics.now)) }
     ensures unchanged_on_error { OnErr result (out.new.items ≡ out.old.items) }
 {
     let mut fields = Vec::new(alloc);
     put_fields(&mut fields, numbers, topics)?;
-    let front = front_bytes(&fields);
+    let front = front_bytes(numbers.id.key, &fields);
     out.reserve(front.len() + fields.len())?;
     out.extend_from_slice(&front)?;
     out.extend_from_slice(&fields)

@@ -1,5 +1,5 @@
 -- What is written of a state is read back as that state.
-use Rattle.std.proofs.Common.{◌≡◌, ◌≢◌, ℕ, ◌+◌, Bool, true, false, ℤ, pos, List, [], ◌∷◌, ◌++◌, length, take, drop, Option, Some, None, refl, sym, ap, subst, ◌∙◌, append_assoc, arith, inl}
+use Rattle.std.proofs.Common.{◌≡◌, ◌≢◌, ℕ, ◌+◌, Bool, true, false, ℤ, pos, List, [], ◌∷◌, ◌++◌, length, take, drop, Option, Some, None, refl, sym, ap, subst, ◌∙◌, append_assoc, append-nil, arith, inl}
 use Rattle.std.specs.Prelude.{map, bytes_eq, if◌then◌else◌, nat_lt, int_lt}
 use Rattle.std.specs.List.{flat_map, fold, list_any, AllByRecursion}
 use Rattle.std.specs.Option.{option_or}
@@ -17,8 +17,9 @@ use Rattle.broker_state.specs.State.{TopicConfig, ConfigValue, Topic, State, gro
 use Rattle.broker_state.specs.Configs.{topic_fault, topics_fault, IsValidConfig}
 use Rattle.broker_state.specs.Producers.{with_next_id}
 use Rattle.broker_state.specs.Sound.{shape_of, HoldsContents, IsSound}
-use Rattle.snapshots.specs.Heads.{partition_fields, partition_size, snapshot_said, head_bytes, SnapshotValue, StartsWithHead}
-use Rattle.state_snapshots.specs.Snapshots.{image_sizes, topic_said, state_said, images_of, snapshot_bytes, IsCounted, AreCounted, IsReadable}
+use Rattle.snapshots.specs.declared.writing.SnapshotId.{SnapshotId}
+use Rattle.snapshots.specs.Heads.{head_bytes, partition_fields, partition_size, snapshot_said, SnapshotValue, StartsWithHead}
+use Rattle.state_snapshots.specs.Snapshots.{image_sizes, topic_said, state_head, state_said, images_of, snapshot_bytes, IsCounted, AreCounted, IsReadable}
 use Rattle.state_snapshots.proofs.ReadHead.{head_said, head_ends}
 use Rattle.state_snapshots.specs.Restoring.{Announced, Kept, numbered, announced, said_of, HoldsItsImage, kept_bytes, with_kept, IsRestored}
 use Rattle.state_snapshots.proofs.Restored.{flat_append, all_append, pos_same}
@@ -97,13 +98,13 @@ one_list unique (p ∷ ps) (q ∷ qs) said have has same =
 
 -- ---- names
 
-abbrev Names : Type 0
+abbrev pub Names : Type 0
 Names = List (List ℕ)
 
-abbrev DifferFrom : List ℕ → Names → Type 0
+abbrev pub DifferFrom : List ℕ → Names → Type 0
 DifferFrom n names = AllByRecursion (λ m. n ≢ m) names
 
-abbrev Apart : Names → Type 0
+abbrev pub Apart : Names → Type 0
 Apart [] = Unit {0}
 Apart (n ∷ names) = DifferFrom n names × Apart names
 
@@ -173,7 +174,7 @@ same_names : (ts : List Topic) → names_in (map shape_of ts) ≡ map (λ t. t.n
 same_names [] = refl
 same_names (t ∷ ts) = ap (λ (names : Names). t.name ∷ names) (same_names ts)
 
-sound_apart : (s : State) → IsSound s → Apart (map (λ t. t.name) s.topics)
+pub sound_apart : (s : State) → IsSound s → Apart (map (λ t. t.name) s.topics)
 sound_apart s sound = subst Apart (ap names_in (sym sound.topics) ∙ same_names s.topics) (config_apart s.config sound.config.valid)
 
 -- ---- each partition in its place
@@ -237,12 +238,31 @@ put_back (b ∷ bs) (t ∷ ts) same apart =
 -- ---- the law
 
 module _ (have : HaveImages) (unique : AreUnique) where
-  pub read_back : (number : ℤ) (s before after : State) → IsSound s → AreCounted s → IsSound before → before.config ≡ s.config
-      → IsRestored (snapshot_said (state_said number s)) (Some (snapshot_bytes number s)) (length (head_bytes (state_said number s))) before after → after ≡ s
-  read_back number s before after sound counted sound_before config made =
-      let head = head_bytes (state_said number s) in
-      let bytes : kept_bytes made.partitions ≡ kept_bytes (kept_of s.topics) = sym made.file ∙ drop-append_seam head (images_of s.topics) ∙ sym (bytes_all s.topics) in
-      let same : made.partitions ≡ kept_of s.topics = one_list unique made.partitions (kept_of s.topics) (made.said ∙ sym (said_all s.topics)) made.images (images_all have s.topics sound.contents counted) bytes in
+  -- the partitions that are put in place are those that were written
+  pub partitions_back : (id : SnapshotId) (s before after : State) (h : SnapshotValue) (file : List ℕ) (at : ℕ) → IsSound s → AreCounted s → h ≡ snapshot_said (state_said id.number s)
+      → drop at file ≡ images_of s.topics → (made : IsRestored h (Some file) at before after) → made.partitions ≡ kept_of s.topics
+  partitions_back id s before after h file at sound counted said images made =
+      one_list unique made.partitions (kept_of s.topics) (made.said ∙ (ap (λ (x : SnapshotValue). announced x.topics) said ∙ sym (said_all s.topics))) made.images
+      (images_all have s.topics sound.contents counted) (sym made.file ∙ (images ∙ sym (bytes_all s.topics)))
+
+  -- so are those behind the head that is read of it, which says what was written
+  pub written_there : (id : SnapshotId) (s before after : State) (h : SnapshotValue) (key : Option ℤ) (file : List ℕ) (at : ℕ) → IsSound s → AreCounted s → IsReadable id s → file ≡ snapshot_bytes id s
+      → StartsWithHead h key file (drop at file) → (made : IsRestored h (Some file) at before after) → (made.partitions ≡ kept_of s.topics) × (h ≡ snapshot_said (state_said id.number s))
+  written_there id s before after h key file at sound counted readable is starts made =
+      let whole : file ++ [] ≡ snapshot_bytes id s = append-nil file ∙ is in
+      let said = head_said id s h key file (drop at file) [] readable starts whole in
+      let long = head_ends id s h key file (drop at file) [] readable starts whole in
+      let parts : state_head id s ++ images_of s.topics ≡ head_bytes key starts.fields ++ drop at file = sym is ∙ starts.parts in
+      let sizes : length file ≡ length (head_bytes key starts.fields) + length (drop at file) = ap length starts.parts ∙ length-append (head_bytes key starts.fields) (drop at file) in
+      let heads : length (state_head id s) ≡ length (head_bytes key starts.fields) = omega (arith, long, sizes) in
+      let images = others_same (state_head id s) (head_bytes key starts.fields) (images_of s.topics) (drop at file) heads parts in
+      (partitions_back id s before after h file at sound counted said (sym images) made, said)
+
+  pub read_back : (id : SnapshotId) (s before after : State) → IsSound s → AreCounted s → IsSound before → before.config ≡ s.config
+      → IsRestored (snapshot_said (state_said id.number s)) (Some (snapshot_bytes id s)) (length (state_head id s)) before after → after ≡ s
+  read_back id s before after sound counted sound_before config made =
+      let head = state_head id s in
+      let same = partitions_back id s before after (snapshot_said (state_said id.number s)) (snapshot_bytes id s) (length head) sound counted refl (drop-append_seam head (images_of s.topics)) made in
       let shapes : map shape_of before.topics ≡ map shape_of s.topics = sound_before.topics ∙ ap all_topics config ∙ sym sound.topics in
       let topics : put_all before.topics (kept_of s.topics) ≡ s.topics = put_back before.topics s.topics shapes (sound_apart s sound) in
       made.state
@@ -251,11 +271,11 @@ module _ (have : HaveImages) (unique : AreUnique) where
       ∙ (λ i. record { config = config i; topics = topics i; next_producer = s.next_producer })
 
   -- with the head that is read of it
-  pub whole_back : (number : ℤ) (s before after : State) (h : SnapshotValue) (front rest more : List ℕ) (at : ℕ) → IsSound s → AreCounted s → IsReadable number s → IsSound before → before.config ≡ s.config
-      → StartsWithHead h front rest → front ++ more ≡ snapshot_bytes number s → at + length rest ≡ length front → IsRestored h (Some (snapshot_bytes number s)) at before after → after ≡ s
-  whole_back number s before after h front rest more at sound counted readable sound_before config starts is ends made =
-      let seen = Some (snapshot_bytes number s) in
-      let long = head_ends number s h front rest more readable starts is in
-      let there : at ≡ length (head_bytes (state_said number s)) = omega (arith, ends, long) in
-      read_back number s before after sound counted sound_before config
-      (subst (λ (n : ℕ). IsRestored (snapshot_said (state_said number s)) seen n before after) there (subst (λ (x : SnapshotValue). IsRestored x seen at before after) (head_said number s h front rest more readable starts is) made))
+  pub whole_back : (id : SnapshotId) (s before after : State) (h : SnapshotValue) (key : Option ℤ) (front rest more : List ℕ) (at : ℕ) → IsSound s → AreCounted s → IsReadable id s → IsSound before → before.config ≡ s.config
+      → StartsWithHead h key front rest → front ++ more ≡ snapshot_bytes id s → at + length rest ≡ length front → IsRestored h (Some (snapshot_bytes id s)) at before after → after ≡ s
+  whole_back id s before after h key front rest more at sound counted readable sound_before config starts is ends made =
+      let seen = Some (snapshot_bytes id s) in
+      let long = head_ends id s h key front rest more readable starts is in
+      let there : at ≡ length (state_head id s) = omega (arith, ends, long) in
+      read_back id s before after sound counted sound_before config
+      (subst (λ (n : ℕ). IsRestored (snapshot_said (state_said id.number s)) seen n before after) there (subst (λ (x : SnapshotValue). IsRestored x seen at before after) (head_said id s h key front rest more readable starts is) made))

@@ -14,6 +14,7 @@ use Rattle.broker_state.specs.declared.limits.TheConstants.{MAX_TOPICS}
 use Rattle.broker_state.specs.State.{TopicConfig, Topic, State, group_topic, all_topics}
 use Rattle.broker_state.specs.Sound.{shape_of, IsSound}
 use Rattle.broker_state.proofs.Shapes.{IsSmallTopic, small_config}
+use Rattle.snapshots.specs.declared.writing.SnapshotId.{SnapshotId}
 use Rattle.snapshots.specs.Heads.{partition_fields, snapshot_fields}
 use Rattle.state_snapshots.specs.Snapshots.{role_number, image_sizes, topic_said, state_said, SizesFit, IsReadable}
 
@@ -105,12 +106,13 @@ head_fits number s fits sound fit =
     let few = few_topics s sound in
     (fits, (role_fits s.config.role, (sound.config.first_producer, (sound.next_producer, ((small32 (length (map topic_said s.topics)) (omega (arith, count, few)), topics_fit s.topics (small_topics s sound) fit), tt)))))
 
-pub readable : (number : ℤ) (s : State) → FitsSigned w64 number → IsSound s → AllByRecursion SizesFit s.topics → IsReadable number s
-readable number s fits sound fit =
+pub readable : (id : SnapshotId) (s : State) → FitsSigned w64 id.number → FitsSigned w64 id.key → IsSound s → AllByRecursion SizesFit s.topics → IsReadable id s
+readable id s fits keyed sound fit =
     let few = few_topics s sound in
     let topics = topics_length s.topics (small_topics s sound) in
-    let whole = head_length number s (length (flat_map (encoded (topic partition_fields)) (map topic_said s.topics))) refl in
+    let whole = head_length id.number s (length (flat_map (encoded (topic partition_fields)) (map topic_said s.topics))) refl in
     record {
-      fits = head_fits number s fits sound fit;
-      sized = small32 (length (encoded snapshot_fields (state_said number s))) (omega (arith, few, topics, whole));
+      fits = head_fits id.number s fits sound fit;
+      sized = small32 (length (encoded snapshot_fields (state_said id.number s))) (omega (arith, few, topics, whole));
+      keyed = keyed;
     }

@@ -13,9 +13,10 @@ use Rattle.broker_state.specs.State.{Topic, State}
 use Rattle.broker_state.specs.Parts.{TopicParts, topic_contents}
 use Rattle.snapshots.specs.declared.writing.SnapshotTopic.{SnapshotTopic}
 use Rattle.snapshots.specs.declared.writing.SnapshotNumbers.{SnapshotNumbers}
+use Rattle.snapshots.specs.declared.writing.SnapshotId.{SnapshotId}
 use Rattle.snapshots.specs.Heads.{head_bytes}
 use Rattle.snapshots.specs.Writing.{fields_value, topic_value}
-use Rattle.state_snapshots.specs.Snapshots.{role_number, image_sizes, topic_said, state_said, topic_images, images_of, IsCounted, IsCountedTopic}
+use Rattle.state_snapshots.specs.Snapshots.{role_number, image_sizes, topic_said, state_head, state_said, topic_images, images_of, IsCounted, IsCountedTopic}
 use Rattle.state_snapshots.specs.declared.error.WriteError.{WriteError}
 use Rattle.state_snapshots.specs.declared.error.WriteError.TheVariants.{OutOfMemory, OnDisk}
 use Rattle.state_snapshots.specs.Writing.{HasWritten, StopsWriting}
@@ -84,16 +85,14 @@ twice {Z = Z} f g (x ∷ xs) = ap (λ (zs : List Z). g (f x) ∷ zs) (twice f g 
 pub all_said : (rows slice : List SnapshotTopic) (ts : List TopicParts) (all : List Topic) → slice ≡ rows → map topic_value rows ≡ map (λ t. topic_said (topic_contents t)) ts → map topic_contents ts ≡ all → map topic_value slice ≡ map topic_said all
 all_said rows slice ts all same said are = ap (map topic_value) same ∙ said ∙ twice topic_contents topic_said ts ∙ ap (map topic_said) are
 
-pub head_is : (n : SnapshotNumbers) (rows : List SnapshotTopic) (number : ℤ) (s : State) (old new : List ℕ) → fields_value n rows ≡ state_said number s → old ≡ [] → new ≡ old ++ head_bytes (fields_value n rows) → new ≡ head_bytes (state_said number s)
-head_is n rows number s old new said none made = made ∙ ap (λ (xs : List ℕ). xs ++ head_bytes (fields_value n rows)) none ∙ ap head_bytes said
+pub head_is : (n : SnapshotNumbers) (rows : List SnapshotTopic) (id : SnapshotId) (s : State) (old new : List ℕ) → n.id ≡ id → fields_value n rows ≡ state_said id.number s → old ≡ []
+    → new ≡ old ++ head_bytes (Some n.id.key) (fields_value n rows) → new ≡ state_head id s
+head_is n rows id s old new is_id said none made =
+    made ∙ ap (λ (xs : List ℕ). xs ++ head_bytes (Some n.id.key) (fields_value n rows)) none ∙ (λ i. head_bytes (Some (is_id i).key) (said i))
 
-pub head_made : (n : SnapshotNumbers) (rows : List SnapshotTopic) (number : ℤ) (s : State) → n.number ≡ number → n.role ≡ role_number s.config.role → n.first_producer ≡ s.config.first_producer → n.next_producer ≡ s.next_producer
-    → map topic_value rows ≡ map topic_said s.topics → fields_value n rows ≡ state_said number s
-head_made n rows number s is_number is_role is_first is_next said = λ i. (is_number i, (is_role i, (is_first i, (is_next i, (said i, nothing)))))
-
--- the number was passed on by value
-pub same_head : (passed number : ℤ) (s : State) (items : List ℕ) → items ≡ head_bytes (state_said passed s) → passed ≡ number → items ≡ head_bytes (state_said number s)
-same_head passed number s items made same = made ∙ ap (λ (z : ℤ). head_bytes (state_said z s)) same
+pub head_made : (n : SnapshotNumbers) (rows : List SnapshotTopic) (id : SnapshotId) (s : State) → n.id ≡ id → n.role ≡ role_number s.config.role → n.first_producer ≡ s.config.first_producer → n.next_producer ≡ s.next_producer
+    → map topic_value rows ≡ map topic_said s.topics → fields_value n rows ≡ state_said id.number s
+head_made n rows id s is_id is_role is_first is_next said = λ i. ((is_id i).number, (is_role i, (is_first i, (is_next i, (said i, nothing)))))
 
 -- ---- known bytes
 

@@ -1,5 +1,5 @@
 -- The snapshot of what a broker holds, from its first byte to its last. The form is this project's own.
-use Rattle.std.specs.Prelude.{ℕ, ◌≤◌, ℤ, pos, List, ◌++◌, length, map, FitsSigned}
+use Rattle.std.specs.Prelude.{ℕ, ◌≤◌, ℤ, pos, List, ◌++◌, length, map, FitsSigned, Some}
 use Rattle.std.specs.List.{flat_map, AllByRecursion}
 use Rattle.std.specs.Int.{w64}
 use Rattle.frame_fields.specs.Fields.{Value, Fits, FitsLength, encoded, size32}
@@ -11,6 +11,7 @@ use Rattle.copy_images.specs.Images.{image_of}
 use Rattle.broker_state.specs.declared.config.Role.{Role}
 use Rattle.broker_state.specs.declared.config.Role.TheVariants.{Leader, Follower}
 use Rattle.broker_state.specs.State.{Topic, State}
+use Rattle.snapshots.specs.declared.writing.SnapshotId.{SnapshotId}
 use Rattle.snapshots.specs.Heads.{partition_fields, snapshot_fields, head_bytes}
 
 -- ---- the head
@@ -32,6 +33,9 @@ abbrev pub state_said : (number : ℤ) → State → Value snapshot_fields
 state_said number s =
     (number, (role_number s.config.role, (s.config.first_producer, (s.next_producer, (map topic_said s.topics, nothing)))))
 
+abbrev pub state_head : SnapshotId → State → List ℕ
+state_head id s = head_bytes (Some id.key) (state_said id.number s)
+
 -- ---- the whole
 
 -- the images of a topic's partitions, from 0 on
@@ -41,8 +45,8 @@ topic_images t = flat_map image_of t.partitions
 abbrev pub images_of : List Topic → List ℕ
 images_of ts = flat_map topic_images ts
 
-abbrev pub snapshot_bytes : (number : ℤ) → State → List ℕ
-snapshot_bytes number s = head_bytes (state_said number s) ++ images_of s.topics
+abbrev pub snapshot_bytes : SnapshotId → State → List ℕ
+snapshot_bytes id s = state_head id s ++ images_of s.topics
 
 -- ---- what can be written
 
@@ -62,6 +66,7 @@ abbrev pub SizesFit : Topic → Type 0
 SizesFit t = AllByRecursion (FitsSigned w64) (image_sizes t)
 
 -- what the head says fits into its fields, and so can be read again
-pub record IsReadable (number : ℤ) (s : State) : Type 0 where
-  pub fits : Fits snapshot_fields (state_said number s)
-  pub sized : FitsLength size32 (length (encoded snapshot_fields (state_said number s)))
+pub record IsReadable (id : SnapshotId) (s : State) : Type 0 where
+  pub fits : Fits snapshot_fields (state_said id.number s)
+  pub sized : FitsLength size32 (length (encoded snapshot_fields (state_said id.number s)))
+  pub keyed : FitsSigned w64 id.key

@@ -3,14 +3,13 @@
 ghost use Rattle.std.specs.Prelude.{◌≡◌, map, IfOk, OnOk};
 ghost use Rattle.std.specs.List.{AllByRecursion};
 ghost use Rattle.broker_state.specs.Parts.{topic_contents};
-ghost use Rattle.snapshots.specs.Heads.{head_bytes};
 ghost use Rattle.snapshots.specs.Writing.{topic_value};
-ghost use Rattle.state_snapshots.specs.Snapshots.{role_number, image_sizes, topic_said, state_said, SizesFit, IsReadable};
+ghost use Rattle.state_snapshots.specs.Snapshots.{role_number, image_sizes, topic_said, state_head, SizesFit, IsReadable};
 
 use broker_state::{BrokerState, Role, TopicLogs};
 use copy_images::image_size;
 use segment::BatchStore;
-use snapshots::{SnapshotNumbers, SnapshotTopic, put_head};
+use snapshots::{SnapshotId, SnapshotNumbers, SnapshotTopic, put_head};
 use std::alloc::{AllocError, Allocator};
 
 /// What a role is in a snapshot.
@@ -76,14 +75,14 @@ fn rows_of<'a, S: BatchStore, A: Allocator + Copy>(
 }
 
 /// What the head says beside the topics.
-fn numbers_of<S: BatchStore>(number: i64, state: &BrokerState<S>) -> SnapshotNumbers
-    ensures number { result.number ≡ number }
+fn numbers_of<S: BatchStore>(id: SnapshotId, state: &BrokerState<S>) -> SnapshotNumbers
+    ensures id { result.id ≡ id }
     ensures role { result.role ≡ role_number state.now.config.role }
     ensures first { result.first_producer ≡ state.now.config.first_producer }
     ensures next { result.next_producer ≡ state.now.next_producer }
 {
     SnapshotNumbers {
-        number,
+        id,
         role: role_number(state.role()),
         first_producer: state.first_producer(),
         next_producer: state.next_producer(),
@@ -97,11 +96,11 @@ fn numbers_of<S: BatchStore>(number: i64, state: &BrokerState<S>) -> SnapshotNum
 /// Out of memory.
 pub fn head_of<S: BatchStore, A: Allocator + Copy>(
     alloc: A,
-    number: i64,
+    id: SnapshotId,
     state: &BrokerState<S>,
 ) -> Result<Vec<u8, A>, AllocError>
-    ensures bytes { IfOk result (λ head. head.items ≡ head_bytes (state_said number state.now)) }
-    ensures readable { OnOk result (IsReadable number state.now) }
+    ensures bytes { IfOk result (λ head. head.items ≡ state_head id state.now) }
+    ensures readable { OnOk result (IsReadable id state.now) }
 {
     // Called for its contract alone: names, topics and partitions are few enough for their fields.
     state.know_sound();
@@ -109,6 +108,6 @@ pub fn head_of<S: BatchStore, A: Allocator + Copy>(
     let sizes = sizes_of_all(alloc, topics)?;
     let rows = rows_of(alloc, topics, &sizes)?;
     let mut head = Vec::new(alloc);
-    put_head(alloc, numbers_of(number, state), &rows, &mut head)?;
+    put_head(alloc, numbers_of(id, state), &rows, &mut head)?;
     Ok(head)
 }

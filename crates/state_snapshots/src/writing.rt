@@ -13,6 +13,7 @@ use broker_state::{BrokerState, TopicLogs};
 use copy_images::image_into;
 use journal::Disk;
 use segment::BatchStore;
+use snapshots::SnapshotId;
 use std::alloc::Allocator;
 
 /// Appends the images of a topic's partitions, one after the other, each made in the same buffer.
@@ -61,18 +62,18 @@ fn append_images<D: Disk, S: BatchStore, A: Allocator + Copy>(
 /// `OutOfMemory`, and the first bytes of the snapshot stand in the file, or none; or else the disk failed.
 pub fn write_snapshot<D: Disk, S: BatchStore, A: Allocator + Copy>(
     alloc: A,
-    number: i64,
+    id: SnapshotId,
     state: &BrokerState<S>,
     disk: &mut D,
 ) -> Result<(), WriteError>
     ensures writes { OnOk result (D.seen disk.new
-        ≡ append_known (D.seen disk.old) (snapshot_bytes number state.now)) }
+        ≡ append_known (D.seen disk.old) (snapshot_bytes id state.now)) }
     ensures counts { OnOk result (AreCounted state.now) }
-    ensures readable { OnOk result (IsReadable number state.now) }
+    ensures readable { OnOk result (IsReadable id state.now) }
     ensures stops { IfErr result (StopsWriting (D.seen disk.old) (D.seen disk.new)
-        (D.has_failed disk.new) (snapshot_bytes number state.now)) }
+        (D.has_failed disk.new) (snapshot_bytes id state.now)) }
 {
-    let mut buffer = head_of(alloc, number, state)?;
+    let mut buffer = head_of(alloc, id, state)?;
     disk.append(&buffer)?;
     append_images(state.topics(), &mut buffer, disk)
 }

@@ -1,16 +1,16 @@
-use Rattle.std.proofs.Common.{◌≡◌, length, rules, ap, ◌∙◌, w32}
+use Rattle.std.proofs.Common.{◌≡◌, Some, length, rules, ap, ◌∙◌, w32}
 use Rattle.std.specs.Prelude.{pos}
 use Rattle.std.specs.Int.{cast_signed}
 use Rattle.std.proofs.lemmas.Int.{to_z-of_z}
 use Rattle.checksum.specs.Crc.{crc_of}
-use Rattle.frame_fields.specs.Fields.{size16, size32, be}
+use Rattle.frame_fields.specs.Fields.{size16, size32, size64, be}
 use Rattle.snapshots.specs.declared.layout.TheConstants.{MARK, VERSION}
 use Rattle.snapshots.specs.Heads.{covered}
-use Rattle.snapshots.proofs.Judging.{crc_is}
+use Rattle.snapshots.proofs.Judging.{crc_of_more_is}
 use Rattle.snapshots.proofs.head.crc_of_head.Goals as goal
 
 pub returns : goal.returns
 returns c =
     let fields = c.args.fields.now in
-    let value : c.value.result ≡ crc_of (covered fields) = crc_is c.value.result (be size32 MARK) (be size16 VERSION) (be size32 (pos (length fields))) fields (search rules) in
+    let value : c.value.result ≡ crc_of (covered (Some c.args.key) fields) = crc_of_more_is c.value.result (be size32 MARK) (be size16 VERSION) (be size64 c.args.key) (be size32 (pos (length fields))) fields (search rules) in
     to_z-of_z w32 c.cast_signed.result (search rules) ∙ (c.cast_signed.ensures ∙ ap (cast_signed w32) value)
