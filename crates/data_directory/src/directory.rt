@@ -31,12 +31,12 @@ pub enum Kind {
 /// is cut: a file that is opened to be read is a `Disk`, which has a call that cuts. In a directory of the operating system
 /// such a file can't be written to.
 pub trait Directory {
-    ghost use Rattle.std.specs.Prelude.{◌≡◌, ◌⊎◌, Bool, Some, true, false, [], IfOk, IfSome, OnErr, OnOk};
+    ghost use Rattle.std.specs.Prelude.{◌≡◌, ◌⊎◌, ℕ, List, Bool, Some, true, false, [], IfOk, IfSome, OnErr, OnOk};
     ghost use Rattle.std.specs.List.{Contains};
     ghost use Rattle.data_directory.specs.declared.names.Name.{Name};
     ghost use Rattle.data_directory.specs.declared.names.Name.TheVariants.{Making};
     ghost use Rattle.journal.specs.Readers.{KeepsItsWord};
-    ghost use Rattle.data_directory.specs.Directories.{AreCertain, Becomes, DirectoryState, IsName, IsNone, IsPublished, IsThere, KeepsCertain, KeepsOthers, Publishes, is_file};
+    ghost use Rattle.data_directory.specs.Directories.{AreCertain, Becomes, DirectoryState, HasItsBytes, IsName, IsNone, IsPublished, IsThere, KeepsCertain, KeepsOthers, Publishes, is_file};
 
     /// A file that is open for reading, and for appending where it was made or opened so.
     type File: Disk + Drop;
@@ -52,6 +52,9 @@ pub trait Directory {
 
     /// Whether a sync of the names has failed.
     ghost unsure: { Self → Bool };
+
+    /// A key is one that was drawn. Nothing but `draw_key` says so.
+    ghost is_drawn: { List ℕ → Type 0 };
 
     /// The names of a broker's files that are there, in any order. Others are passed over.
     fn names<A: Allocator + Copy>(&self, alloc: A) -> io::Result<Vec<Name, A>>
@@ -70,7 +73,9 @@ pub trait Directory {
     /// Opens a file that is there, to read it and to sync it.
     fn open(&self, name: Name) -> io::Result<Self::File>
         ensures was_there { OnOk result (IsThere (state self.now) name true) }
-        ensures is_its_file { IfOk result (gives self.now name) };
+        ensures is_its_file { IfOk result (gives self.now name) }
+        ensures has_its_bytes { IfOk result (λ file.
+            HasItsBytes (state self.now) name (Self.File.seen file)) };
 
     /// Opens a journal that is there, to go on with it: it is read, appended to, cut, and bytes of it are written again. What
     /// its last group says was on the disk when it was written is on the disk still: this is trusted.
@@ -92,14 +97,17 @@ pub trait Directory {
     /// Makes the file of a snapshot in the making, which isn't there yet, and opens it. It has no byte.
     fn draft(&mut self) -> io::Result<Self::Draft>
         ensures is_empty { IfOk result (λ file. IfSome (Self.Draft.seen file) (λ bytes. bytes ≡ [])) }
+        ensures is_the_one { IfOk result (λ file. Self.Draft.number file ≡ (state self.new).making) }
         ensures makes { OnOk result (Becomes Making true (state self.old) (state self.new)) }
         ensures keeps_others { KeepsOthers (IsName Making) (state self.old) (state self.new) }
         ensures keeps_certain { KeepsCertain (IsName Making) (state self.old) (state self.new) }
         ensures keeps_unsure { OnOk result (unsure self.new ≡ unsure self.old) };
 
-    /// Gives a snapshot in the making, whose bytes are on the disk for certain, the name of its number, which no file has.
+    /// Gives a snapshot in the making, whose bytes are on the disk for certain, the name of its number, which no file has. It is
+    /// the last one that was made.
     fn publish(&mut self, draft: Self::Draft, number: u64) -> io::Result<()>
         requires is_synced { Self.Draft.synced draft ≡ Self.Draft.seen draft }
+        requires is_the_one { Self.Draft.number draft ≡ (state self.old).making }
         ensures publishes { OnOk result
             (Publishes number (Self.Draft.seen draft) (state self.old) (state self.new)) }
         ensures is_whole { OnErr result (KeepsOthers IsNone (state self.old) (state self.new)
@@ -131,6 +139,7 @@ pub trait Directory {
 
     /// Bytes that are drawn at random, for the key of a new journal.
     fn draw_key(&mut self) -> io::Result<[u8; KEY_SIZE]>
+        ensures is_drawn { IfOk result is_drawn }
         ensures same { state self.new ≡ state self.old }
         ensures keeps_unsure { OnOk result (unsure self.new ≡ unsure self.old) };
 }

@@ -253,6 +253,8 @@ impl<'a, R: Files<File = File> + RandomSource + Alloc + Clone + Drop> Directory 
 
     ghost unsure = { λ folder. folder.is_unsure };
 
+    ghost is_drawn = { λ key. ⊤ };
+
     fn names<A: Allocator + Copy>(&self, alloc: A) -> io::Result<Vec<Name, A>> {
         self.refuse_another()?;
         let mut names = Vec::new(alloc);

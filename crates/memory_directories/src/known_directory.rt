@@ -1,10 +1,11 @@
 //! A directory in memory whose names are known: of it each clause on the names of a directory says something, and is proved.
 
-ghost use Rattle.std.specs.Prelude.{◌≡◌, ◌≤◌, ◌++◌, ◌∷◌, [], None, OnErr, OnOk, Some, false, length, true};
+ghost use Rattle.std.specs.Prelude.{◌≡◌, ◌≤◌, ◌++◌, ◌∷◌, ℕ, [], None, IfSome, OnErr, OnOk, Some, false, length, true};
 ghost use Rattle.std.specs.List.{Contains};
 ghost use Rattle.data_directory.specs.declared.names.Name.{Name};
+ghost use Rattle.data_directory.specs.declared.names.Name.TheVariants.{Snapshot};
 ghost use Rattle.data_directory.specs.Directories.{Becomes, IsName, IsThere, KeepsCertain, KeepsOthers};
-ghost use Rattle.memory_directories.specs.KnownNames.{there_after};
+ghost use Rattle.memory_directories.specs.KnownNames.{draft_bytes, has_name, there_after};
 
 use data_directory::{Directory, Kind, Name};
 use journal::MemoryDisk;
@@ -36,10 +37,34 @@ impl<A: Allocator + Copy> Change<A> {
     {
         self.named == Some(name) || (self.gone != Some(name) && before)
     }
+
+    /// Whether it gives a name to a file.
+    fn names(&self, name: Name) -> bool
+        ensures { result ≡ has_name name self.now.named }
+    {
+        self.named == Some(name)
+    }
+
+    /// Whether it shortens the file of a name.
+    fn cuts(&self, name: Name) -> bool
+        ensures { result ≡ has_name name self.now.cut }
+    {
+        self.cut == Some(name)
+    }
+
+    /// The bytes that a file had when it got its name by this change.
+    fn bytes(&self) -> &[u8]
+        ensures { result.now ≡ draft_bytes self.now.draft }
+    {
+        match &self.draft {
+            Some(draft) => draft.bytes(),
+            None => b"",
+        }
+    }
 }
 
-/// A directory in memory that knows which names are there, and which of them are on the disk for certain. It keeps names alone:
-/// a file that is opened has no byte.
+/// A directory in memory that knows which names are there, and which of them are on the disk for certain. It keeps names, and
+/// the bytes of snapshots: another file that is opened has no byte.
 #[derive(Drop)]
 pub struct KnownDirectory<A: Allocator + Copy> {
     alloc: A,
@@ -47,6 +72,8 @@ pub struct KnownDirectory<A: Allocator + Copy> {
     changes: Vec<Change<A>, A>,
     /// How many of them are on the disk for certain.
     synced: usize,
+    /// Which file was the last one that was made as a snapshot in the making.
+    making: u64,
     ghost synced_within: { synced ≤ length changes.items },
 }
 
@@ -59,6 +86,7 @@ impl<A: Allocator + Copy> KnownDirectory<A> {
             alloc,
             changes: Vec::new(alloc),
             synced: 0,
+            making: 0,
         }
     }
 
@@ -73,11 +101,32 @@ impl<A: Allocator + Copy> KnownDirectory<A> {
         is_there
     }
 
+    /// The bytes of the file of a name: those of a snapshot, unless it was shortened.
+    fn bytes_of(&self, name: Name) -> &[u8]
+        ensures { (number : ℕ) → name ≡ Snapshot number
+            → IfSome ((⟦<KnownDirectory<A> as Directory>⟧.state self.now).bytes number)
+            (λ known. result.now ≡ known) }
+    {
+        let mut at = self.changes.len();
+        while at > 0 {
+            at -= 1;
+            let change = &self.changes[at];
+            if change.names(name) {
+                return change.bytes();
+            }
+            if change.cuts(name) {
+                return b"";
+            }
+        }
+        b""
+    }
+
     /// Makes a change, or none where memory lacks.
     fn make(&mut self, change: Change<A>) -> Result<(), AllocError>
         ensures makes { OnOk result (self.new.changes.items ≡ self.old.changes.items ++ change ∷ []) }
         ensures unchanged { OnErr result (self.new.changes.items ≡ self.old.changes.items) }
         ensures synced { self.new.synced ≡ self.old.synced }
+        ensures making { self.new.making ≡ self.old.making }
     {
         self.changes.push(change)?;
         Ok(())
@@ -152,8 +201,6 @@ impl<A: Allocator + Copy> KnownDirectory<A> {
 
 impl<A: Allocator + Copy> Directory for KnownDirectory<A> {
     ghost use Rattle.std.specs.Prelude.{⊤};
-    ghost use Rattle.std.specs.Option.{option_map};
-    ghost use Rattle.snapshot_drafts.specs.MemoryDrafts.{bytes_of};
     ghost use Rattle.memory_directories.specs.KnownNames.{state_by};
 
     type File = MemoryDisk<A>;
@@ -161,11 +208,13 @@ impl<A: Allocator + Copy> Directory for KnownDirectory<A> {
     type Draft = MemoryDraft<A>;
 
     ghost state = { λ d. state_by d.changes.items (λ change. change.gone) (λ change. change.named)
-        (λ change. change.cut) (λ change. option_map bytes_of change.draft) d.synced };
+        (λ change. change.cut) (λ change. draft_bytes change.draft) d.synced d.making };
 
     ghost gives = { λ d name file. ⊤ };
 
     ghost unsure = { λ d. false };
+
+    ghost is_drawn = { λ key. ⊤ };
 
     fn names<B: Allocator + Copy>(&self, alloc: B) -> io::Result<Vec<Name, B>> {
         let mut names = Vec::new(alloc);
@@ -189,7 +238,7 @@ impl<A: Allocator + Copy> Directory for KnownDirectory<A> {
 
     fn open(&self, name: Name) -> io::Result<MemoryDisk<A>> {
         self.refuse_absent(name)?;
-        Ok(MemoryDisk::new(self.alloc, b"")?)
+        Ok(MemoryDisk::new(self.alloc, self.bytes_of(name))?)
     }
 
     fn open_to_write(&self, name: Name) -> io::Result<MemoryDisk<A>> {
@@ -205,7 +254,8 @@ impl<A: Allocator + Copy> Directory for KnownDirectory<A> {
 
     fn draft(&mut self) -> io::Result<MemoryDraft<A>> {
         self.give(Name::Making)?;
-        Ok(MemoryDraft::new(self.alloc))
+        self.making = self.changes.len() as u64;
+        Ok(MemoryDraft::of_number(self.alloc, self.making))
     }
 
     fn publish(&mut self, draft: MemoryDraft<A>, number: u64) -> io::Result<()> {

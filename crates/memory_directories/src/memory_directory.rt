@@ -487,6 +487,8 @@ impl<'a, A: Allocator + Copy> Directory for MemoryDirectory<'a, A> {
 
     ghost unsure = { λ directory. directory.is_unsure };
 
+    ghost is_drawn = { λ key. ⊤ };
+
     fn names<B: Allocator + Copy>(&self, alloc: B) -> io::Result<Vec<Name, B>> {
         let mut list = Vec::new(alloc);
         let mut store = borrowed(self.store)?;
@@ -618,6 +620,8 @@ impl<'a, A: Allocator + Copy> DraftFile for MemoryFile<'a, A> {
     ghost seen = { λ file. None };
 
     ghost synced = { λ file. None };
+
+    ghost number = { λ file. 0 };
 
     fn write_at(&mut self, at: u64, bytes: &[u8]) -> io::Result<()> {
         borrowed(self.store)?.write_at(self.file, at, bytes)
