@@ -16,7 +16,6 @@ use Rattle.std.specs.Io.KnownBytes.{append_known}
 use Rattle.journal.specs.declared.error.JournalError.TheVariants.{OnDisk}
 use Rattle.journal.specs.Disks.{LeavesAll, Tears}
 use Rattle.sessions.specs.Orders.{Event, SendsAt, SessionsState, World, Run, new_world, sent_to, one_list, own}
-use Rattle.journal.specs.declared.layout.TheConstants.{HEAD_SIZE}
 use Rattle.journal.specs.Files.{Group, IsGroup, AreGroups, IsRead, groups_bytes}
 use Rattle.journal.specs.Crashes.{HasStranger}
 use Rattle.journal.specs.Journals.{JournalState, StopsAppend, next_bytes, next_group}
@@ -45,13 +44,13 @@ no_notes = record { frames = []; has_lacked = false }
 abbrev pub frames_in : List Group → List ℕ
 frames_in groups = flat_map (λ g. g.frames) groups
 
--- A file has a head and groups, whose frames are these, and nothing else.
-pub record HoldsFrames (key : List ℕ) (file : List ℕ) (frames : List (List ℕ)) : Type 0 where
+-- A file has a head of so many bytes and groups, whose frames are these, and nothing else.
+pub record HoldsFrames (start : ℕ) (key : List ℕ) (file : List ℕ) (frames : List (List ℕ)) : Type 0 where
   pub head : List ℕ
   pub groups : List Group
-  pub size : length head ≡ HEAD_SIZE
-  pub parts : file ≡ head ++ groups_bytes key HEAD_SIZE groups
-  pub valid : AreGroups key HEAD_SIZE groups
+  pub size : length head ≡ start
+  pub parts : file ≡ head ++ groups_bytes key start groups
+  pub valid : AreGroups key start groups
   pub frames_are : frames_in groups ≡ stream frames
 
 -- each of the frames may be one
@@ -73,7 +72,7 @@ pub record IsKept {D : Type 0} (seen : D → Option (List ℕ)) (first start : S
   pub frames : List (List ℕ)
   pub within : AreWithinLimit frames
   pub replays : Replays first frames mid.state
-  pub holds : IfSome (seen k.journal.disk) (λ file. HoldsFrames k.journal.key file frames)
+  pub holds : IfSome (seen k.journal.disk) (λ file. HoldsFrames k.journal.start k.journal.key file frames)
   pub noted : Notes no_notes mid.state k.notes k.world.state
 
 -- ---- what is put into the journal
@@ -83,6 +82,7 @@ pub record Commits {D : Type 0} (seen : D → Option (List ℕ)) (may_leave : D 
   pub appends : seen new.disk ≡ append_known (seen old.disk) (next_bytes old frames)
   pub durable : LeavesAll (seen new.disk) (may_leave new.disk)
   pub key : new.key ≡ old.key
+  pub start : new.start ≡ old.start
 
 -- the journal's file has grown by the group of these frames, and no more of it is synced than before
 pub record Appends {D : Type 0} (seen : D → Option (List ℕ)) (frames : List ℕ) (old new : JournalState D) : Type 0 where
@@ -90,12 +90,14 @@ pub record Appends {D : Type 0} (seen : D → Option (List ℕ)) (frames : List 
   pub end : new.end ≡ old.end + length (next_bytes old frames)
   pub synced : new.synced ≡ old.synced
   pub key : new.key ≡ old.key
+  pub start : new.start ≡ old.start
 
 -- the journal's file stays, and a crash leaves all of it
 pub record Syncs {D : Type 0} (seen : D → Option (List ℕ)) (may_leave : D → List ℕ → Type 0) (old new : JournalState D) : Type 0 where
   pub file : seen new.disk ≡ seen old.disk
   pub durable : LeavesAll (seen new.disk) (may_leave new.disk)
   pub key : new.key ≡ old.key
+  pub start : new.start ≡ old.start
   pub end : new.end ≡ old.end
   pub synced : new.synced ≡ new.end
 
@@ -112,6 +114,7 @@ pub record IsTornBy {D : Type 0} (seen : D → Option (List ℕ)) (old new : Kep
   pub notes : new.notes ≡ old.notes
   pub torn : new.journal.is_torn ≡ true
   pub key : new.journal.key ≡ old.journal.key
+  pub start : new.journal.start ≡ old.journal.start
   pub end : new.journal.end ≡ old.journal.end
   pub size : IfSome (seen old.journal.disk) (λ file. length file ≡ old.journal.end)
   pub tears : Tears (seen old.journal.disk) (seen new.journal.disk)
@@ -143,7 +146,7 @@ pub record LeadsHere {D : Type 0} (seen : D → Option (List ℕ)) (first : Stat
   pub frames : List (List ℕ)
   pub within : AreWithinLimit frames
   pub replays : Replays first frames k.world.state
-  pub holds : IfSome (seen k.journal.disk) (λ file. HoldsFrames k.journal.key file frames)
+  pub holds : IfSome (seen k.journal.disk) (λ file. HoldsFrames k.journal.start k.journal.key file frames)
 
 -- ---- what left
 
@@ -160,16 +163,16 @@ pub record LeavesNothingUnkept {D : Type 0} (seen : D → Option (List ℕ)) (fi
   pub sent : (client : ℕ) → (owed : List ℕ) × (replied (own client front) ≡ sent_to client events ++ owed)
   pub frames : List (List ℕ)
   pub replays : Replays first frames state
-  pub holds : IfSome (seen k.journal.disk) (λ file. HoldsFrames k.journal.key file frames)
+  pub holds : IfSome (seen k.journal.disk) (λ file. HoldsFrames k.journal.start k.journal.key file frames)
 
 -- ---- what a start finds
 
--- What is read of a file's groups, and the state that their frames lead to.
-pub record Recovers (first : State) (key file : List ℕ) (recovered : State) : Type 0 where
+-- What is read of a file's groups behind so many bytes, and the state that their frames lead to.
+pub record Recovers (first : State) (start : ℕ) (key file : List ℕ) (recovered : State) : Type 0 where
   pub groups : List Group
   pub rest : List ℕ
   pub count : ℕ
-  pub read : IsRead key HEAD_SIZE (drop HEAD_SIZE file) groups rest
+  pub read : IsRead key start (drop start file) groups rest
   pub replays : ReplaysFrames (frames_in groups) first recovered count
 
 -- a group is read that nobody wrote, where these should stand

@@ -3,7 +3,6 @@ use Rattle.std.specs.Prelude.{◌≡◌, ℕ, Bool, List, length, take, drop, Op
 use Rattle.frame_fields.specs.Frames.{stream}
 use Rattle.broker_state.specs.State.{State}
 use Rattle.sessions.specs.Orders.{new_world}
-use Rattle.journal.specs.declared.layout.TheConstants.{HEAD_SIZE}
 use Rattle.journal.specs.Files.{Group, StartsWithGroup, HasNoGroup, HasLaterSync, groups_end}
 use Rattle.journal.specs.Readers.{HasReadUpTo, HasReadCause, ReadsMayFail}
 use Rattle.journal.specs.declared.settle.Unsettled.{Unsettled}
@@ -31,18 +30,19 @@ pub record HasRecovered (seen : Option (List ℕ)) (key : List ℕ) (from to : �
   pub file : IfSome seen (λ file. ReadsFrames key from to file frames)
 
 -- What a file's groups lead to is recovered, and they end at this offset.
-pub record RecoversUpTo (first : State) (key file : List ℕ) (to : ℕ) (recovered : State) : Type 0 where
-  pub recovers : Recovers first key file recovered
-  pub end : to ≡ groups_end key HEAD_SIZE recovers.groups
+pub record RecoversUpTo (first : State) (start : ℕ) (key file : List ℕ) (to : ℕ) (recovered : State) : Type 0 where
+  pub recovers : Recovers first start key file recovered
+  pub end : to ≡ groups_end key start recovers.groups
 
 -- A keeper begins with a file of which this state was recovered: no client has come, no frame is noted, and the file was
 -- cut behind its groups.
-pub record StartsAgain {D : Type 0} (seen : D → Option (List ℕ)) (first : State) (key file : List ℕ) (recovered : State) (k : KeptState D) : Type 0 where
-  pub recovers : Recovers first key file recovered
+pub record StartsAgain {D : Type 0} (seen : D → Option (List ℕ)) (first : State) (start : ℕ) (key file : List ℕ) (recovered : State) (k : KeptState D) : Type 0 where
+  pub recovers : Recovers first start key file recovered
   pub world : k.world ≡ new_world recovered
   pub notes : k.notes ≡ no_notes
   pub key_is : k.journal.key ≡ key
-  pub cut : seen k.journal.disk ≡ Some (take (groups_end key HEAD_SIZE recovers.groups) file)
+  pub start_is : k.journal.start ≡ start
+  pub cut : seen k.journal.disk ≡ Some (take (groups_end key start recovers.groups) file)
 
 -- ---- why none is
 
