@@ -1,8 +1,10 @@
+pub mod Ids
 pub mod NewJournals
 pub mod GoneOn
 pub mod CopiesThere
 pub mod Touched
 pub mod Images
 pub mod Stepping
+pub mod Folded
 pub mod RoomMade
 pub mod Leading

@@ -1,8 +1,7 @@
 -- A group that is put into the journal once more.
-use Rattle.std.proofs.Common.{◌≡◌, ◌⊎◌, inl, inr, ℕ, ◌+◌, ◌^◌, ◌<◌, ◌≤◌, ◌++◌, Bool, true, false, List, [], length, Option, Some, None, refl, sym, ap, subst, ◌∙◌, true≢false}
+use Rattle.std.proofs.Common.{◌≡◌, inl, inr, ℕ, ◌+◌, ◌^◌, ◌<◌, ◌≤◌, ◌++◌, Bool, true, false, List, length, Option, Some, None, sym, ap, subst, ◌∙◌, true≢false}
 use Rattle.std.specs.Prelude.{IfSome}
 use Rattle.std.specs.Io.KnownBytes.{append_known}
-use Rattle.data_directory.specs.declared.names.Name.{Name}
 use Rattle.data_directory.specs.declared.names.Name.TheVariants.{Making}
 use Rattle.data_directory.specs.Directories.{DirectoryState, IsName, KeepsOthers}
 use Rattle.journal.specs.declared.error.JournalError.{JournalError}
@@ -21,7 +20,7 @@ use Rattle.snapshot_drafts.specs.Parts.{DraftState}
 use Rattle.kept_rotations.specs.Moments.{RotationState, IsOfMoment, WritesMoment}
 use Rattle.kept_rotations.specs.Steps.{Drops, IsBelow}
 use Rattle.kept_rotations.specs.Putting.{GrowsByGroup, IsMended, IsRoom, StopsPut}
-use Rattle.kept_rotations.proofs.Touched.{others_then, others_wider}
+use Rattle.kept_rotations.proofs.Touched.{others_then}
 
 module _ {D : Type 0} (seen : D → Option (List ℕ)) where
   -- what a call that appends does to a journal's file
@@ -51,21 +50,23 @@ module _ {D : Type 0} (seen : D → Option (List ℕ)) where
     notes = same.notes ∙ torn.notes;
     torn = ap (λ (j : JournalState D). j.is_torn) same.journal ∙ torn.torn;
     key = ap (λ (j : JournalState D). j.key) same.journal ∙ torn.key;
+    start = ap (λ (j : JournalState D). j.start) same.journal ∙ torn.start;
     end = ap (λ (j : JournalState D). j.end) same.journal ∙ torn.end;
     size = torn.size;
     tears = subst (λ (j : JournalState D). Tears (seen before.journal.disk) (seen j.disk)) (sym same.journal) torn.tears;
   }
 
-  pub mended : (before k k' : KeptState D) → IsTornBy seen before k → k'.notes ≡ k.notes → k'.journal.key ≡ k.journal.key → k'.journal.end ≡ k.journal.end
+  pub mended : (before k k' : KeptState D) → IsTornBy seen before k → k'.notes ≡ k.notes → k'.journal.key ≡ k.journal.key → k'.journal.start ≡ k.journal.start → k'.journal.end ≡ k.journal.end
       → ((b : KeptState D) → IsTornBy seen b k → seen k'.journal.disk ≡ seen b.journal.disk) → k'.journal.has_failed ≡ false
       → ((first start : State) (b : KeptState D) → IsTornBy seen b k → IsKept seen first start b → IsKept seen first start k') → IsMended seen before k'
-  mended before k k' torn notes key end file works kept = record {
+  mended before k k' torn notes key start end file works kept = record {
     notes = notes ∙ torn.notes;
     key = key ∙ torn.key;
+    start = start ∙ torn.start;
     end = end ∙ torn.end;
     file = file before torn;
     works = works;
-    kept = λ first start was. kept first start before torn was;
+    kept = λ first begun was. kept first begun before torn was;
   }
 
   -- where the disk failed in an append, and in nothing else, the end is torn

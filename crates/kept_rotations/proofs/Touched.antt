@@ -29,11 +29,14 @@ number_of Making = 0
 pub same_snapshot : (m n : ℕ) → Snapshot m ≡ Snapshot n → m ≡ n
 same_snapshot m n same = ap number_of same
 
+pub same_journal : (m n : ℕ) → Journal m ≡ Journal n → m ≡ n
+same_journal m n same = ap number_of same
+
 -- ---- one call behind the other
 
 module _ (P R : Name → Type 0) (a b : DirectoryState) (only : (n : Name) → P n → R n) where
   pub others_wider : KeepsOthers P a b → KeepsOthers R a b
-  others_wider keeps = record { there = λ name apart. keeps.there name (λ t. apart (only name t)); bytes = λ number apart. keeps.bytes number (λ t. apart (only (Snapshot number) t)); whole = λ name apart. keeps.whole name (λ t. apart (only name t)) }
+  others_wider keeps = record { there = λ name apart. keeps.there name (λ t. apart (only name t)); bytes = λ number apart. keeps.bytes number (λ t. apart (only (Snapshot number) t)); whole = λ name apart. keeps.whole name (λ t. apart (only name t)); making = λ apart. keeps.making (λ t. apart (only Making t)) }
 
   pub certain_wider : KeepsCertain P a b → KeepsCertain R a b
   certain_wider keeps name apart = keeps name (λ t. apart (only name t))
@@ -43,10 +46,11 @@ module _ (P R : Name → Type 0) (a b : DirectoryState) (only : (n : Name) → P
     there = λ name apart. others.there name (λ t. apart (later name t)) ∙ first.there name (λ t. apart (only name t));
     bytes = λ number apart. others.bytes number (λ t. apart (later (Snapshot number) t)) ∙ first.bytes number (λ t. apart (only (Snapshot number) t));
     whole = λ name apart. others.whole name (λ t. apart (later name t)) ∙ first.whole name (λ t. apart (only name t));
+    making = λ apart. others.making (λ t. apart (later Making t)) ∙ first.making (λ t. apart (only Making t));
   }
 
 pub others_same : (R : Name → Type 0) (a b : DirectoryState) → b ≡ a → KeepsOthers R a b
-others_same R a b same = record { there = λ name apart. ap (λ (d : DirectoryState). d.there name) same; bytes = λ number apart. ap (λ (d : DirectoryState). d.bytes number) same; whole = λ name apart. ap (λ (d : DirectoryState). d.whole name) same }
+others_same R a b same = record { there = λ name apart. ap (λ (d : DirectoryState). d.there name) same; bytes = λ number apart. ap (λ (d : DirectoryState). d.bytes number) same; whole = λ name apart. ap (λ (d : DirectoryState). d.whole name) same; making = λ apart. ap (λ (d : DirectoryState). d.making) same }
 
 -- ---- one name
 

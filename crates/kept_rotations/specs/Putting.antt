@@ -25,6 +25,7 @@ GrowsByGroup seen frames old new =
 pub record IsMended {D : Type 0} (seen : D → Option (List ℕ)) (old new : KeptState D) : Type 0 where
   pub notes : new.notes ≡ old.notes
   pub key : new.journal.key ≡ old.journal.key
+  pub start : new.journal.start ≡ old.journal.start
   pub end : new.journal.end ≡ old.journal.end
   pub file : seen new.journal.disk ≡ seen old.journal.disk
   pub works : new.journal.has_failed ≡ false

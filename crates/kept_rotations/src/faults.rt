@@ -67,14 +67,18 @@ impl From<AllocError> for Missed {
     }
 }
 
-/// The error for which the broker is to end, where something failed behind which it isn't certain which names there are.
-pub(crate) fn unsure_for(why: Missed) -> RotationFault {
-    let error = match why {
+/// The error by which something was missed.
+pub(crate) fn error_of(why: Missed) -> io::Error {
+    match why {
         Missed::OutOfMemory => Error::from(ErrorKind::OutOfMemory),
         Missed::Failed(_, error) => error,
         Missed::Unlike => Error::from(ErrorKind::Other),
-    };
-    RotationFault::Directory(None, error)
+    }
+}
+
+/// The error for which the broker is to end, where something failed behind which it isn't certain which names there are.
+pub(crate) fn unsure_for(why: Missed) -> RotationFault {
+    RotationFault::Directory(None, error_of(why))
 }
 
 /// What it means that a call on a file failed.

@@ -10,9 +10,11 @@
 //! What a start needs of the crates below is handed on.
 #![tactic(auto)]
 
+mod drafting;
 mod dropping;
 mod faults;
 mod files;
+mod folding;
 pub mod laws;
 mod opening;
 mod putting;
@@ -28,4 +30,4 @@ pub use kept_sessions::{
 pub use opening::{MEANING, make_journal, remove_if_there};
 pub use putting::Put;
 pub use rotation::Rotation;
-pub use whole::write_whole;
+pub use whole::{id_of, write_whole};
