@@ -1,11 +1,13 @@
 -- The first bytes of a file, read piece by piece, and the head that they begin with.
-use Rattle.std.proofs.Common.{◌≡◌, ℕ, zero, suc, ◌+◌, ◌-◌, ◌≤◌, arith, List, [], ◌∷◌, ◌++◌, length, take, drop, Option, Some, None, sym, ap, refl, ◌∙◌, append_assoc, length-append, take-append-drop, subst}
+use Rattle.std.proofs.Common.{◌≡◌, ℕ, ℤ, zero, suc, ◌+◌, ◌-◌, ◌≤◌, arith, Bool, List, [], ◌∷◌, ◌++◌, length, take, drop, Option, Some, None, sym, ap, refl, ◌∙◌, append_assoc, length-append, take-append-drop, subst}
 use Rattle.std.specs.Prelude.{IfSome}
 use Rattle.std.proofs.lemmas.List.{length-take}
 use Rattle.std.specs.Int.{cast_unsigned, w64}
 use Rattle.broker_state.specs.State.{ConfigValue, State, new_state}
 use Rattle.snapshots.specs.Heads.{SnapshotValue, StartsWithHead}
 use Rattle.state_snapshots.specs.Restoring.{IsRestored}
+use Rattle.kept_starts.specs.declared.snapshot.Shape.{Shape}
+use Rattle.kept_starts.specs.Growth.{IsSetUp}
 use Rattle.kept_starts.specs.Starts.{HoldsImages, IsFrontOf}
 
 -- ---- pieces
@@ -60,28 +62,33 @@ begins h front rest file parts is =
     ap (λ (n : ℕ). drop n file) size ∙ (ap (λ (l : List ℕ). drop (length h) l) whole ∙ drop_front h (rest ++ drop (length front) file)) in
     whole ∙ ap (λ (l : List ℕ). h ++ l) (sym left)
 
-starts_in : (seen : Option (List ℕ)) (s : SnapshotValue) (front rest : List ℕ) → IsFrontOf seen front → StartsWithHead s front rest
-    → IfSome seen (λ file. StartsWithHead s file (drop (length front - length rest) file))
-starts_in None s front rest is head = tt
-starts_in (Some file) s front rest is head = record {
+starts_in : (seen : Option (List ℕ)) (s : SnapshotValue) (key : Option ℤ) (front rest : List ℕ) → IsFrontOf seen front → StartsWithHead s key front rest
+    → IfSome seen (λ file. StartsWithHead s key file (drop (length front - length rest) file))
+starts_in None s key front rest is head = tt
+starts_in (Some file) s key front rest is head = record {
   fields = head.fields;
   fits = head.fits;
   sized = head.sized;
+  keyed = head.keyed;
   says = head.says;
   parts = begins _ front rest file head.parts is;
 }
 
-pub of_snapshot : (seen : Option (List ℕ)) (config : ConfigValue) (head : SnapshotValue) (front rest : List ℕ) (at : ℕ) (before held after : State)
-    → IsFrontOf seen front → StartsWithHead head front rest → at ≡ length front - length rest → before ≡ new_state config
+pub of_snapshot : (seen : Option (List ℕ)) (config : ConfigValue) (head : SnapshotValue) (key : Option ℤ) (front rest : List ℕ) (at : ℕ) (before held after : State)
+    → IsFrontOf seen front → StartsWithHead head key front rest → at ≡ length front - length rest → before ≡ new_state config
     → IsRestored head seen at before held → after ≡ held → (number : ℕ) → cast_unsigned w64 head.number ≡ number
-    → (x : ConfigValue) × (h : HoldsImages seen x after) × (cast_unsigned w64 h.head.number ≡ number)
-of_snapshot seen config head front rest at before held after is stands behind new restored same number says = (
+    → (asked : ConfigValue) (shape : Shape) (is_grown : Bool) → IsSetUp asked shape is_grown head config
+    → (x : ConfigValue) × (h : HoldsImages seen x after) × (cast_unsigned w64 h.head.number ≡ number) × (h.key ≡ key) × IsSetUp asked shape is_grown h.head x
+of_snapshot seen config head key front rest at before held after is stands behind new restored same number says asked shape is_grown set_up = (
   config,
   record {
     head = head;
+    key = key;
     at = at;
-    stands = subst (λ (n : ℕ). IfSome seen (λ bytes. StartsWithHead head bytes (drop n bytes))) (sym behind) (starts_in seen head front rest is stands);
+    stands = subst (λ (n : ℕ). IfSome seen (λ bytes. StartsWithHead head key bytes (drop n bytes))) (sym behind) (starts_in seen head key front rest is stands);
     restored = subst (λ (s : State). IsRestored head seen at (new_state config) s) (sym same) (subst (λ (s : State). IsRestored head seen at s held) new restored);
   },
   says,
+  refl,
+  set_up,
 )

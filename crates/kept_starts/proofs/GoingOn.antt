@@ -1,14 +1,14 @@
 -- A broker that goes on behind what a snapshot and the frames of former journals led to is one that was started.
-use Rattle.std.proofs.Common.{◌≡◌, ℕ, ◌+◌, ◌<◌, ◌≤◌, arith, Bool, true, false, not, List, [], ◌++◌, take, drop, take-append-drop, Option, None, Some, refl, subst, sym, ap, ◌∙◌, inl, inr, true≢false}
+use Rattle.std.proofs.Common.{◌≡◌, ℕ, ◌+◌, ◌<◌, ◌≤◌, arith, Bool, true, false, not, List, [], ◌∷◌, ◌++◌, length, take, drop, take-append-drop, Option, None, Some, refl, subst, sym, ap, ◌∙◌, inl, inr, true≢false}
 use Rattle.std.specs.Prelude.{◌⊎◌, ◌||◌, IfSome, MatchBool}
 use Rattle.std.specs.Option.{option_map}
 use Rattle.std.specs.Int.{cast_signed, w64}
 use Rattle.std.proofs.lemmas.List.{append-nil, take-take}
 use Rattle.broker_state.specs.State.{State}
 use Rattle.journal.specs.declared.head.Head.{Head}
-use Rattle.journal.specs.declared.layout.TheConstants.{HEAD_SIZE}
-use Rattle.journal.specs.Files.{HasLaterSync, HasNoGroup, head_bytes}
-use Rattle.journal.specs.Heads.{IsHeadOf}
+use Rattle.journal.specs.declared.head.Before.{Before}
+use Rattle.journal.specs.Files.{HasLaterSync, HasNoGroup, head_bytes, head_size}
+use Rattle.journal.specs.Heads.{StartsWithJournalHead}
 use Rattle.journal.specs.Journals.{JournalState}
 use Rattle.journal.specs.Readers.{HasReadUpTo, IsReader, ReaderState, last_synced}
 use Rattle.data_directory.specs.declared.names.Name.{Name}
@@ -17,15 +17,15 @@ use Rattle.data_directory.specs.Directories.{DirectoryState, IsThere, KeepsOther
 use Rattle.sessions.specs.Orders.{World, new_world}
 use Rattle.kept_rotations.specs.Below.{replays_then}
 use Rattle.kept_rotations.specs.Below.{IsKept, KeptState}
-use Rattle.kept_rotations.specs.Below.{HasRecovered}
-use Rattle.kept_rotations.specs.GoingOn.{HasHeadAlone, IsKeptOn}
+use Rattle.kept_rotations.specs.Below.{HasRecovered, Replays}
+use Rattle.kept_rotations.specs.GoingOn.{HasHeadAlone, IsKeptOn, stood_of}
 use Rattle.kept_rotations.specs.Moments.{RotationState}
 use Rattle.kept_rotations.specs.Steps.{HasCurrentHead, IsNextTaken}
 use Rattle.kept_rotations.specs.declared.files.KeptFiles.{KeptFiles}
 use Rattle.kept_rotations.specs.declared.opening.TheConstants.{MEANING}
 use Rattle.kept_starts.specs.declared.starting.Found.{Found}
-use Rattle.kept_starts.specs.Removals.{HasRow, HasRowThen, IsOld}
-use Rattle.kept_starts.specs.Starts.{BeginsWith, LeadsTo, IsBehind, IsFolded, IsReadUp, IsRecovered, GoesOn, GoesOnBehind, GoesOnMeaning, IsStarted, MeansThis, RotatesFrom}
+use Rattle.kept_starts.specs.Removals.{HasRowThen, HasWholeRow, IsOld}
+use Rattle.kept_starts.specs.Starts.{BeginsWith, LeadsTo, IsBehind, IsCurrent, IsFolded, IsReadUp, IsRecovered, GoesOn, GoesOnBehind, GoesOnMeaning, IsStarted, RotatesFrom}
 
 -- ---- frames that lead on
 
@@ -38,7 +38,7 @@ leads_on s mid after first others = record {
 -- ---- the last journal
 
 goes_on : {D : Type 0} (seen : D → Option (List ℕ)) (found node : State) (k : KeptState D) (reader : ReaderState D) → k.world ≡ new_world node → IsReadUp seen found reader node
-    → ((first : State) (n : ℕ) → HasRecovered (seen reader.disk) reader.head.key HEAD_SIZE reader.at first node n → IsKept seen first node k) → GoesOn seen found k
+    → ((first : State) (n : ℕ) → HasRecovered (seen reader.disk) reader.head.key (head_size reader.head) reader.at first node n → IsKept seen first node k) → GoesOn seen found k
 goes_on seen found node k reader world up keeps = (
   ap (λ (w : World). w.sessions) world,
   subst (λ (s : State). IsKept seen found s k) (sym (ap (λ (w : World). w.state) world)) (keeps found up.count up.recovered),
@@ -55,14 +55,22 @@ started seen found k is on = record {
 
 pub started_up : {D : Type 0} (seen : D → Option (List ℕ)) (node : State) (k : KeptState D) (reader : ReaderState D)
     → (found : State) × IsRecovered seen found × IsReadUp seen found reader node → k.world ≡ new_world node
-    → ((first : State) (n : ℕ) → HasRecovered (seen reader.disk) reader.head.key HEAD_SIZE reader.at first node n → IsKept seen first node k) → IsStarted seen k
+    → ((first : State) (n : ℕ) → HasRecovered (seen reader.disk) reader.head.key (head_size reader.head) reader.at first node n → IsKept seen first node k) → IsStarted seen k
 started_up seen node k reader read world keeps = started seen read.0 k read.1 (goes_on seen read.0 node k reader world read.2 keeps)
 
 -- the journal was read to its end
 pub read_up : {D : Type 0} (seen : D → Option (List ℕ)) (s after : State) (reader : ReaderState D) (count : ℕ) → IsReader seen reader
-    → HasRecovered (seen reader.disk) reader.head.key HEAD_SIZE reader.at s after count → IfSome (seen reader.disk) (λ file. HasNoGroup reader.head.key reader.at (drop reader.at file))
+    → HasRecovered (seen reader.disk) reader.head.key (head_size reader.head) reader.at s after count → IfSome (seen reader.disk) (λ file. HasNoGroup reader.head.key reader.at (drop reader.at file))
     → IfSome (seen reader.disk) (λ file. HasLaterSync reader.head.key reader.at (drop reader.at file) → ⊥) → IsReadUp seen s reader after
 read_up seen s after reader count is recovered ended undamaged = record { is_reader = is; count = count; recovered = recovered; ended = ended; undamaged = undamaged }
+
+-- it has no frame
+pub none_recovered : (seen : Option (List ℕ)) (key : List ℕ) (from to : ℕ) (s after : State) (count : ℕ) → HasRecovered seen key from to s after count → count ≡ 0 → after ≡ s
+none_recovered seen key from to s after count recovered none = by recovered.frames recovered.replays (recovered.counts ∙ none)
+  where
+    by : (frames : List (List ℕ)) → Replays s frames after → length frames ≡ 0 → after ≡ s
+    by [] replays counts = sym replays
+    by (frame ∷ frames) replays counts = absurd (omega (arith, counts))
 
 -- ---- what its frames mean
 
@@ -71,45 +79,58 @@ pub begins_cut : {D : Type 0} (seen : D → Option (List ℕ)) (reader : ReaderS
     → seen disk ≡ option_map (λ file. take reader.at file) (seen reader.disk) → BeginsWith (seen disk) reader.head
 begins_cut seen reader disk is cut = subst (λ (o : Option (List ℕ)). BeginsWith o reader.head) (sym cut) (by (seen reader.disk) is.head is.said)
   where
-    by : (o : Option (List ℕ)) → IfSome o (λ file. IsHeadOf (take HEAD_SIZE file) reader.head)
-        → IfSome o (λ file. (read : HasReadUpTo reader.head.key HEAD_SIZE reader.at file) × (last_synced read.groups ≡ reader.group.synced))
+    by : (o : Option (List ℕ)) → IfSome o (λ file. StartsWithJournalHead reader.head file)
+        → IfSome o (λ file. (read : HasReadUpTo reader.head.key (head_size reader.head) reader.at file) × (last_synced read.groups ≡ reader.group.synced))
         → BeginsWith (option_map (λ file. take reader.at file) o) reader.head
     by None head said = tt
     by (Some file) head said =
-        let far : HEAD_SIZE ≤ reader.at = omega (arith, said.0.end) in
-        let left = take reader.at file in
-        (drop HEAD_SIZE left, sym (take-append-drop HEAD_SIZE left) ∙ ap (λ (l : List ℕ). l ++ drop HEAD_SIZE left) (take-take HEAD_SIZE reader.at file far ∙ head.encoded))
+        let far : head_size reader.head ≤ reader.at = omega (arith, said.0.end) in
+        let left = take reader.at file in (
+          drop (head_size reader.head) left,
+          sym (take-append-drop (head_size reader.head) left)
+              ∙ ap (λ (l : List ℕ). l ++ drop (head_size reader.head) left) (take-take (head_size reader.head) reader.at file far ∙ head.encoded),
+        )
 
 means_as_read : (o : Option (List ℕ)) (head : Head) → head.meaning ≡ MEANING → BeginsWith o head
     → IfSome o (λ file. (h : Head) × (rest : List ℕ) × (h.meaning ≡ MEANING) × (file ≡ head_bytes h ++ rest))
 means_as_read None head means begins = tt
 means_as_read (Some file) head means begins = (head, begins.0, means, begins.1)
 
--- a journal with the head of a new one means what it should
-means_alone : {D : Type 0} (seen : D → Option (List ℕ)) (number : ℕ) (journal : JournalState D) → HasHeadAlone seen number journal → MeansThis seen journal
-means_alone seen number journal alone = by (seen journal.disk) alone
-  where
-    new : Head
-    new = record { meaning = MEANING; number = cast_signed w64 number; key = journal.key }
+new_as_read : (o : Option (List ℕ)) (head : Head) → IsCurrent head → BeginsWith o head
+    → IfSome o (λ file. (h : Head) × (rest : List ℕ) × IsCurrent h × (file ≡ head_bytes h ++ rest))
+new_as_read None head current begins = tt
+new_as_read (Some file) head current begins = (head, begins.0, current, begins.1)
 
-    by : (o : Option (List ℕ)) → IfSome o (λ file. file ≡ head_bytes new)
-        → IfSome o (λ file. (h : Head) × (rest : List ℕ) × (h.meaning ≡ MEANING) × (file ≡ head_bytes h ++ rest))
+-- a journal with the head of a new one alone begins with it
+begins_alone : {D : Type 0} (seen : D → Option (List ℕ)) (number : ℕ) (before : Before) (journal : JournalState D) → HasHeadAlone seen number before journal
+    → BeginsWith (seen journal.disk) (record { meaning = MEANING; number = cast_signed w64 number; key = journal.key; before = Some before })
+begins_alone seen number before journal alone = by (seen journal.disk) alone
+  where
+    by : (o : Option (List ℕ)) → IfSome o (λ file. file ≡ head_bytes (record { meaning = MEANING; number = cast_signed w64 number; key = journal.key; before = Some before }))
+        → BeginsWith o (record { meaning = MEANING; number = cast_signed w64 number; key = journal.key; before = Some before })
     by None is = tt
-    by (Some file) is = (new, [], refl, is ∙ sym (append-nil (head_bytes new)))
+    by (Some file) is = ([], is ∙ sym (append-nil (head_bytes (record { meaning = MEANING; number = cast_signed w64 number; key = journal.key; before = Some before }))))
 
 -- where no snapshot was due the journal's meaning is known already
-pub goes_on_meaning : {D F X : Type 0} (seen : D → Option (List ℕ)) (head : Head) (old new : RotationState F) (k k' : KeptState D) (folded grown current due : Bool) (Q : Type 0) (d d' : X)
-    → BeginsWith (seen k.journal.disk) head → (current ≡ true → head.meaning ≡ MEANING) → old.files.is_current ≡ current → due ≡ (folded || grown || not current)
-    → MatchBool due (HasCurrentHead seen k k' old new) (k'.journal ≡ k.journal) → MatchBool due Q ((new ≡ old) × (d ≡ d')) → GoesOnMeaning seen new k'.journal
-goes_on_meaning seen head old new k k' folded grown current true Q d d' begins means tells is keeps folds = by keeps
+pub goes_on_meaning : {D F X : Type 0} (seen : D → Option (List ℕ)) (head : Head) (old new : RotationState F) (k k' : KeptState D) (folded grown means current due : Bool) (Q : Type 0) (d d' : X)
+    → BeginsWith (seen k.journal.disk) head → (means ≡ true → head.meaning ≡ MEANING) → (current ≡ true → IsCurrent head) → old.files.is_current ≡ current
+    → due ≡ (folded || grown || not means) → MatchBool due (HasCurrentHead seen k k' old new) (k'.journal ≡ k.journal) → MatchBool due Q ((new ≡ old) × (d ≡ d')) → GoesOnMeaning seen new k'.journal
+goes_on_meaning seen head old new k k' folded grown means current true Q d d' begins meant now tells is keeps folds = by keeps
   where
     by : HasCurrentHead seen k k' old new → GoesOnMeaning seen new k'.journal
-    by (inl same) = (same.2, means_as_read (seen k'.journal.disk) head (means (sym tells ∙ same.1)) (subst (λ (o : Option (List ℕ)). BeginsWith o head) (sym same.0.file) begins))
-    by (inr alone) = (alone.1, means_alone seen new.files.last k'.journal alone.0)
-goes_on_meaning seen head old new k k' folded grown current false Q d d' begins means tells is keeps folds =
-    let known : current ≡ true = grind (arith, is) in (
-      ap (λ (r : RotationState _). r.files.is_current) folds.0 ∙ (tells ∙ known),
-      subst (λ (x : JournalState _). MeansThis seen x) (sym keeps) (means_as_read (seen k.journal.disk) head (means known) begins),
+    by (inl same) =
+        let here : BeginsWith (seen k'.journal.disk) head = subst (λ (o : Option (List ℕ)). BeginsWith o head) (sym same.0.file) begins in
+        let known = now (sym tells ∙ same.1) in
+        (means_as_read (seen k'.journal.disk) head known.0 here, λ is_current. new_as_read (seen k'.journal.disk) head known here)
+    by (inr alone) =
+        let head_now : Head = record { meaning = MEANING; number = cast_signed w64 new.files.last; key = k'.journal.key; before = Some (stood_of old.files.last k.journal) } in
+        let here = begins_alone seen new.files.last (stood_of old.files.last k.journal) k'.journal alone.0 in
+        (means_as_read (seen k'.journal.disk) head_now refl here, λ is_current. new_as_read (seen k'.journal.disk) head_now (refl, refl) here)
+goes_on_meaning seen head old new k k' folded grown means current false Q d d' begins meant now tells is keeps folds =
+    let known : means ≡ true = grind (arith, is) in
+    let here : BeginsWith (seen k'.journal.disk) head = subst (λ (x : JournalState _). BeginsWith (seen x.disk) head) (sym keeps) begins in (
+      means_as_read (seen k'.journal.disk) head (meant known) here,
+      λ is_current. new_as_read (seen k'.journal.disk) head (now (sym tells ∙ (sym (ap (λ (r : RotationState _). r.files.is_current) folds.0) ∙ is_current))) here,
     )
 
 -- ---- a snapshot is taken
@@ -174,13 +195,13 @@ folded_behind old new found found' snapshot last in_order same_snapshot same_las
 pub folded_as_asked : {F : Type 0} (d mid new : DirectoryState) (Q : Type 0) (asked grown current is_due : Bool) (old after : RotationState F) (found found' : Found) (snapshot last : ℕ) → snapshot ≤ last
     → IsThere d (Journal last) true → KeepsOthers (IsOld snapshot last) d mid → (old.files.snapshot ≡ snapshot) × (old.files.last ≡ last) × (old.draft ≡ None)
     → found' ≡ found → found.snapshot ≡ snapshot → found.journal ≡ last → found.has_grown ≡ grown → is_due ≡ (asked || grown || not current)
-    → MatchBool is_due (IsFolded old after × HasRowThen mid new old.files.last after.files.last) Q → (asked ≡ true) ⊎ (found'.has_grown ≡ true)
-    → IsBehind found' after.files × HasRow new after.files.last
-folded_as_asked d mid new Q asked grown current true old after found found' snapshot last in_order there keeps rotates same at behind tells due folds is = (
+    → (now told : State) → MatchBool is_due (IsFolded old after × HasRowThen mid new old.files.last after.files.last now) Q → told ≡ now → (asked ≡ true) ⊎ (found'.has_grown ≡ true)
+    → IsBehind found' after.files × HasWholeRow new after.files.last told
+folded_as_asked d mid new Q asked grown current true old after found found' snapshot last in_order there keeps rotates same at behind tells due now told folds alike is = (
   folded_behind old after found found' snapshot last in_order rotates.0 rotates.1 same at behind folds.0,
-  folds.1 (last_stays d mid snapshot last old.files.last in_order rotates.1 keeps there),
+  subst (HasWholeRow new after.files.last) (sym alike) (folds.1 (last_stays d mid snapshot last old.files.last in_order rotates.1 keeps there)),
 )
-folded_as_asked d mid new Q asked grown current false old after found found' snapshot last in_order there keeps rotates same at behind tells due folds is = absurd (by is)
+folded_as_asked d mid new Q asked grown current false old after found found' snapshot last in_order there keeps rotates same at behind tells due now told folds alike is = absurd (by is)
   where
     by : (asked ≡ true) ⊎ (found'.has_grown ≡ true) → ⊥
     by (inl one) = let wrong : true ≡ false = grind (arith, due, one) in true≢false wrong

@@ -2,4 +2,10 @@ pub mod Fronts
 pub mod GoingOn
 pub mod Removing
 pub mod Numbered
+pub mod Placed
 pub mod Taking
+pub mod Asked
+pub mod Elsewhere
+pub mod Grown
+pub mod Stopping
+pub mod RowKept

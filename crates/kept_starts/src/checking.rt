@@ -1,12 +1,12 @@
 //! A directory that is looked at, and not started.
 
-ghost use Rattle.std.specs.Prelude.{IfOk};
-ghost use Rattle.kept_starts.specs.Rows.{IsTopRow};
-ghost use Rattle.kept_starts.specs.Starts.{TellsFiles};
+ghost use Rattle.std.specs.Prelude.{◌≡◌, IfOk, IsErr, MatchBool};
+ghost use Rattle.kept_starts.specs.Rows.{IsTakenRow, IsTopRow};
+ghost use Rattle.kept_starts.specs.Starts.{FormerLead, TellsFiles};
 
 use crate::configuration::bad_topics;
 use crate::faults::StartFault;
-use crate::recovering::{Newest, former_of, newest_seen, size_of};
+use crate::recovering::{Former, Newest, former_of, newest_seen, size_of};
 use crate::snapshot::{Shape, config_in};
 use crate::standing::{Numbers, Row, highest_of, names_of, numbers_in, sort_numbers, standing_of};
 use crate::starting::{Found, found_of, nothing_found};
@@ -14,10 +14,13 @@ use crate::telling::{FileFound, Telling, Watching, What};
 use data_directory::{Directory, Kind, Name};
 use segment::BatchStore;
 use std::alloc::{AllocError, Allocator};
-use std::io::ErrorKind;
+use std::io::{Error, ErrorKind};
 
 /// How often a check begins again at most.
 const MOST_AGAIN: usize = 3;
+
+/// What is said where a directory isn't left alone for as long as it is read.
+const CHANGED: &str = "its files changed while it was read";
 
 /// What a directory has.
 #[derive(Drop)]
@@ -29,16 +32,37 @@ pub struct Checked<A: Allocator> {
     pub verdict: Result<Found, StartFault<A>>,
 }
 
-/// A snapshot's own configuration is asked for: where that is refused, the snapshot is at fault.
-fn own_fault<A: Allocator>(row: Row, why: StartFault<A>) -> StartFault<A> {
+/// A snapshot's own configuration is asked for: where that is refused, the snapshot, which is of this version, is at fault.
+fn own_fault<A: Allocator>(row: Row, version: i16, why: StartFault<A>) -> StartFault<A> {
     match why {
         StartFault::Configuration(_)
         | StartFault::OtherRole(_)
         | StartFault::OtherTopic {
             name: _,
             partitions: _,
-        } => bad_topics(Name::Snapshot(row.snapshot)),
+        } => bad_topics(Name::Snapshot(row.snapshot), version),
         why => why,
+    }
+}
+
+/// Reads all of a row but its last journal, as a start does that asks for what its snapshot has.
+fn former_seen<S: BatchStore, D: Directory, W: Watching>(
+    alloc: S::Alloc,
+    directory: &D,
+    row: Row,
+    told: &mut Telling<'_, W, S::Alloc>,
+) -> Result<Former<S>, StartFault<S::Alloc>>
+    ensures leads { IfOk result (λ former. FormerLead (D.state directory.now)
+        (D.gives directory.now) D.File.seen former.read.row.snapshot former.read.row.last
+        former.stood former.node) }
+    ensures row { IfOk result (λ former. IsTopRow (D.state directory.now) row.snapshot row.last
+        → IsTakenRow (D.state directory.now) (D.gives directory.now) D.File.seen
+        former.read.row.snapshot former.read.row.last) }
+{
+    let (config, version) = config_in(alloc, directory, row.snapshot)?;
+    match former_of(alloc, directory, &config, row, Shape::Former, told) {
+        Ok(former) => Ok(former),
+        Err(why) => Err(own_fault(row, version, why)),
     }
 }
 
@@ -52,8 +76,7 @@ fn read_row<S: BatchStore, D: Directory, W: Watching>(
     ensures tells { IfOk result (λ found. IsTopRow (D.state directory.now) row.snapshot row.last
         → TellsFiles (D.state directory.now) (D.gives directory.now) D.File.seen found) }
 {
-    let config = config_in(alloc, directory, row.snapshot)?;
-    let former = former_of(alloc, directory, &config, row, Shape::Former, told)?;
+    let former = former_seen(alloc, directory, row, told)?;
     let newest: Newest<S, D::File> = newest_seen(alloc, directory, former, told)?;
     let (at, size) = (newest.reader.at(), newest.reader.size());
     Ok(found_of(newest.read, newest.frames, at, size))
@@ -72,10 +95,7 @@ fn judge<S: BatchStore, D: Directory, W: Watching>(
     let Some(row) = standing_of(alloc, directory)? else {
         return Ok(nothing_found());
     };
-    match read_row::<S, D, W>(alloc, directory, row, told) {
-        Ok(found) => Ok(found),
-        Err(why) => Err(own_fault(row, why)),
-    }
+    read_row::<S, D, W>(alloc, directory, row, told)
 }
 
 /// The file that is at fault.
@@ -89,6 +109,7 @@ fn name_at_fault<A: Allocator>(why: &StartFault<A>) -> Option<Name> {
         | StartFault::Later(name, _)
         | StartFault::Missing(name)
         | StartFault::NotRegular(name)
+        | StartFault::OfAnother(name, _)
         | StartFault::Failed(Some(name), _) => Some(*name),
         _ => None,
     }
@@ -279,11 +300,28 @@ fn is_certain<A: Allocator>(
     }
 }
 
+/// What counts of the last look: nothing, where names came or went meanwhile.
+fn told_last<A: Allocator>(checked: Checked<A>, is_same: bool) -> Checked<A>
+    ensures { MatchBool is_same (result ≡ checked) (IsErr result.verdict) }
+{
+    if is_same {
+        return checked;
+    }
+    let why = match checked.verdict {
+        Err(StartFault::OutOfMemory) => StartFault::OutOfMemory,
+        _ => StartFault::Failed(None, Error::other(CHANGED)),
+    };
+    Checked {
+        files: checked.files,
+        verdict: Err(why),
+    }
+}
+
 /// Reads a directory as a start does, and tells what is there, and what a start would recover or refuse. Nothing of it changes:
 /// no file is opened but to be read. What would be asked of the topics isn't judged.
 ///
 /// A broker may run in it and take snapshots meanwhile, so that files come and go: then it begins again, three times at most,
-/// and what it met last counts. `watch` is told how far it is.
+/// and what it met last counts, unless names came or went then too: that is an error. `watch` is told how far it is.
 pub fn check<S: BatchStore, D: Directory, W: Watching>(
     alloc: S::Alloc,
     directory: &D,
@@ -300,6 +338,6 @@ pub fn check<S: BatchStore, D: Directory, W: Watching>(
         }
         was_refused = is_same && checked.verdict.is_err();
     }
-    let (checked, _) = check_between::<S, D, W>(alloc, directory, watch);
-    checked
+    let (checked, is_same) = check_between::<S, D, W>(alloc, directory, watch);
+    told_last(checked, is_same)
 }

@@ -1,6 +1,13 @@
 //! Whether a snapshot is of a broker that was set up as it is asked for now, and how it is set up.
 
+ghost use Rattle.std.specs.Prelude.{◌≡◌, IfOk, OnOk, bytes_eq, map, nat_lt};
+ghost use Rattle.std.specs.List.{list_any, position};
+ghost use Rattle.broker_state.specs.ConfigValues.{config_value, topic_config};
+ghost use Rattle.state_snapshots.specs.Snapshots.{role_number};
+ghost use Rattle.kept_starts.specs.Growth.{HasTopicsOf, asks_more, partitions_said};
+
 use crate::faults::{Damage, StartFault};
+use crate::offsets::{Field, version_of};
 use broker_state::{Config, GROUP_TOPIC, Role, TopicConfig};
 use data_directory::Name;
 use frame_fields::{Array, Topic, Topics};
@@ -9,34 +16,24 @@ use state_snapshots::role_number;
 use std::alloc::{AllocError, Allocator};
 use std::string::String;
 
-/// Byte offset of the role in a snapshot.
-const ROLE_AT: u64 = 22;
-
-/// Byte offset of the topics in a snapshot.
-const TOPICS_AT: u64 = 40;
-
 /// The topics of a snapshot.
 type SnapshotTopics<'a> = Array<'a, Topic<'a, SnapshotPartition>>;
 
-/// How what is asked for differs from what a snapshot has.
-#[derive(Clone, Copy, PartialEq, Eq)]
-pub(crate) enum Change {
-    /// Not at all, but perhaps in the order of the topics.
-    Same,
-    /// Topics or partitions come to those that are there.
-    Grown,
-}
-
 /// The role that a snapshot says.
-pub(crate) fn role_of<A: Allocator>(name: Name, number: i16) -> Result<Role, StartFault<A>> {
+pub(crate) fn role_of<A: Allocator>(
+    name: Name,
+    head: &SnapshotHead<'_>,
+) -> Result<Role, StartFault<A>>
+    ensures { IfOk result (λ role. role_number role ≡ head.now.role) }
+{
     for role in [Role::Leader, Role::Follower] {
-        if role_number(role) == number {
+        if role_number(role) == head.role {
             return Ok(role);
         }
     }
     Err(StartFault::Damaged {
         name,
-        at: ROLE_AT,
+        at: Field::Role.at(version_of(head)),
         why: Damage::BadRole,
     })
 }
@@ -64,37 +61,30 @@ fn partitions_of<A: Allocator>(config: &Config<A>, name: &[u8]) -> usize {
     0
 }
 
-/// Refuses a topic that has fewer partitions than a snapshot has of it, and tells whether it has more.
+/// Refuses a topic that has fewer partitions than a snapshot has of it.
 fn check_topic<A: Allocator + Copy>(
     alloc: A,
     topics: &SnapshotTopics<'_>,
     asked: &TopicConfig<A>,
-) -> Result<Change, StartFault<A>> {
+) -> Result<(), StartFault<A>> {
     let partitions = partitions_in(topics, asked.name.as_bytes());
     if partitions > asked.partitions as usize {
         let name = Vec::from_slice(alloc, asked.name.as_bytes())?;
         return Err(StartFault::OtherTopic { name, partitions });
     }
-    if partitions < asked.partitions as usize {
-        return Ok(Change::Grown);
-    }
-    Ok(Change::Same)
+    Ok(())
 }
 
-/// Refuses a snapshot that has more of a topic than is asked for, in the order in which they are; else tells whether it has
-/// less.
+/// Refuses a snapshot that has more of a topic than is asked for, in the order in which they are.
 fn check_topics<A: Allocator + Copy>(
     alloc: A,
     config: &Config<A>,
     topics: &SnapshotTopics<'_>,
-) -> Result<Change, StartFault<A>> {
-    let mut change = Change::Same;
+) -> Result<(), StartFault<A>> {
     for asked in &config.topics {
-        if check_topic(alloc, topics, asked)? == Change::Grown {
-            change = Change::Grown;
-        }
+        check_topic(alloc, topics, asked)?;
     }
-    Ok(change)
+    Ok(())
 }
 
 /// Refuses a snapshot that has a topic which isn't asked for.
@@ -113,33 +103,83 @@ fn check_others<A: Allocator + Copy>(
     Ok(())
 }
 
+/// Refuses a snapshot of a broker of another role than is asked for.
+fn check_role<A: Allocator>(
+    name: Name,
+    asked: Role,
+    head: &SnapshotHead<'_>,
+) -> Result<(), StartFault<A>>
+    ensures { OnOk result (head.now.role ≡ role_number asked) }
+{
+    let role = role_of(name, head)?;
+    if role != asked {
+        return Err(StartFault::OtherRole(role));
+    }
+    Ok(())
+}
+
 /// Refuses a snapshot of a broker that isn't as is asked for, and hasn't less: the role first, then the topics that are
-/// asked for, in their order, then those of the snapshot. Else tells whether it has less.
+/// asked for, in their order, then those of the snapshot.
 pub(crate) fn check_configuration<A: Allocator + Copy>(
     alloc: A,
     name: Name,
     config: &Config<A>,
     head: &SnapshotHead<'_>,
-) -> Result<Change, StartFault<A>> {
-    let role = role_of(name, head.role)?;
-    if role != config.role {
-        return Err(StartFault::OtherRole(role));
-    }
-    let change = check_topics(alloc, config, &head.topics)?;
+) -> Result<(), StartFault<A>>
+    ensures { OnOk result (head.now.role ≡ role_number config.now.role) }
+{
+    check_role(name, config.role, head)?;
+    check_topics(alloc, config, &head.topics)?;
     check_others(alloc, config, &head.topics)?;
     if partitions_in(&head.topics, GROUP_TOPIC) != 1 {
-        return Err(bad_topics(name));
+        return Err(bad_topics(name, version_of(head)));
     }
-    Ok(change)
+    Ok(())
 }
 
-/// The topics of a snapshot are none that a broker can have.
-pub(crate) fn bad_topics<A: Allocator>(name: Name) -> StartFault<A> {
+/// The topics of a snapshot of this version are none that a broker can have.
+pub(crate) fn bad_topics<A: Allocator>(name: Name, version: i16) -> StartFault<A> {
     StartFault::Damaged {
         name,
-        at: TOPICS_AT,
+        at: Field::Topics.at(version),
         why: Damage::BadTopics,
     }
+}
+
+/// Which topic of these has a name, if one has it.
+fn index_named<A: Allocator>(topics: &[TopicConfig<A>], name: &[u8]) -> Option<usize>
+    ensures { result ≡ position (λ t. bytes_eq (topic_config t).name name.now) topics.now }
+{
+    topics
+        .iter()
+        .position(|topic| topic.name.as_bytes() == name)
+}
+
+/// How many partitions of a topic a configuration says; none where it has no such topic. That of the groups isn't among them.
+#[tactic(auto, using(crate::proofs::Asked::said_there, crate::proofs::Asked::said_none))]
+fn partitions_said<A: Allocator>(config: &Config<A>, name: &[u8]) -> u32
+    ensures { result ≡ partitions_said (config_value config.now) name.now }
+{
+    match index_named(&config.topics, name) {
+        Some(index) => config.topics[index].partitions,
+        None => 0,
+    }
+}
+
+/// Whether more partitions are asked for of some of these topics than a configuration has.
+fn any_more<A: Allocator>(topics: &[TopicConfig<A>], had: &Config<A>) -> bool
+    ensures { result ≡ list_any (λ t. nat_lt (partitions_said (config_value had.now)
+        (topic_config t).name) (topic_config t).partitions) topics.now }
+{
+    topics.iter().any(|topic| partitions_said(had, topic.name.as_bytes()) < topic.partitions)
+}
+
+/// Whether more partitions are asked for of some topic than a configuration has.
+#[tactic(auto, using(crate::proofs::Asked::any_asked))]
+pub(crate) fn asks_more<A: Allocator>(asked: &Config<A>, had: &Config<A>) -> bool
+    ensures { result ≡ asks_more (config_value asked.now) (config_value had.now) }
+{
+    any_more(&asked.topics, had)
 }
 
 /// A configuration like another one, with these topics and this first producer id.
@@ -147,7 +187,10 @@ fn config_like<A: Allocator + Copy>(
     asked: &Config<A>,
     topics: Vec<TopicConfig<A>, A>,
     first_producer: i64,
-) -> Result<Config<A>, AllocError> {
+) -> Result<Config<A>, AllocError>
+    ensures role { IfOk result (λ config. config.role ≡ asked.now.role) }
+    ensures topics { IfOk result (λ config. config.topics.items ≡ topics.items) }
+{
     Ok(Config {
         role: asked.role,
         node_id: asked.node_id,
@@ -158,19 +201,40 @@ fn config_like<A: Allocator + Copy>(
     })
 }
 
+/// The same topic once more.
+fn topic_again<A: Allocator + Copy>(topic: &TopicConfig<A>) -> Result<TopicConfig<A>, AllocError>
+    ensures { IfOk result (λ again. topic_config again ≡ topic_config topic.now) }
+{
+    Ok(TopicConfig {
+        name: topic.name.clone()?,
+        partitions: topic.partitions,
+    })
+}
+
+/// The same topics once more.
+#[tactic(auto, using(crate::proofs::Asked::one_again))]
+fn topics_again<A: Allocator + Copy>(
+    alloc: A,
+    topics: &[TopicConfig<A>],
+) -> Result<Vec<TopicConfig<A>, A>, AllocError>
+    ensures { IfOk result (λ again. map topic_config again.items ≡ map topic_config topics.now) }
+{
+    let mut again = Vec::new(alloc);
+    for topic in topics {
+        again.push(topic_again(topic)?)?;
+    }
+    Ok(again)
+}
+
 /// What is asked for, with a first producer id.
 pub(crate) fn asked_config<A: Allocator + Copy>(
     alloc: A,
     asked: &Config<A>,
     first_producer: i64,
-) -> Result<Config<A>, AllocError> {
-    let mut topics = Vec::new(alloc);
-    for topic in &asked.topics {
-        topics.push(TopicConfig {
-            name: topic.name.clone()?,
-            partitions: topic.partitions,
-        })?;
-    }
+) -> Result<Config<A>, AllocError>
+    ensures { IfOk result (λ config. HasTopicsOf (config_value asked.now) (config_value config)) }
+{
+    let topics = topics_again(alloc, &asked.topics)?;
     config_like(asked, topics, first_producer)
 }
 
@@ -213,9 +277,9 @@ pub(crate) fn own_config<A: Allocator + Copy>(
     name: Name,
     head: &SnapshotHead<'_>,
 ) -> Result<Config<A>, StartFault<A>> {
-    let role = role_of(name, head.role)?;
+    let role = role_of(name, head)?;
     let Some(topics) = former_topics(alloc, &head.topics)? else {
-        return Err(bad_topics(name));
+        return Err(bad_topics(name, version_of(head)));
     };
     Ok(Config {
         role,
@@ -236,6 +300,6 @@ pub(crate) fn former_config<A: Allocator + Copy>(
 ) -> Result<Config<A>, StartFault<A>> {
     match former_topics(alloc, &head.topics)? {
         Some(topics) => Ok(config_like(asked, topics, head.first_producer)?),
-        None => Err(bad_topics(name)),
+        None => Err(bad_topics(name, version_of(head))),
     }
 }

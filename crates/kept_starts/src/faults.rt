@@ -28,6 +28,8 @@ pub enum StartFault<A: Allocator> {
     Missing(Name),
     /// What has the name is no regular file.
     NotRegular(Name),
+    /// The first of these files is of another directory than the second: what it says of that isn't so.
+    OfAnother(Name, Name),
     /// The directory is that of a broker with another role.
     OtherRole(Role),
     /// The directory has so many partitions of the topic, and fewer are asked for, or none.
@@ -90,6 +92,9 @@ pub enum Damage {
     /// No sound group stands there, though another journal follows.
     #[error("LaterJournal")]
     LaterJournal,
+    /// The journal ends elsewhere than the one behind it says.
+    #[error("LaterHead")]
+    LaterHead,
 }
 
 impl<A: Allocator> From<AllocError> for StartFault<A> {
@@ -128,9 +133,10 @@ pub(crate) fn as_failure<A: Allocator>(why: StartFault<A>) -> StartFault<A>
             at: _,
             why: _,
         } => Some(name),
-        StartFault::Later(name, _) | StartFault::Missing(name) | StartFault::NotRegular(name) => {
-            Some(name)
-        }
+        StartFault::Later(name, _)
+        | StartFault::Missing(name)
+        | StartFault::NotRegular(name)
+        | StartFault::OfAnother(name, _) => Some(name),
         StartFault::OtherRole(_)
         | StartFault::OtherTopic {
             name: _,

@@ -9,6 +9,10 @@
 //! `snapshot.tmp`, which it loses once it is on the disk. So where a snapshot stands its journal is whole, and a
 //! journal without a group and without any snapshot is one that was being made.
 //!
+//! The head of a journal says the number, the key and the size of the one before it, and that of a snapshot the key of the
+//! journal of its number. Files that don't follow one another so are refused. Files of version 0 say nothing of it: of them the
+//! numbers alone are asked for.
+//!
 //! [`check`] reads a directory as a start does, and tells what each file is; it changes nothing.
 //!
 //! What a listener needs of the crates below is handed on.
@@ -17,7 +21,10 @@
 mod checking;
 mod configuration;
 mod faults;
+pub mod laws;
 mod making;
+mod offsets;
+mod places;
 mod reading;
 mod recovering;
 mod snapshot;

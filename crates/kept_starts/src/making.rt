@@ -9,7 +9,9 @@ use crate::faults::{StartFault, failed};
 use crate::standing::FIRST;
 use broker_state::{BrokerState, Config, ConfigError};
 use data_directory::{Directory, Kind, Name};
-use kept_rotations::{make_journal, write_whole};
+use journal::Before;
+use journal::layout::KEY_SIZE;
+use kept_rotations::{id_of, make_journal, write_whole};
 use segment::BatchStore;
 use snapshot_drafts::DraftError;
 use std::alloc::Allocator;
@@ -53,20 +55,31 @@ fn not_written<A: Allocator>(why: DraftError) -> StartFault<A>
     }
 }
 
-/// Makes the snapshot of a broker to which nothing was done yet, which is on the disk for certain before it gets its name.
+/// What the first journal says of what stood before it: that nothing did.
+const NOTHING: Before = Before {
+    number: 0,
+    key: [0; KEY_SIZE],
+    size: 0,
+};
+
+/// Makes the snapshot of a broker to which nothing was done yet, and whose journal has this key. It is on the disk for certain
+/// before it gets its name.
 fn make_snapshot<S: BatchStore, D: Directory>(
     alloc: S::Alloc,
     directory: &mut D,
+    key: &[u8; KEY_SIZE],
     state: &BrokerState<S>,
 ) -> Result<D::Draft, StartFault<S::Alloc>>
     ensures is_synced { IfOk result (λ whole. D.Draft.synced whole ≡ D.Draft.seen whole) }
+    ensures is_the_one { IfOk result (λ whole. D.Draft.number whole
+        ≡ (D.state directory.new).making) }
     ensures fails { IfErr result IsFailure }
 {
     let file = match directory.draft() {
         Ok(file) => file,
         Err(why) => return Err(failed(Some(Name::Making), why)),
     };
-    match write_whole(alloc, file, FIRST, state) {
+    match write_whole(alloc, file, id_of(FIRST, key), state) {
         Ok(whole) => Ok(whole),
         Err(why) => Err(not_written(why)),
     }
@@ -87,6 +100,7 @@ fn not_made<D: Directory, A: Allocator>(directory: &D, name: Name, why: Error) -
 /// Gives the snapshot its name, for certain.
 fn name_snapshot<D: Directory>(directory: &mut D, whole: D::Draft) -> io::Result<()>
     requires is_synced { D.Draft.synced whole ≡ D.Draft.seen whole }
+    requires is_the_one { D.Draft.number whole ≡ (D.state directory.old).making }
 {
     directory.publish(whole, FIRST)?;
     directory.sync()
@@ -118,10 +132,11 @@ pub(crate) fn make_files<S: BatchStore, D: Directory>(
     let state: BrokerState<S> = new_broker(alloc, config, config.first_producer)?;
     remove_unfinished(directory, Name::Making)?;
     remove_unfinished(directory, Name::Journal(FIRST))?;
-    if let Err(why) = make_journal(directory, FIRST) {
-        return Err(not_made(directory, Name::Journal(FIRST), why));
-    }
-    let whole = make_snapshot(alloc, directory, &state)?;
+    let key = match make_journal(directory, FIRST, NOTHING) {
+        Ok(journal) => journal.key(),
+        Err(why) => return Err(not_made(directory, Name::Journal(FIRST), why)),
+    };
+    let whole = make_snapshot(alloc, directory, &key, &state)?;
     match name_snapshot(directory, whole) {
         Ok(()) => Ok(()),
         Err(why) => Err(not_made(directory, Name::Snapshot(FIRST), why)),

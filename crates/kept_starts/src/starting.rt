@@ -1,15 +1,18 @@
 //! The start of a broker with a directory.
 
-ghost use Rattle.std.specs.Prelude.{◌≡◌, ◌⊎◌, ◌+◌, ◌≤◌, ◌||◌, not, None, false, true, IfErr, IfOk, IfSome, MatchBool, OnOk};
+ghost use Rattle.std.specs.Prelude.{◌≡◌, ◌⊎◌, ◌+◌, ◌≤◌, ◌||◌, not, None, false, true, IfErr, IfOk, IfSome, MatchBool, OnErr, OnOk};
+ghost use Rattle.broker_state.specs.ConfigValues.{config_value};
 ghost use Rattle.broker_state.specs.State.{State};
 ghost use Rattle.journal.specs.Readers.{KeepsItsWord};
 ghost use Rattle.data_directory.specs.declared.names.Name.TheVariants.{Journal as JournalOf};
 ghost use Rattle.data_directory.specs.Directories.{AreCertain, IsName, KeepsOthers};
-ghost use Rattle.kept_rotations.specs.Steps.{HasCurrentHead, IsBelow};
-ghost use Rattle.kept_starts.specs.Removals.{HasRow, HasRowThen, IsOld, Removes};
+ghost use Rattle.kept_rotations.specs.Steps.{FoldsNames, HasCurrentHead, IsBelow};
+ghost use Rattle.kept_starts.specs.Growth.{HoldsStill, KnowsSnapshots};
+ghost use Rattle.kept_starts.specs.Removals.{HasRowThen, HasWholeRow, IsOld, KeepsRow, Removes, StaysWhole, StopsStanding};
 ghost use Rattle.kept_starts.specs.Refusals.{IsFailure, RefusesUnchanged};
-ghost use Rattle.kept_starts.specs.Rows.{IsTakenRow, IsTopRow};
-ghost use Rattle.kept_starts.specs.Starts.{BeginsWith, FilesLead, GoesOnBehind, GoesOnMeaning, IsBehind, IsFolded, IsReadUp, IsRecovered, IsStarted, RotatesFrom, TakesFiles};
+ghost use Rattle.kept_starts.specs.Rows.{IsShortened, IsTakenRow, IsTopRow};
+ghost use Rattle.kept_rotations.specs.declared.opening.TheConstants.{MEANING};
+ghost use Rattle.kept_starts.specs.Starts.{BeginsWith, GoesOnBehind, GoesOnMeaning, IsBehind, IsCurrent, IsEmptyIf, IsFolded, IsReadUp, IsRecovered, IsStarted, LeadAsAsked, RotatesFrom, TakesFiles};
 
 use crate::faults::{StartFault, as_failure, failed};
 use crate::making::{make_files, remove_unfinished};
@@ -19,6 +22,7 @@ use crate::standing::{FIRST_ROW, Row, names_of, standing_of};
 use crate::telling::{Telling, Watching};
 use broker_state::Config;
 use data_directory::{Directory, Name};
+use journal::JournalError;
 use kept_rotations::{FoldFault, Keeper, KeptFiles, Missed, Rotation, RotationFault};
 use segment::BatchStore;
 use std::alloc::Allocator;
@@ -63,8 +67,19 @@ pub struct Keeping {
     pub most_journal: u64,
 }
 
-/// What it means that no snapshot was taken.
-fn not_folded<A: Allocator>(why: FoldFault) -> StartFault<A>
+/// What it means that the last journal failed, which has this number.
+fn journal_failed<A: Allocator>(last: u64, why: JournalError) -> StartFault<A>
+    ensures { IsFailure result }
+{
+    let name = Some(Name::Journal(last));
+    match why {
+        JournalError::OnDisk(why) => failed(name, why),
+        _ => failed(name, Error::from(ErrorKind::Other)),
+    }
+}
+
+/// What it means that no snapshot was taken, where the last journal had this number.
+fn not_folded<A: Allocator>(last: u64, why: FoldFault) -> StartFault<A>
     ensures { IsFailure result }
 {
     match why {
@@ -74,35 +89,44 @@ fn not_folded<A: Allocator>(why: FoldFault) -> StartFault<A>
             failed(Some(Name::Making), Error::from(ErrorKind::Other))
         }
         FoldFault::Rotation(RotationFault::Directory(name, why)) => failed(name, why),
-        FoldFault::Rotation(RotationFault::Journal(_)) => {
-            failed(None, Error::from(ErrorKind::Other))
-        }
+        FoldFault::Rotation(RotationFault::Journal(why)) => journal_failed(last, why),
     }
 }
 
-/// Removes files with a number below that of the snapshot, whose name is on the disk for certain.
-#[tactic(auto, using(crate::proofs::Removing::one_snapshot, crate::proofs::Removing::one_journal))]
-fn remove_lower<D: Directory, A: Allocator>(
+/// Removes a file of this number. Where it can't be removed it stays, and the lowest number of such files is given.
+fn remove_or_note<D: Directory>(
     directory: &mut D,
-    names: &[Name],
-    snapshot: u64,
-) -> Result<(), StartFault<A>>
+    name: Name,
+    number: u64,
+    again: Option<u64>,
+) -> Option<u64>
+    ensures { KeepsOthers (IsName name) (D.state directory.old) (D.state directory.new) }
+{
+    match (directory.remove(name), again) {
+        (Ok(()), again) => again,
+        (Err(_), Some(lower)) => Some(lower.min(number)),
+        (Err(_), None) => Some(number),
+    }
+}
+
+/// Removes files with a number below that of the snapshot, whose name is on the disk for certain. One that can't be removed is
+/// passed over: it is tried again while the broker runs. The lowest number of such files is given.
+#[tactic(auto, using(crate::proofs::Removing::one_snapshot, crate::proofs::Removing::one_journal))]
+fn remove_lower<D: Directory>(directory: &mut D, names: &[Name], snapshot: u64) -> Option<u64>
     requires is_certain { AreCertain (D.state directory.old) }
     ensures keeps_others { KeepsOthers (IsBelow snapshot) (D.state directory.old)
         (D.state directory.new) }
-    ensures fails { IfErr result IsFailure }
 {
+    let mut again = None;
     for name in names {
         match name {
             Name::Snapshot(number) | Name::Journal(number) if *number < snapshot => {
-                if let Err(why) = directory.remove(*name) {
-                    return Err(failed(Some(*name), why));
-                }
+                again = remove_or_note(directory, *name, *number, again);
             }
             _ => {}
         }
     }
-    Ok(())
+    again
 }
 
 /// Removes the journal behind the last one, if it was being made.
@@ -122,16 +146,16 @@ fn remove_next<D: Directory, A: Allocator>(
 }
 
 /// Removes a journal that was being made, and has the names on the disk for certain, as a start that was ended may have left
-/// them unsynced; then what the snapshot has taken the place of.
-#[tactic(auto, using(crate::proofs::Removing::settled))]
+/// them unsynced; then what the snapshot has taken the place of. Gives the lowest number of a file that couldn't be removed.
+#[tactic(auto, using(crate::proofs::Removing::next_alone, crate::proofs::Removing::next_synced, crate::proofs::Removing::settled))]
 fn settle_names<D: Directory, A: Allocator + Copy>(
     alloc: A,
     directory: &mut D,
     row: Row,
     has_unfinished: bool,
-) -> Result<(), StartFault<A>>
-    ensures keeps_others { OnOk result (KeepsOthers (IsOld row.snapshot row.last)
-        (D.state directory.old) (D.state directory.new)) }
+) -> Result<Option<u64>, StartFault<A>>
+    ensures keeps_others { KeepsOthers (IsOld row.snapshot row.last) (D.state directory.old)
+        (D.state directory.new) }
     ensures fails { IfErr result IsFailure }
 {
     remove_next(directory, row.last, has_unfinished)?;
@@ -140,11 +164,11 @@ fn settle_names<D: Directory, A: Allocator + Copy>(
         Err(why) => return Err(failed(None, why)),
     }
     let names = names_of(alloc, directory)?;
-    remove_lower(directory, &names, row.snapshot)
+    Ok(remove_lower(directory, &names, row.snapshot))
 }
 
-/// Which files there are, and how large they are.
-fn files_of(read: RowRead, is_current: bool) -> KeptFiles
+/// Which files there are, and how large they are; and the lowest number of a file that is to be removed still.
+fn files_of(read: RowRead, is_current: bool, again: Option<u64>) -> KeptFiles
     ensures is_the_row { (result.snapshot ≡ read.row.snapshot) × (result.last ≡ read.row.last) }
     ensures current { result.is_current ≡ is_current }
 {
@@ -155,7 +179,7 @@ fn files_of(read: RowRead, is_current: bool) -> KeptFiles
         snapshot_size: read.snapshot_size,
         journals_size: read.journals_size,
         is_current,
-        again: None,
+        again,
     }
 }
 
@@ -193,7 +217,7 @@ pub(crate) fn found_of(read: RowRead, frames: u64, at: u64, size: u64) -> Found
 
 /// The broker of a row goes on with the last journal. A snapshot in the making goes first, as what is written again may need its
 /// room. Then all that was read is on the disk for certain, and what is of no use in the directory is removed.
-#[tactic(auto, using(crate::proofs::GoingOn::started_up, crate::proofs::GoingOn::begins_cut, crate::proofs::Removing::making_then))]
+#[tactic(auto, using(crate::proofs::GoingOn::started_up, crate::proofs::GoingOn::begins_cut, crate::proofs::Removing::making_alone, crate::proofs::Removing::making_then))]
 fn go_on<S: BatchStore + Drop, D: Directory>(
     alloc: S::Alloc,
     directory: &mut D,
@@ -214,8 +238,8 @@ fn go_on<S: BatchStore + Drop, D: Directory>(
     ensures current { IfOk result (λ s. s.rotation.files.is_current ≡ newest.is_current) }
     ensures begins { IfOk result (λ s. BeginsWith (D.File.seen s.keeper.journal.disk)
         newest.reader.head) }
-    ensures removes { OnOk result (KeepsOthers (IsOld newest.read.row.snapshot newest.read.row.last)
-        (D.state directory.old) (D.state directory.new)) }
+    ensures removes { KeepsOthers (IsOld newest.read.row.snapshot newest.read.row.last)
+        (D.state directory.old) (D.state directory.new) }
     ensures fails { IfErr result IsFailure }
 {
     let read = newest.read;
@@ -231,11 +255,11 @@ fn go_on<S: BatchStore + Drop, D: Directory>(
         Ok(()) => {}
         Err(why) => return Err(why),
     }
-    match settle_names(alloc, directory, read.row, read.has_unfinished) {
-        Ok(()) => {}
+    let again = match settle_names(alloc, directory, read.row, read.has_unfinished) {
+        Ok(again) => again,
         Err(why) => return Err(why),
-    }
-    let files = files_of(read, newest.is_current);
+    };
+    let files = files_of(read, newest.is_current, again);
     Ok(Started {
         keeper,
         rotation: Rotation::new(alloc, files, keeping.most_journal),
@@ -255,22 +279,27 @@ fn fold<S: BatchStore + Drop, D: Directory>(
     ensures keeps_what_was_found { OnOk result (started.new.found ≡ started.old.found) }
     ensures folds { OnOk result (IsFolded started.old.rotation started.new.rotation) }
     ensures are_there { OnOk result (HasRowThen (D.state directory.old) (D.state directory.new)
-        started.old.rotation.files.last started.new.rotation.files.last) }
+        started.old.rotation.files.last started.new.rotation.files.last
+        started.old.keeper.world.state) }
+    ensures names { FoldsNames started.old.keeper started.old.rotation (D.state directory.old)
+        (D.state directory.new) }
     ensures means { OnOk result (HasCurrentHead D.File.seen started.old.keeper started.new.keeper
         started.old.rotation started.new.rotation) }
     ensures fails { IfErr result IsFailure }
 {
+    let last = started.rotation.files().last;
     match started.rotation.fold(&mut started.keeper, directory) {
         Ok(()) => Ok(()),
-        Err(why) => Err(not_folded(why)),
+        Err(why) => Err(not_folded(last, why)),
     }
 }
 
-/// Whether a snapshot is to be taken at once.
-fn is_fold_due(keeping: Keeping, is_current: bool, is_grown: bool) -> bool
-    ensures { result ≡ (keeping.is_folded || is_grown || not is_current) }
+/// Whether a snapshot is to be taken at once: where it is asked for, where topics are added, and where the last journal's frames mean
+/// something else than those that come.
+fn is_fold_due(keeping: Keeping, is_of_this_meaning: bool, is_grown: bool) -> bool
+    ensures { result ≡ (keeping.is_folded || is_grown || not is_of_this_meaning) }
 {
-    keeping.is_folded || is_grown || !is_current
+    keeping.is_folded || is_grown || !is_of_this_meaning
 }
 
 /// Takes a snapshot at once if one is due.
@@ -287,12 +316,15 @@ fn fold_if_due<S: BatchStore + Drop, D: Directory>(
     ensures folds { OnOk result (MatchBool is_due
         (IsFolded started.old.rotation started.new.rotation
         × HasRowThen (D.state directory.old) (D.state directory.new)
-        started.old.rotation.files.last started.new.rotation.files.last)
+        started.old.rotation.files.last started.new.rotation.files.last
+        started.old.keeper.world.state)
         ((started.new.rotation ≡ started.old.rotation) × (directory.new ≡ directory.old))) }
     ensures means { OnOk result (MatchBool is_due
         (HasCurrentHead D.File.seen started.old.keeper started.new.keeper
         started.old.rotation started.new.rotation)
         (started.new.keeper.journal ≡ started.old.keeper.journal)) }
+    ensures names { OnErr result (FoldsNames started.old.keeper started.old.rotation
+        (D.state directory.old) (D.state directory.new)) }
     ensures fails { IfErr result IsFailure }
 {
     if is_due {
@@ -301,9 +333,63 @@ fn fold_if_due<S: BatchStore + Drop, D: Directory>(
     Ok(())
 }
 
+/// Refuses a journal of this start's own that has frames: none came since it was made.
+fn check_empty<A: Allocator>(last: u64, count: u64) -> Result<(), StartFault<A>>
+    ensures { OnOk result (count ≡ 0) }
+{
+    if count > 0 {
+        return Err(StartFault::Failed(
+            Some(Name::Journal(last)),
+            Error::from(ErrorKind::InvalidData),
+        ));
+    }
+    Ok(())
+}
+
+/// Refuses, where a snapshot is read again that was just taken, a last journal that has frames.
+fn check_made<A: Allocator>(shape: Shape, last: u64, count: u64) -> Result<(), StartFault<A>>
+    ensures { OnOk result (IsEmptyIf shape count) }
+{
+    match shape {
+        Shape::Former => Ok(()),
+        Shape::Asked => check_empty(last, count),
+    }
+}
+
+/// Reads the files that stand in a directory, of which the last journal is to be gone on with. Nothing of the directory changes.
+fn read_standing<S: BatchStore, D: Directory, W: Watching>(
+    alloc: S::Alloc,
+    directory: &D,
+    config: &Config<S::Alloc>,
+    row: Row,
+    shape: Shape,
+    watch: &mut W,
+) -> Result<Newest<S, D::File>, StartFault<S::Alloc>>
+    ensures leads { IfOk result (λ newest. LeadAsAsked (D.state directory.now)
+        (D.gives directory.now) D.File.seen (config_value config.now) shape newest.read.is_grown
+        newest.read.row.snapshot newest.read.row.last newest.node) }
+    ensures row { IfOk result (λ newest. IsTopRow (D.state directory.now) row.snapshot row.last
+        → IsTakenRow (D.state directory.now) (D.gives directory.now) D.File.seen
+        newest.read.row.snapshot newest.read.row.last) }
+    ensures shortens { IfOk result (λ newest. IsShortened row newest.read.row) }
+    ensures recovered { IfOk result (λ newest. (former : State) × IsRecovered D.File.seen former
+        × IsReadUp D.File.seen former newest.reader newest.node) }
+    ensures keeps_its_word { IfOk result (λ newest. KeepsItsWord
+        (D.File.seen newest.reader.disk) (D.File.may_leave newest.reader.disk)) }
+    ensures means { IfOk result (λ newest. newest.is_of_this_meaning ≡ true
+        → newest.reader.head.meaning ≡ MEANING) }
+    ensures current { IfOk result (λ newest. newest.is_current ≡ true
+        → IsCurrent newest.reader.head) }
+{
+    let mut told = Telling::new(alloc, watch);
+    let former = former_of(alloc, directory, config, row, shape, &mut told)?;
+    let newest: Newest<S, D::File> = newest_of(alloc, directory, former, &mut told)?;
+    check_made(shape, newest.read.row.last, newest.count)?;
+    Ok(newest)
+}
+
 /// Starts the broker of files that stand in a directory, and takes a snapshot where that is due. Where more is asked for than the
 /// snapshot has, its configuration is the snapshot's.
-#[tactic(auto, using(crate::proofs::Taking::ready, crate::proofs::Taking::still_in_order))]
 fn start_standing<S: BatchStore + Drop, D: Directory, W: Watching>(
     alloc: S::Alloc,
     directory: &mut D,
@@ -315,27 +401,29 @@ fn start_standing<S: BatchStore + Drop, D: Directory, W: Watching>(
 ) -> Result<Started<S, D>, StartFault<S::Alloc>>
     requires in_order { row.snapshot ≤ row.last }
     ensures is_started { IfOk result (λ s. IsStarted D.File.seen s.keeper) }
-    ensures leads { IfOk result (λ s. FilesLead (D.state directory.old) (D.gives directory.old)
-        D.File.seen s.found.snapshot s.found.journal s.keeper.world.state) }
+    ensures leads { IfOk result (λ s. LeadAsAsked (D.state directory.old) (D.gives directory.old)
+        D.File.seen (config_value config.now) shape s.found.has_grown
+        s.found.snapshot s.found.journal s.keeper.world.state) }
     ensures row { IfOk result (λ s. IsTopRow (D.state directory.old) row.snapshot row.last
         → IsTakenRow (D.state directory.old) (D.gives directory.old) D.File.seen
         s.found.snapshot s.found.journal) }
-    ensures of_the_row { IfOk result (λ s. s.found.snapshot ≡ row.snapshot) }
+    ensures of_the_row { IfOk result (λ s. IsShortened row
+        (record { snapshot = s.found.snapshot; last = s.found.journal })) }
     ensures rotates { IfOk result (λ s. (s.rotation.draft ≡ None)
         × GoesOnBehind s.found.snapshot s.found.journal s.rotation.files) }
     ensures folds { IfOk result (λ s. (keeping.is_folded ≡ true) ⊎ (s.found.has_grown ≡ true)
         → IsBehind s.found s.rotation.files
-        × HasRow (D.state directory.new) s.rotation.files.last) }
+        × HasWholeRow (D.state directory.new) s.rotation.files.last s.keeper.world.state) }
     ensures removes { IfOk result (λ s. Removes (D.state directory.old) (D.state directory.new)
-        s.found s.rotation.files) }
+        s.found s.rotation.files s.keeper.world.state) }
     ensures means { IfOk result (λ s. GoesOnMeaning D.File.seen s.rotation s.keeper.journal) }
+    ensures stops { OnErr result (StopsStanding (D.state directory.old) (D.gives directory.old)
+        D.File.seen (config_value config.now) shape row (D.state directory.new)) }
     ensures refuses { IfErr result
         (RefusesUnchanged (D.state directory.old) (D.state directory.new)) }
 {
-    let mut told = Telling::new(alloc, watch);
-    let former = former_of(alloc, directory, config, row, shape, &mut told)?;
-    let newest: Newest<S, D::File> = newest_of(alloc, directory, former, &mut told)?;
-    let is_due = is_fold_due(keeping, newest.is_current, newest.read.is_grown);
+    let newest: Newest<S, D::File> = read_standing(alloc, directory, config, row, shape, watch)?;
+    let is_due = is_fold_due(keeping, newest.is_of_this_meaning, newest.read.is_grown);
     let mut started = match go_on(alloc, directory, newest, keeping) {
         Ok(started) => started,
         Err(why) => return Err(why),
@@ -358,18 +446,26 @@ fn grow<S: BatchStore + Drop, D: Directory, W: Watching>(
     watch: &mut W,
 ) -> Result<Started<S, D>, StartFault<S::Alloc>>
     requires behind { IsBehind former.found former.rotation.files }
+    requires whole { HasWholeRow (D.state directory.old) former.rotation.files.last
+        former.keeper.world.state }
     ensures is_started { IfOk result (λ s. IsStarted D.File.seen s.keeper) }
     ensures keeps_what_was_found { IfOk result (λ s. s.found ≡ former.found) }
     ensures folds { IfOk result (λ s. (s.rotation.draft ≡ None)
         × IsBehind s.found s.rotation.files
-        × HasRow (D.state directory.new) s.rotation.files.last) }
+        × HasWholeRow (D.state directory.new) s.rotation.files.last s.keeper.world.state) }
+    ensures holds { IfOk result (λ s. HoldsStill (KnowsSnapshots D.state D.File.seen)
+        former.keeper.world.state s.keeper.world.state) }
     ensures rotates { IfOk result (λ s. former.found.has_grown ≡ true
         → RotatesFrom s.found s.rotation) }
     ensures means { IfOk result (λ s. GoesOnMeaning D.File.seen s.rotation s.keeper.journal) }
+    ensures stops { OnErr result (StaysWhole (KnowsSnapshots D.state D.File.seen)
+        (D.state directory.new) former.rotation.files.last former.keeper.world.state) }
     ensures fails { IfErr result IsFailure }
 {
     let found = former.found;
     let files = former.rotation.files();
+    // Called for its clause alone.
+    former.keeper.node().state().know_sound();
     drop(former);
     let row = Row {
         snapshot: files.snapshot,
@@ -399,6 +495,7 @@ fn row_of<S: BatchStore, D: Directory>(
         × (directory.new ≡ directory.old))) }
     ensures in_order { IfOk result (λ row. IfSome standing (λ found. found.snapshot ≤ found.last)
         → row.snapshot ≤ row.last) }
+    ensures none { OnErr result (standing ≡ None) }
     ensures refuses { IfErr result
         (RefusesUnchanged (D.state directory.old) (D.state directory.new)) }
 {
@@ -418,11 +515,27 @@ fn fault_of<A: Allocator>(is_new: bool, why: StartFault<A>) -> StartFault<A>
     if is_new { as_failure(why) } else { why }
 }
 
+/// Refuses files of this start's own that have less than is asked for: they were made with all of it.
+fn check_as_asked<A: Allocator>(found: Found) -> Result<(), StartFault<A>>
+    ensures as_asked { OnOk result (found.is_new ≡ true → found.has_grown ≡ false) }
+    ensures new { OnErr result (found.is_new ≡ true) }
+    ensures fails { IfErr result IsFailure }
+{
+    if found.is_new && found.has_grown {
+        return Err(failed(
+            Some(Name::Snapshot(FIRST_ROW.snapshot)),
+            Error::from(ErrorKind::InvalidData),
+        ));
+    }
+    Ok(())
+}
+
 /// Starts a broker of this configuration with a directory: judges its files and handles the journals' frames again, and
 /// only then cuts what is behind the last sound group, and removes files that are of no use; or makes its files, if it has
 /// none. What was read is on the disk for certain behind it, whatever a start before found there. Where topics or partitions
 /// are asked for that it doesn't have, they are added, by a snapshot. The first producer id that is asked for counts for a new
-/// directory alone. `watch` is told how far it is.
+/// directory alone. A file below the snapshot that can't be removed stays, and is tried again while the broker runs. `watch` is told
+/// how far it is.
 ///
 /// # Errors
 ///
@@ -437,12 +550,16 @@ pub fn start<S: BatchStore + Drop, D: Directory, W: Watching>(
     watch: &mut W,
 ) -> Result<Started<S, D>, StartFault<S::Alloc>>
     ensures is_started { IfOk result (λ s. IsStarted D.File.seen s.keeper) }
-    ensures takes_its_files { IfOk result (λ s. TakesFiles (D.state directory.old)
-        (D.gives directory.old) D.File.seen s.found s.keeper.world.state) }
+    ensures takes_its_files { IfOk result (λ s. TakesFiles (KnowsSnapshots D.state D.File.seen)
+        (D.state directory.old) (D.gives directory.old) D.File.seen (config_value config.now)
+        s.found s.keeper.world.state) }
     ensures rotates { IfOk result (λ s. RotatesFrom s.found s.rotation) }
     ensures removes { IfOk result (λ s. s.found.is_new ≡ false
-        → Removes (D.state directory.old) (D.state directory.new) s.found s.rotation.files) }
+        → Removes (D.state directory.old) (D.state directory.new) s.found s.rotation.files
+        s.keeper.world.state) }
     ensures means { IfOk result (λ s. GoesOnMeaning D.File.seen s.rotation s.keeper.journal) }
+    ensures keeps_the_row { OnErr result (KeepsRow (KnowsSnapshots D.state D.File.seen)
+        (D.state directory.old) (D.gives directory.old) D.File.seen (D.state directory.new)) }
     ensures refuses { IfErr result
         (RefusesUnchanged (D.state directory.old) (D.state directory.new)) }
 {
@@ -454,6 +571,10 @@ pub fn start<S: BatchStore + Drop, D: Directory, W: Watching>(
         Err(why) => return Err(fault_of(standing.is_none(), why)),
     };
     started.found.is_new = standing.is_none();
+    match check_as_asked(started.found) {
+        Ok(()) => {}
+        Err(why) => return Err(why),
+    }
     if started.found.has_grown {
         return grow(alloc, directory, config, started, keeping, watch);
     }

@@ -4,9 +4,9 @@ ghost use Rattle.std.specs.Prelude.{◌≡◌};
 
 use broker_state::Role;
 use data_directory::Name;
-use journal::layout::VERSION as JOURNAL_VERSION;
+use journal::Head;
+use journal::layout::{OLD_VERSION, VERSION};
 use kept_rotations::{Unwatched, Watch};
-use snapshots::layout::VERSION as SNAPSHOT_VERSION;
 use state_snapshots::ImageWatch;
 use std::alloc::{AllocError, Allocator};
 
@@ -58,6 +58,14 @@ pub struct FileFound {
     pub what: What,
 }
 
+/// The version of a journal that has this head.
+fn version_of(head: &Head) -> i16 {
+    match head.before {
+        Some(_) => VERSION,
+        None => OLD_VERSION,
+    }
+}
+
 /// What is told while files are read.
 #[derive(Drop)]
 pub(crate) struct Telling<'a, W: Watching, A: Allocator> {
@@ -107,13 +115,14 @@ impl<'a, W: Watching, A: Allocator> Telling<'a, W, A> {
     /// The file is a snapshot, and was read.
     pub(crate) fn end_snapshot(
         &mut self,
+        version: i16,
         role: Role,
         topics: u64,
         partitions: u64,
         size: u64,
     ) -> Result<(), AllocError> {
         let what = What::Snapshot {
-            version: SNAPSHOT_VERSION,
+            version,
             role,
             topics,
             partitions,
@@ -122,16 +131,17 @@ impl<'a, W: Watching, A: Allocator> Telling<'a, W, A> {
         Ok(self.files.push(FileFound { name, size, what })?)
     }
 
-    /// The file is a journal, and was read up to this end.
+    /// The file is a journal with this head, and was read up to this end.
     pub(crate) fn end_journal(
         &mut self,
+        head: &Head,
         frames: u64,
         end: u64,
         size: u64,
     ) -> Result<(), AllocError> {
         self.frames = self.frames.saturating_add(frames);
         let what = What::Journal {
-            version: JOURNAL_VERSION,
+            version: version_of(head),
             groups: self.groups,
             frames,
             end,

@@ -16,6 +16,6 @@ returns g c = record {
       let journal = c.found_of.ensures.tells.1 ∙ ap (λ (r : RowRead). r.row.last) newest.ensures.read in
       told_files d gives g.D.File.Disk.seen found newest.newest.node c.found_of.ensures.old
       (row_is d gives g.D.File.Disk.seen row.snapshot row.last found.snapshot found.journal snapshot journal (former.ensures.row top))
-      (files_lead d gives g.D.File.Disk.seen row.snapshot row.last found.snapshot found.journal former.former.node newest.newest.node newest.newest.node newest.newest.reader
-      former.ensures.leads newest.ensures.is_its_file newest.ensures.recovers snapshot journal refl);
+      (files_lead d gives g.D.File.Disk.seen row.snapshot row.last found.snapshot found.journal former.former.stood former.former.node newest.newest.node newest.newest.node newest.newest.reader
+      former.ensures.leads newest.ensures.is_its_file newest.ensures.placed newest.ensures.recovers snapshot journal refl);
 }
