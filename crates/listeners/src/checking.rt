@@ -187,9 +187,9 @@ fn read<R: Clock + Files<File = File> + RandomSource + Alloc + Clone + Drop, E: 
 
 /// Reads a directory as a start does, and changes nothing, whether or not a broker runs in it. On `out` comes a line of each of its
 /// files, in the order in which a start reads them, and then one of what a start would recover. Answers a status: 0 a start would
-/// take it; 1 a file of it is damaged, missing, of a later version or not a regular file; 2 it is no data directory; 3 out of memory;
-/// 4 a call of the system failed, or `out` takes no more. Where it isn't 0, the last line on `err` says why. On `err` come lines on
-/// how far it is, too, where it takes long.
+/// take it; 1 a file of it is damaged, missing, of a later version, of another directory or not a regular file; 2 it is no data
+/// directory; 3 out of memory; 4 a call of the system failed, or `out` takes no more. Where it isn't 0, the last line on `err` says
+/// why. On `err` come lines on how far it is, too, where it takes long.
 pub fn check_directory<
     R: Clock + Files<File = File> + RandomSource + Alloc + Clone + Drop,
     W: Write,

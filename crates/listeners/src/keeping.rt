@@ -1,6 +1,6 @@
 //! A broker that keeps its changes in a directory: its start, and why there is none or it ends.
 
-ghost use Rattle.std.specs.Prelude.{◌≡◌, ◌≤◌, IfErr, IfOk};
+ghost use Rattle.std.specs.Prelude.{◌≡◌, ◌≤◌, None, IfErr, IfOk};
 
 use crate::options::KeptOptions;
 use crate::progress::Progress;
@@ -88,7 +88,17 @@ fn words_of(alloc: Global, why: &StartFault<Global>) -> Result<Option<String>, A
         StartFault::Later(name, why) => format!(in alloc; "{name}: of a later version: {why}")?,
         StartFault::Missing(name) => format!(in alloc; "{name}: missing")?,
         StartFault::NotRegular(name) => format!(in alloc; "{name}: not a regular file")?,
-        _ => return Ok(None),
+        StartFault::OfAnother(name, other) => {
+            format!(in alloc; "{name}: of another directory than {other}")?
+        }
+        StartFault::OtherRole(_)
+        | StartFault::OtherTopic {
+            name: _,
+            partitions: _,
+        }
+        | StartFault::Configuration(_)
+        | StartFault::OutOfMemory
+        | StartFault::Failed(_, _) => return Ok(None),
     };
     Ok(Some(words))
 }
@@ -195,7 +205,9 @@ fn begin<'a, R: Clock + Files<File = File> + RandomSource + Alloc + Clone + Drop
     config: &Config<Global>,
     keeping: Keeping,
     err: &mut E,
-) -> Result<Started<Store, Folder<'a, R>>, StartFault<Global>> {
+) -> Result<Started<Store, Folder<'a, R>>, StartFault<Global>>
+    ensures not_begun { IfOk result (λ started. started.rotation.draft ≡ None) }
+{
     let mut progress = Progress::new(rt, alloc, "recovering", err);
     start(alloc, folder, config, keeping, &mut progress)
 }
@@ -214,6 +226,7 @@ pub(crate) fn started_in<
     err: &mut E,
 ) -> Result<InFolder<'a, R>, u8>
     ensures is_status { IfErr result (λ status. status ≤ 4) }
+    ensures not_begun { IfOk result (λ x. x.1.rotation.draft ≡ None) }
 {
     let mut folder = opened(rt, alloc, directory, err)?;
     match begin(rt, alloc, &mut folder, config, keeping, err) {

@@ -5,7 +5,7 @@ use crate::connections::{Connections, sooner};
 use crate::ending::Ended;
 use crate::reports::{Reports, is_over, millis_between};
 use crate::serving_sessions::{ServedSessions, Unkept};
-use kept_starts::{Missed, Taken};
+use kept_starts::{Missed, Name, Taken};
 use mio::net::TcpStream;
 use mio::{Events, Poll};
 use std::io::{Error, Result, Write};
@@ -364,13 +364,16 @@ impl<B: ServedSessions> Rounds<B> {
             began = time(rt, self.now);
             if self.connections.is_to_sync() {
                 self.sync(rt, began, err)?;
+                began = time(rt, began);
             }
         }
         let clock = millis_between(self.began, began);
+        let journal = self.connections.journal();
         let done = match self.connections.tend(clock) {
             Ok(done) => done,
             Err(why) => return Err(Stop::Keeping(why)),
         };
+        self.note_switched(rt, journal, began, err);
         self.note_missed(done.missed, err);
         if let Some(taken) = done.taken {
             self.note_taken(&taken, millis_between(began, time(rt, began)), err);
@@ -387,6 +390,22 @@ impl<B: ServedSessions> Rounds<B> {
         match self.connections.tend_at() {
             Some(at) => at <= clock,
             None => false,
+        }
+    }
+
+    /// Says that a step took long behind which groups go to another journal, if it did: it has synced the one before.
+    fn note_switched<R: Clock, E: Write>(
+        &mut self,
+        rt: &R,
+        before: Option<Name>,
+        began: Instant,
+        err: &mut E,
+    ) {
+        let Some(name) = before else {
+            return;
+        };
+        if self.connections.journal() != Some(name) {
+            self.reports.synced(name, began, time(rt, began), err);
         }
     }
 

@@ -1,6 +1,8 @@
 //! The sessions of a broker, as connections visit them: those of one that keeps nothing on disk, and those of one that keeps
 //! its changes in a journal.
 
+ghost use Rattle.std.specs.Prelude.{◌≡◌, None};
+
 use crate::options::SyncWay;
 use crate::reports::is_over;
 use kept_starts::sessions::{Plainly, Seat, Session, Sessions, Visit};
@@ -12,6 +14,7 @@ use segment::BatchStore;
 use std::alloc::{AllocError, Global};
 use std::collections::VecDeque;
 use std::io::{Error, Read, Write};
+use std::marker::Model;
 use std::time::{Duration, Instant};
 
 /// A round notes no more once it has so many bytes of frames.
@@ -210,6 +213,17 @@ pub(crate) struct Kept<S: BatchStore + Drop, D: Directory + Drop> {
     woken: usize,
 }
 
+impl<S: BatchStore + Drop, D: Directory + Drop> Model for Kept<S, D> {
+    ghost use Rattle.kept_starts.specs.Below.{IsTheOne};
+
+    ghost Value = { D };
+
+    ghost view = { λ k. k.directory };
+
+    // The snapshot that is written is the directory's one in the making.
+    ghost invariant = { λ k. IsTheOne D.Draft.number k.rotation (D.state k.directory) };
+}
+
 impl<S: BatchStore + Drop, D: Directory + Drop> Kept<S, D> {
     /// A broker that was started with a directory, and whose journal is synced in this way.
     pub(crate) fn new(
@@ -220,6 +234,7 @@ impl<S: BatchStore + Drop, D: Directory + Drop> Kept<S, D> {
     ) -> Kept<S, D>
     where
         S: BatchStore<Alloc = Global>,
+        requires not_begun { started.rotation.draft ≡ None }
     {
         Kept {
             directory,

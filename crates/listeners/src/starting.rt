@@ -231,9 +231,9 @@ fn start_kept<
 /// of any of them by itself. It goes on until it is ended from outside. Answers a status only where it
 /// can't: 2 the configuration is refused, and nothing listened; 3 out of memory; 4 it can't listen, or
 /// can no longer. The last line on `err` says why. Where it is to keep what it acknowledges in a directory, it
-/// answers 1 too, where that is damaged or of a later program; 2, where it is of another configuration; and 4, where a
-/// call on its files fails, also later. Then what wasn't kept hasn't left. Where it is to take a snapshot alone, it does, listens
-/// nowhere, and answers 0.
+/// answers 1 too, where that is damaged, of a later program, or has files of another one; 2, where it is of another
+/// configuration; and 4, where a call on its files fails, also later. Then what wasn't kept hasn't left. Where it is to take a
+/// snapshot alone, it does, listens nowhere, and answers 0.
 ///
 /// At a port that is given it listens once it can answer, so behind a recovery; where the system chooses the port, from the
 /// start. On `out` comes the line `listening ADDRESS:PORT` once it listens and can answer. On `err` come lines on
