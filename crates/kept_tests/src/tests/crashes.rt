@@ -1,13 +1,15 @@
 //! Journals whose disk fails at each call in turn, and all that a crash may leave then: any front of what wasn't synced,
 //! also with zeros behind it, and any sectors of it torn. What is read are the groups that are left whole, all that were
-//! synced among them; the end is no damage, and a further group goes on from there.
+//! synced among them; the end is no damage, and a further group goes on from there. So it is of a new journal, and of one
+//! of version 0 that is gone on with.
 
-use crate::tests::groups::{KEPT_HEAD, frames_of, group_of, joined, journal_name, refusal};
-use crate::tests::journal_bytes::FOUR;
+use crate::tests::groups::{frames_of, group_of, joined, journal_name, kept_head, refusal};
+use crate::tests::journal_bytes::{FOUR, OLD_HEAD};
 use crate::tests::lent::{Lent, Watched};
-use journal::layout::{FRAMES_AT, HEAD_SIZE};
+use journal::layout::{FRAMES_AT, HEAD_SIZE, OLD_HEAD_SIZE, VERSION_AT};
 use journal::{
-    CreateError, Disk, GroupBuffer, Journal, JournalError, MemoryDisk, Reader, SECTOR_SIZE,
+    CreateError, Disk, GroupBuffer, Journal, JournalError, MemoryDisk, OpenError, Reader,
+    SECTOR_SIZE,
 };
 use refusing_alloc::Refusing;
 use std::alloc::{AllocError, Allocator};
@@ -84,18 +86,59 @@ pub(crate) fn written_to<D: Disk, A: Allocator + Copy>(
     Some(count)
 }
 
-/// The same of a new journal on a disk, which may fail while it is made.
-fn written<D: Disk + Drop, A: Allocator + Copy>(alloc: A, disk: D) -> Option<usize> {
-    match Journal::create(disk, &KEPT_HEAD) {
-        Ok(mut journal) => written_to(alloc, &mut journal),
-        Err(CreateError::OnDisk(_)) => Some(0),
-        Err(CreateError::NotEmpty) => None,
+/// The journal that a disk has, made ready for groups; or whether the disk failed.
+fn settled<A: Allocator + Copy, B: Allocator + Copy>(
+    alloc: B,
+    lent: Lent<'_, A>,
+) -> Result<Journal<Lent<'_, A>>, bool> {
+    let mut reader = match Reader::open(lent, alloc) {
+        Ok(reader) => reader,
+        Err(why) => return Err(matches!(why, OpenError::OnDisk(_))),
+    };
+    if reader.read_to_end().is_err() {
+        return Err(true);
+    }
+    match reader.into_journal() {
+        Ok(journal) => Ok(journal),
+        Err(_) => Err(true),
     }
 }
 
-/// How many of the groups stand in so many bytes of the file.
-fn groups_within(size: usize) -> usize {
-    let mut end = HEAD_SIZE;
+/// A new journal on a disk that has no bytes; else the one that it has. Or whether the disk failed.
+pub(crate) fn begun<A: Allocator + Copy, B: Allocator + Copy>(
+    alloc: B,
+    lent: Lent<'_, A>,
+) -> Result<Journal<Lent<'_, A>>, bool> {
+    if !lent.watched.disk.bytes().is_empty() {
+        return settled(alloc, lent);
+    }
+    match Journal::create(lent, &kept_head()) {
+        Ok(journal) => Ok(journal),
+        Err(why) => Err(matches!(why, CreateError::OnDisk(_))),
+    }
+}
+
+/// How many groups are written to a journal on a disk, which may fail while that is made, or made ready.
+fn written<A: Allocator + Copy, B: Allocator + Copy>(alloc: B, lent: Lent<'_, A>) -> Option<usize> {
+    match begun(alloc, lent) {
+        Ok(mut journal) => written_to(alloc, &mut journal),
+        Err(true) => Some(0),
+        Err(false) => None,
+    }
+}
+
+/// How many bytes the head of a file has, by its version.
+fn start_of(whole: &[u8]) -> usize {
+    if whole.get(VERSION_AT + 1) == Some(&0) {
+        OLD_HEAD_SIZE
+    } else {
+        HEAD_SIZE
+    }
+}
+
+/// How many of the groups stand in so many bytes of the file, behind a head of so many.
+fn groups_within(start: usize, size: usize) -> usize {
+    let mut end = start;
     let mut count = 0_usize;
     for (frames, _way) in &GROUPS {
         end = end.saturating_add(FRAMES_AT).saturating_add(frames.len());
@@ -168,18 +211,27 @@ pub(crate) fn goes_on<A: Allocator + Copy>(alloc: A, file: &[u8], count: usize) 
     is_done && has_further(alloc, lent, count)
 }
 
+/// Why a file of so many bytes isn't opened, the first of which, fewer than its head has, are as they should be.
+fn wanted_refusal(size: usize, same: usize) -> &'static str {
+    if size < OLD_HEAD_SIZE {
+        "Short"
+    } else if same < OLD_HEAD_SIZE {
+        "BadCrc"
+    } else if size < HEAD_SIZE {
+        "Short"
+    } else {
+        "BadBefore"
+    }
+}
+
 /// Whether what a crash leaves of a file is read as it should, of which so many bytes were synced.
 fn is_recovered<A: Allocator + Copy>(alloc: A, left: &[u8], whole: &[u8], synced: usize) -> bool {
     let same = common(left, whole);
-    if HEAD_SIZE <= same {
-        return synced <= same && goes_on(alloc, left, groups_within(same));
+    let start = start_of(whole);
+    if start <= same {
+        return synced <= same && goes_on(alloc, left, groups_within(start, same));
     }
-    let wanted = if left.len() < HEAD_SIZE {
-        "Short"
-    } else {
-        "BadCrc"
-    };
-    synced == 0 && refusal(alloc, left) == wanted
+    synced == 0 && refusal(alloc, left) == wanted_refusal(left.len(), same)
 }
 
 /// Whether a front of the file is read as it should, and with zeros behind it.
@@ -212,16 +264,23 @@ fn is_torn_recovered<A: Allocator + Copy, B: Allocator + Copy>(
     }
 }
 
-/// Whether a front of so many bytes is tried: each seventeenth, and each that ends within a byte of the end of a group.
-fn is_tried(size: usize) -> bool {
-    let is_near = groups_within(size.saturating_sub(2)) < groups_within(size.saturating_add(1));
-    size % 17 == 0 || is_near
+/// How many parts of a file end within so many bytes: of its head, of so many, the first 28 and all; and the groups.
+fn ends_within(start: usize, size: usize) -> usize {
+    let of_head = usize::from(OLD_HEAD_SIZE <= size).saturating_add(usize::from(start <= size));
+    groups_within(start, size).saturating_add(of_head)
+}
+
+/// Whether a front of so many bytes is tried: each seventeenth, and each that ends within a byte of the end of a part.
+fn is_tried(start: usize, size: usize) -> bool {
+    let before = ends_within(start, size.saturating_sub(2));
+    size % 17 == 0 || before < ends_within(start, size.saturating_add(1))
 }
 
 /// The first front of the file that isn't read as it should, where a crash leaves it.
 fn first_wrong_front<A: Allocator + Copy>(alloc: A, whole: &[u8], synced: usize) -> Option<usize> {
+    let start = start_of(whole);
     for size in synced..=whole.len() {
-        if is_tried(size) && !is_front_recovered(alloc, whole, synced, size) {
+        if is_tried(start, size) && !is_front_recovered(alloc, whole, synced, size) {
             return Some(size);
         }
     }
@@ -260,13 +319,14 @@ pub(crate) fn first_wrong<A: Allocator + Copy, B: Allocator + Copy>(
 /// What is wrong of a disk to which the groups are written, of which one call fails, and how many were written.
 type Outcome = (Option<(&'static str, usize)>, Option<usize>);
 
-/// What comes of a disk in this heap of which this call fails.
+/// What comes of a disk in this heap, with no bytes or a head, of which this call fails.
 fn outcome_in<A: Allocator + Copy, B: Allocator + Copy>(
     heap: A,
     alloc: B,
+    head: &[u8],
     failing: u64,
 ) -> Outcome {
-    let Ok(mut watched) = Watched::new(heap, b"") else {
+    let Ok(mut watched) = Watched::new(heap, head) else {
         return (None, Some(0));
     };
     watched.disk.fail_at(failing);
@@ -278,9 +338,9 @@ fn outcome_in<A: Allocator + Copy, B: Allocator + Copy>(
 }
 
 /// The call that fails where something is wrong; and how many calls fail before none does.
-fn calls_that_fail<A: Allocator + Copy>(alloc: A) -> Result<u64, (u64, Outcome)> {
+fn calls_that_fail<A: Allocator + Copy>(alloc: A, head: &[u8]) -> Result<u64, (u64, Outcome)> {
     for failing in 1..MOST_CALLS {
-        let outcome = outcome_in(alloc, alloc, failing);
+        let outcome = outcome_in(alloc, alloc, head, failing);
         if outcome.0.is_some() || outcome.1.is_none() {
             return Err((failing, outcome));
         }
@@ -295,7 +355,7 @@ fn calls_that_fail<A: Allocator + Copy>(alloc: A) -> Result<u64, (u64, Outcome)>
 fn allocations_that_fail<A: Allocator + Copy>(inner: A) -> Result<u64, (u64, Outcome)> {
     for refused in 1..MOST_CALLS {
         let heap = Refusing::new(inner, refused);
-        let outcome = outcome_in(&heap, inner, 0);
+        let outcome = outcome_in(&heap, inner, b"", 0);
         if outcome.0.is_some() || outcome.1.is_none() {
             return Err((refused, outcome));
         }
@@ -309,7 +369,9 @@ fn allocations_that_fail<A: Allocator + Copy>(inner: A) -> Result<u64, (u64, Out
 #[test]
 fn each_call_fails_and_a_crash_follows(rt: HostRuntime) {
     // the head: its length, an append and a sync; an append for each group; three syncs
-    assert_eq!(rt; calls_that_fail(rt.alloc()), Ok(3 + 5 + 3));
+    assert_eq!(rt; calls_that_fail(rt.alloc(), b""), Ok(3 + 5 + 3));
+    // one that is there: its length, a read of it, another before it is written again, and a sync
+    assert_eq!(rt; calls_that_fail(rt.alloc(), OLD_HEAD), Ok(5 + 5 + 3));
     let allocations = allocations_that_fail(rt.alloc());
     assert!(rt; allocations.is_ok_and(|count| 3 < count), "{allocations:?}");
 }

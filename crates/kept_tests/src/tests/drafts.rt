@@ -5,15 +5,19 @@ use broker_node::{Node, Role};
 use broker_state::Place;
 use journal::MemoryDisk;
 use refusing_alloc::Refusing;
-use sample_brokers::exchanges::{COMMIT, STORE};
+use sample_brokers::exchanges::{COMMIT, STORE, TRIM};
 use sample_brokers::small::{new_node, request_in};
 use segment::{BatchStore, SegStore};
 use snapshot_drafts::{Draft, DraftError, MemoryDraft};
+use snapshots::SnapshotId;
 use state_snapshots::write_snapshot;
 use std::alloc::Allocator;
 
-/// The snapshot's number.
-const NUMBER: i64 = 7;
+/// Which snapshot it is: its number, and a key.
+const ID: SnapshotId = SnapshotId {
+    number: 7,
+    key: 0x0123_4567_89ab_cdef,
+};
 
 /// More images, calls of a file or allocations than there are.
 const MOST: u64 = 60;
@@ -43,7 +47,7 @@ fn filled<S: BatchStore, A: Allocator + Copy>(heap: S::Alloc, alloc: A) -> Optio
 /// The snapshot of what a broker holds, written at once; none where memory lacks.
 fn whole_of<S: BatchStore, A: Allocator + Copy>(alloc: A, node: &Node<S>) -> Option<MemoryDisk<A>> {
     let mut disk = MemoryDisk::new(alloc, b"").ok()?;
-    write_snapshot(alloc, NUMBER, node.state(), &mut disk).ok()?;
+    write_snapshot(alloc, ID, node.state(), &mut disk).ok()?;
     Some(disk)
 }
 
@@ -105,7 +109,7 @@ fn drafted<S: BatchStore, A: Allocator + Copy, B: Allocator + Copy>(
     let mut file = MemoryDraft::new(heap);
     file.fail_at(failing);
     let mut buffer = Vec::new(heap);
-    let mut draft = Draft::begin(heap, file, NUMBER, node.state())?;
+    let mut draft = Draft::begin(heap, file, ID, node.state())?;
     write_all(&mut draft, node, &mut buffer, alloc)?;
     draft.finish()
 }
@@ -182,12 +186,16 @@ fn is_each_told<B: Allocator + Copy>(inner: B) -> bool {
     false
 }
 
-/// What comes of writing an image of a partition that has changed before, and of finishing then.
-fn late<S: BatchStore, B: Allocator + Copy>(store: S::Alloc, alloc: B) -> Option<(bool, bool)> {
+/// What comes of writing an image of a partition that a request has changed before, and of finishing then.
+fn late<S: BatchStore, B: Allocator + Copy>(
+    store: S::Alloc,
+    alloc: B,
+    request: &'static [u8],
+) -> Option<(bool, bool)> {
     let mut node = filled::<S, B>(store, alloc)?;
-    let mut draft = Draft::begin(alloc, MemoryDraft::new(alloc), NUMBER, node.state()).ok()?;
+    let mut draft = Draft::begin(alloc, MemoryDraft::new(alloc), ID, node.state()).ok()?;
     let mut buffer = Vec::new(alloc);
-    send(alloc, &mut node, STORE.request);
+    send(alloc, &mut node, request);
     let written = write_one(&mut draft, &node, CHANGED, &mut buffer);
     let is_other = matches!(written, Err(DraftError::OtherSize));
     let is_unfinished = matches!(draft.finish(), Err(DraftError::Unfinished));
@@ -198,10 +206,11 @@ fn late<S: BatchStore, B: Allocator + Copy>(store: S::Alloc, alloc: B) -> Option
 fn drafted_in_any_order(rt: HostRuntime) {
     // the head, five images with a sync each, and the last sync
     assert_eq!(rt; calls(rt.alloc()), Some(12));
-    assert_eq!(rt;
-        late::<SegStore<_>, _>(rt.alloc(), rt.alloc()),
-        Some((true, true))
-    );
+    // an image that has grown, and one that has shrunk
+    for request in [STORE.request, TRIM.request] {
+        let late = late::<SegStore<_>, _>(rt.alloc(), rt.alloc(), request);
+        assert_eq!(rt; late, Some((true, true)));
+    }
 }
 
 #[test]

@@ -1,14 +1,29 @@
 //! Journals and groups of the tests: the head, the frames of a group, and the names of what becomes of calls.
 
-use journal::{GroupBuffer, Head, JournalError, MemoryDisk, OpenError, Reader};
+ghost use Rattle.std.specs.Prelude.{◌≡◌, is_some, true};
+
+use journal::layout::KEY_SIZE;
+use journal::{Before, GroupBuffer, Head, JournalError, MemoryDisk, OpenError, Reader};
 use std::alloc::{AllocError, Allocator};
 
+/// The key of the journals.
+pub(crate) const KEPT_KEY: [u8; KEY_SIZE] = *b"01234567";
+
 /// What `HEAD` says.
-pub(crate) const KEPT_HEAD: Head = Head {
-    meaning: 3,
-    number: 1,
-    key: *b"01234567",
-};
+pub(crate) fn kept_head() -> Head
+    ensures { is_some result.before ≡ true }
+{
+    Head {
+        meaning: 3,
+        number: 2,
+        key: KEPT_KEY,
+        before: Some(Before {
+            number: 1,
+            key: *b"89abcdef",
+            size: 61,
+        }),
+    }
+}
 
 /// The frames of a group.
 pub(crate) fn frames_of(group: &'static [u8]) -> &'static [u8] {
@@ -53,6 +68,7 @@ fn open_name(why: OpenError) -> &'static str {
         OpenError::BadCrc => "BadCrc",
         OpenError::BadMark => "BadMark",
         OpenError::BadVersion => "BadVersion",
+        OpenError::BadBefore => "BadBefore",
         OpenError::BadNumber => "BadNumber",
         OpenError::OnDisk(_) => "OnDisk",
     }

@@ -2,7 +2,7 @@
 //! lacks it, the reader is where it was, and made again the call does what it is to do.
 
 use crate::tests::groups::{frames_of, group_of, joined};
-use crate::tests::journal_bytes::{FOUR, HEAD, ONE, SECOND, THIRD};
+use crate::tests::journal_bytes::{FOUR, HEAD, OLD_HEAD, OLD_ONE, OLD_SECOND, ONE, SECOND, THIRD};
 use crate::tests::lent::{Lent, Watched};
 use journal::{Disk, GroupBuffer, MemoryDisk, OpenError, ReadError, Reader};
 use refusing_alloc::Refusing;
@@ -83,7 +83,8 @@ fn read_all<D: Disk, A: Allocator + Copy>(
             (NEXT, is_end)
         }
     };
-    if !is_end.1 || reader.at() != 65 {
+    let end = reader.head().size().saturating_add(ONE.len());
+    if !is_end.1 || reader.at() != end as u64 {
         return None;
     }
     Some(first | is_end.0 | search(reader, later, of_memory)?)
@@ -210,24 +211,30 @@ fn pushed_without<A: Allocator + Copy>(inner: A, refused: u64) -> (bool, bool) {
 
 #[test]
 fn each_call_lacks_it_once(rt: HostRuntime) -> Result<(), Fail> {
-    // behind the first group a damaged one, and one that tells that it was synced; or the front of one
-    let damaged = joined(rt.alloc(), &[HEAD, ONE, HEAD, &SECOND[28..], THIRD])?;
+    // behind the first group a damaged one, and one that tells that it was synced; or the front of one, behind heads of
+    // both versions
+    let damaged = joined(rt.alloc(), &[HEAD, ONE, OLD_HEAD, &SECOND[28..], THIRD])?;
     let torn = joined(rt.alloc(), &[HEAD, ONE, &SECOND[..36]])?;
+    let old = joined(rt.alloc(), &[OLD_HEAD, OLD_ONE, &OLD_SECOND[..36]])?;
     let damaged = (damaged.as_slice(), true);
     let torn = (torn.as_slice(), false);
+    let old = (old.as_slice(), false);
     let of_memory = [
         all_without_memory(rt.alloc(), damaged),
         all_without_memory(rt.alloc(), torn),
+        all_without_memory(rt.alloc(), old),
     ];
-    assert_eq!(rt; of_memory, [Some(NEXT | LATER); 2]);
-    // the length and the head; of the first group two reads, of the second one; of the search three; or one, and of the
-    // group that isn't known to be on the disk two reads and two writes, a cut and a sync
+    assert_eq!(rt; of_memory, [Some(NEXT | LATER); 3]);
+    // the length, and the head in two parts or in one; of the first group two reads, of the second one; of the search
+    // three; or one, and of the group that isn't known to be on the disk two reads and two writes, a cut and a sync
     let of_disk = [
-        all_without_disk(rt.alloc(), damaged, 2 + 2 + 1 + 3),
-        all_without_disk(rt.alloc(), torn, 2 + 2 + 1 + 1 + 4 + 2),
+        all_without_disk(rt.alloc(), damaged, 3 + 2 + 1 + 3),
+        all_without_disk(rt.alloc(), torn, 3 + 2 + 1 + 1 + 4 + 2),
+        all_without_disk(rt.alloc(), old, 2 + 2 + 1 + 1 + 4 + 2),
     ];
     let wanted = OPEN | NEXT | LATER;
-    assert_eq!(rt; of_disk, [Some(wanted), Some(wanted | SETTLE)]);
+    let settled = Some(wanted | SETTLE);
+    assert_eq!(rt; of_disk, [Some(wanted), settled, settled]);
     assert_eq!(rt; made_without(rt.alloc(), 1), (false, true));
     assert_eq!(rt; made_without(rt.alloc(), 2), (false, true));
     assert_eq!(rt; made_without(rt.alloc(), 3), (true, false));

@@ -4,10 +4,11 @@
 
 ghost use Rattle.std.specs.Prelude.{None, true, ⊤};
 
-use crate::tests::groups::KEPT_HEAD;
+use crate::tests::groups::{KEPT_KEY, kept_head};
+use crate::tests::journal_bytes::OLD_HEAD;
 use journal::{Disk, Journal, JournalError, MemoryDisk, Reader};
 use kept_sessions::sessions::{Role, Seat};
-use kept_sessions::{CommitError, Keeper, Watch, recover, resume};
+use kept_sessions::{CommitError, Keeper, Node, Unwatched, Watch, recover, resume};
 use sample_brokers::brokers::end_of;
 use sample_brokers::exchanges::{COMMIT, STORE};
 use sample_brokers::small::new_node;
@@ -218,7 +219,37 @@ fn run<S: BatchStore, A: Allocator + Copy, D: Disk>(
     }
 }
 
-/// The same with a new journal over a disk that fails so.
+/// A broker that is kept in the journal that a disk has, if it has a head and no group.
+fn resumed<S: BatchStore + Drop, A: Allocator + Copy>(
+    alloc: A,
+    mut node: Node<S>,
+    cramped: Cramped<'_, A>,
+) -> Option<Keeper<S, A, Cramped<'_, A>>> {
+    let mut reader = Reader::open(cramped, alloc).ok()?;
+    let mut out = Vec::new(alloc);
+    let count = recover(&mut reader, &mut node, &mut out, &mut Unwatched).ok()?;
+    if count == 0 {
+        resume(alloc, node, reader).ok()
+    } else {
+        None
+    }
+}
+
+/// A broker that is kept in a new journal where a disk has no bytes, and else in the one that it has.
+fn keeper_of<S: BatchStore + Drop, A: Allocator + Copy>(
+    store: S::Alloc,
+    alloc: A,
+    cramped: Cramped<'_, A>,
+) -> Option<Keeper<S, A, Cramped<'_, A>>> {
+    let node = new_node::<S>(store, Role::Leader)?;
+    if !cramped.disk.bytes().is_empty() {
+        return resumed(alloc, node, cramped);
+    }
+    let journal = Journal::create(cramped, &kept_head()).ok()?;
+    Keeper::new(alloc, node, journal).ok()
+}
+
+/// The same with a journal over a disk that fails so, which is a new one where the disk has no bytes.
 fn came_of<S: BatchStore + Drop, A: Allocator + Copy>(
     store: S::Alloc,
     alloc: A,
@@ -233,10 +264,12 @@ fn came_of<S: BatchStore + Drop, A: Allocator + Copy>(
         calls,
         is_torn: false,
     };
-    let node = new_node::<S>(store, Role::Leader)?;
-    let journal = Journal::create(cramped, &KEPT_HEAD).ok()?;
-    let mut keeper = Keeper::new(alloc, node, journal).ok()?;
-    Some(run(&mut keeper, is_synced))
+    let mut keeper = keeper_of::<S, A>(store, alloc, cramped)?;
+    if keeper.journal_start() == keeper.journal_end() && keeper.journal_key() == KEPT_KEY {
+        Some(run(&mut keeper, is_synced))
+    } else {
+        None
+    }
 }
 
 /// What was told of a recovery.
@@ -284,36 +317,41 @@ fn told_of<S: BatchStore + Drop, A: Allocator + Copy>(
     };
     let mut node = new_node::<S>(store, Role::Leader)?;
     let mut reader = Reader::open(cramped, alloc).ok()?;
+    let start = reader.at();
     let mut out = Vec::new(alloc);
     let count = recover(&mut reader, &mut node, &mut out, &mut told).ok()?;
     let keeper = resume(alloc, node, reader).ok()?;
     let is_so = count == told.frames && keeper.journal_end() == told.at && !keeper.has_no_group();
-    if is_so && keeper.is_clear() && end_of(keeper.node()) == 1 {
+    if is_so && keeper.journal_start() == start && keeper.is_clear() && end_of(keeper.node()) == 1 {
         Some(told)
     } else {
         None
     }
 }
 
-/// A file into which both groups were put, the first so many appends being done before one that fails.
+/// A file with no bytes or a head into which both groups were put, the first so many appends being done before one that
+/// fails.
 fn filled<A: Allocator + Copy>(
     alloc: A,
+    head: &[u8],
     appends: Option<u64>,
     is_synced: bool,
 ) -> Option<(Came, MemoryDisk<A>)> {
-    let mut disk = MemoryDisk::new(alloc, b"").ok()?;
+    let mut disk = MemoryDisk::new(alloc, head).ok()?;
     let came = came_of::<SegStore<_>, A>(alloc, alloc, &mut disk, appends, None, is_synced)?;
     Some((came, disk))
 }
 
 /// The first append for which it isn't so: where there is no room for a part of a group the file is, in the end, what it is
 /// where there is room. The last one has no room at once.
-fn first_unlike<A: Allocator + Copy>(alloc: A, is_synced: bool) -> Option<u64> {
-    let Some((Came::AtOnce, whole)) = filled(alloc, None, is_synced) else {
-        return Some(0);
+fn first_unlike<A: Allocator + Copy>(alloc: A, head: &[u8], is_synced: bool) -> Option<u64> {
+    let Some((Came::AtOnce, whole)) = filled(alloc, head, None, is_synced) else {
+        return Some(u64::MAX);
     };
-    for appends in 1..3 {
-        match filled(alloc, Some(appends), is_synced) {
+    // that of the head, where there is none
+    let before = u64::from(head.is_empty());
+    for appends in before..before.saturating_add(2) {
+        match filled(alloc, head, Some(appends), is_synced) {
             Some((Came::OnceMore, disk)) if is_synced && disk.bytes() == whole.bytes() => {}
             Some((Came::OnceMore, disk))
                 if !is_synced && disk.bytes().len() == whole.bytes().len() => {}
@@ -330,17 +368,22 @@ fn failed_at<A: Allocator + Copy>(alloc: A, calls: u64) -> Option<Came> {
 }
 
 /// What is told of a recovery of a file with both groups, and how many bytes that has.
-fn recovery_told<A: Allocator + Copy>(alloc: A) -> Option<(Told, usize)> {
-    let (_came, mut disk) = filled(alloc, None, true)?;
+fn recovery_told<A: Allocator + Copy>(alloc: A, head: &[u8]) -> Option<(Told, usize)> {
+    let (_came, mut disk) = filled(alloc, head, None, true)?;
     let size = disk.bytes().len();
     let told = told_of::<SegStore<_>, A>(alloc, alloc, &mut disk)?;
     Some((told, size))
 }
 
+/// Of a new journal, and of one of version 0 that is there.
+const HEADS: [&[u8]; 2] = [b"", OLD_HEAD];
+
 #[test]
 fn a_group_is_put_once_more_behind_a_part_that_is_cut(rt: HostRuntime) {
-    assert_eq!(rt; first_unlike(rt.alloc(), true), None);
-    assert_eq!(rt; first_unlike(rt.alloc(), false), None);
+    for head in HEADS {
+        assert_eq!(rt; first_unlike(rt.alloc(), head, true), None);
+        assert_eq!(rt; first_unlike(rt.alloc(), head, false), None);
+    }
 }
 
 #[test]
@@ -362,20 +405,22 @@ fn a_part_that_cannot_be_cut_ends_all(rt: HostRuntime) {
 
 #[test]
 fn a_recovery_tells_how_far_it_is(rt: HostRuntime) {
-    let told = recovery_told(rt.alloc());
-    assert!(rt;
-        matches!(
-            told,
-            Some((
-                Told {
-                    times: 2,
-                    at,
-                    size,
-                    frames: 2,
-                },
-                bytes,
-            )) if at == size && size == bytes as u64
-        ),
-        "{told:?}"
-    );
+    for head in HEADS {
+        let told = recovery_told(rt.alloc(), head);
+        assert!(rt;
+            matches!(
+                told,
+                Some((
+                    Told {
+                        times: 2,
+                        at,
+                        size,
+                        frames: 2,
+                    },
+                    bytes,
+                )) if at == size && size == bytes as u64
+            ),
+            "{told:?}"
+        );
+    }
 }

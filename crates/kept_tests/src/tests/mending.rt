@@ -2,10 +2,10 @@
 //! groups, of which what isn't known to be on the disk is written again. Each call fails in turn, and a crash follows.
 
 use crate::tests::crashes::{
-    GROUPS, MOST_CALLS, Way, first_wrong, goes_on, is_closed, put, written_to,
+    GROUPS, MOST_CALLS, Way, begun, first_wrong, goes_on, is_closed, put, written_to,
 };
-use crate::tests::groups::{KEPT_HEAD, group_of, joined, journal_name};
-use crate::tests::journal_bytes::{HEAD, ONE, SECOND, THIRD};
+use crate::tests::groups::{group_of, joined, journal_name, kept_head};
+use crate::tests::journal_bytes::{HEAD, OLD_HEAD, OLD_ONE, OLD_SECOND, ONE, SECOND, THIRD};
 use crate::tests::lent::{Lent, Watched};
 use journal::{Disk, GroupBuffer, Journal, Reader};
 use std::alloc::Allocator;
@@ -50,17 +50,22 @@ fn mended_to<D: Disk, A: Allocator + Copy>(
     Some(count)
 }
 
-/// The same of a new journal of which this call fails, and that one behind an append that failed; none where a crash then
-/// leaves what isn't read as it should.
-fn mended<A: Allocator + Copy>(alloc: A, failing: u64, then: u64) -> Option<(usize, usize)> {
-    let mut watched = Watched::new(alloc, b"").ok()?;
+/// The same of a journal on a disk with no bytes or a head, of which this call fails, and that one behind an append that
+/// failed; none where a crash then leaves what isn't read as it should.
+fn mended<A: Allocator + Copy>(
+    alloc: A,
+    head: &[u8],
+    failing: u64,
+    then: u64,
+) -> Option<(usize, usize)> {
+    let mut watched = Watched::new(alloc, head).ok()?;
     watched.is_tearing = true;
     watched.then = then;
     watched.disk.fail_at(failing);
     let lent = Lent {
         watched: &mut watched,
     };
-    let count = match Journal::create(lent, &KEPT_HEAD) {
+    let count = match begun(alloc, lent) {
         Ok(mut journal) => mended_to(alloc, &mut journal)?,
         Err(_) => (0, 0),
     };
@@ -76,16 +81,20 @@ fn mended<A: Allocator + Copy>(alloc: A, failing: u64, then: u64) -> Option<(usi
 /// How many groups come of a journal of which each call fails in turn, from the first that isn't of its head.
 type Counts = [Option<(usize, usize)>; 8];
 
-/// These, where this call fails behind an append that failed.
-fn all_mended<A: Allocator + Copy>(alloc: A, then: u64) -> Counts {
+/// These, where this call fails behind an append that failed, and so many calls come before the groups.
+fn all_mended<A: Allocator + Copy>(alloc: A, (head, calls): (&[u8], u64), then: u64) -> Counts {
     let mut all = [None; 8];
-    let mut failing = 4_u64;
+    let mut failing = calls;
     for count in &mut all {
-        *count = mended(alloc, failing, then);
         failing = failing.saturating_add(1);
+        *count = mended(alloc, head, failing, then);
     }
     all
 }
+
+/// A new journal, and one of version 0 that is there, each with how many calls come before the groups: its length, an
+/// append and a sync; its length, two reads, one write and a sync.
+const HEADS: [(&[u8], u64); 2] = [(b"", 3), (OLD_HEAD, 5)];
 
 #[test]
 fn a_torn_end_is_mended(rt: HostRuntime) {
@@ -101,15 +110,17 @@ fn a_torn_end_is_mended(rt: HostRuntime) {
         whole,
         Some((4, 0)),
     ];
-    assert_eq!(rt; all_mended(rt.alloc(), 0), wanted);
     // and nothing is where the cut fails, or the sync behind it
-    let wanted = [0, 1, 1, 2, 2, 3, 4, 4].map(|count| Some((count, 0)));
-    assert_eq!(rt; all_mended(rt.alloc(), 1), wanted);
-    assert_eq!(rt; all_mended(rt.alloc(), 2), wanted);
-    for failing in 1..4 {
-        assert_eq!(rt; mended(rt.alloc(), failing, 0), Some((0, 0)));
+    let unmended = [0, 1, 1, 2, 2, 3, 4, 4].map(|count| Some((count, 0)));
+    for (head, calls) in HEADS {
+        assert_eq!(rt; all_mended(rt.alloc(), (head, calls), 0), wanted);
+        assert_eq!(rt; all_mended(rt.alloc(), (head, calls), 1), unmended);
+        assert_eq!(rt; all_mended(rt.alloc(), (head, calls), 2), unmended);
+        for failing in 1..=calls {
+            assert_eq!(rt; mended(rt.alloc(), head, failing, 0), Some((0, 0)));
+        }
+        assert_eq!(rt; mended(rt.alloc(), head, 0, 0), Some((5, 0)));
     }
-    assert_eq!(rt; mended(rt.alloc(), 0, 0), Some((5, 0)));
 }
 
 /// Whether a file is made ready for further groups.
@@ -146,7 +157,7 @@ fn written_disk<A: Allocator + Copy>(alloc: A, failing: u64) -> Option<Watched<A
     let lent = Lent {
         watched: &mut watched,
     };
-    let mut journal = Journal::create(lent, &KEPT_HEAD).ok()?;
+    let mut journal = Journal::create(lent, &kept_head()).ok()?;
     written_to(alloc, &mut journal)?;
     watched.disk.fail_at(0);
     watched.lost.clear();
@@ -161,10 +172,13 @@ fn again_in_written<A: Allocator + Copy>(alloc: A) -> Option<(usize, usize)> {
 #[test]
 fn what_may_be_off_the_disk_is_written_again(rt: HostRuntime) -> Result<(), Fail> {
     let torn = joined(rt.alloc(), &[HEAD, ONE, SECOND, &THIRD[..20]])?;
+    let again = [56, 93, 130, torn.len()].map(|size| again_in_front(rt.alloc(), &torn, size));
+    assert_eq!(rt; again, [(0, 56), (56, 37), (93, 37), (93, 37)].map(Some));
+    let torn = joined(rt.alloc(), &[OLD_HEAD, OLD_ONE, OLD_SECOND, &THIRD[..20]])?;
     let again = [28, 65, 102, torn.len()].map(|size| again_in_front(rt.alloc(), &torn, size));
     assert_eq!(rt; again, [(0, 28), (28, 37), (65, 37), (65, 37)].map(Some));
     // behind the sync of the third group: the two others
-    assert_eq!(rt; again_in_written(rt.alloc()), Some((560, 642 + 72)));
+    assert_eq!(rt; again_in_written(rt.alloc()), Some((588, 642 + 72)));
     Ok(())
 }
 
@@ -189,8 +203,8 @@ fn calls_that_fail<A: Allocator + Copy>(alloc: A) -> Option<u64> {
 
 #[test]
 fn a_crash_follows_while_it_is_written_again(rt: HostRuntime) {
-    // the length and the head; four groups of two reads each; of the last two reads and two writes; a sync
-    assert_eq!(rt; calls_that_fail(rt.alloc()), Some(2 + 8 + 4 + 1));
+    // the length, and the head in two parts; four groups of two reads each; of the last two reads and two writes; a sync
+    assert_eq!(rt; calls_that_fail(rt.alloc()), Some(3 + 8 + 4 + 1));
 }
 
 /// How a file fails of which a read gives other bytes behind an offset than when it was read first; none where it doesn't,
@@ -218,10 +232,12 @@ fn what_is_gone_meanwhile_is_not_written_again(rt: HostRuntime) -> Result<(), Fa
     let file = joined(rt.alloc(), &[HEAD, ONE, SECOND])?;
     let gone = Some(ErrorKind::InvalidData);
     let kinds = [
+        failure_of(rt.alloc(), OLD_HEAD, 20),
         failure_of(rt.alloc(), HEAD, 20),
-        failure_of(rt.alloc(), &file, 65),
-        failure_of(rt.alloc(), &file, 101),
+        failure_of(rt.alloc(), HEAD, 55),
+        failure_of(rt.alloc(), &file, 93),
+        failure_of(rt.alloc(), &file, 129),
     ];
-    assert_eq!(rt; kinds, [gone; 3]);
+    assert_eq!(rt; kinds, [gone; 5]);
     Ok(())
 }

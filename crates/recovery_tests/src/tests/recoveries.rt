@@ -78,7 +78,7 @@ pub(crate) const MOST_CALLS: u64 = 600;
 pub(crate) const STEPS: u32 = 16;
 
 /// What is wrong, and where: how a call failed, which one of the first life, and which one of the second.
-type Wrong = (Way, u64, u64, Fault);
+pub(crate) type Wrong = (Way, u64, u64, Fault);
 
 /// How many frames of a table's rounds may change a broker.
 pub(crate) fn changes_in(rounds: &[Round]) -> u64 {
@@ -155,14 +155,13 @@ pub(crate) fn failing_first<A: Allocator + Copy>(
     first_of::<VecStore<A>, A>(alloc, alloc, table, store)
 }
 
-/// What is wrong where this call of a first life fails. Nothing is, where it leaves the same as the one before.
-fn wrong_first<A: Allocator + Copy>(
+/// What is wrong with a first life of which this call failed. Nothing is, where it left the same as the one before.
+pub(crate) fn wrong_first<A: Allocator + Copy>(
     story: &Story<'_, A>,
-    (way, reach): (Way, Reach),
-    failing: u64,
+    ended: Ended<A>,
+    (reach, failing): (Reach, u64),
     before: &mut Ended<A>,
 ) -> Option<Fault> {
-    let ended = failing_first(story.alloc, (story.rounds, story.steps), failing, way);
     let fault = if !ended.is_right(failing, story.steps) {
         Some((None, 0, ended.life.end))
     } else if ended.is_same(before) {
@@ -182,7 +181,8 @@ fn first_calls<A: Allocator + Copy>(
 ) -> Result<u64, Wrong> {
     let mut before = Ended::none(story.alloc);
     for failing in 1..MOST_CALLS {
-        if let Some(fault) = wrong_first(story, (way, reach), failing, &mut before) {
+        let ended = failing_first(story.alloc, (story.rounds, story.steps), failing, way);
+        if let Some(fault) = wrong_first(story, ended, (reach, failing), &mut before) {
             return Err((way, failing, 0, fault));
         }
         if !before.has_made(failing) {
