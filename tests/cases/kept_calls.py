@@ -25,11 +25,13 @@ from cases.kept_runs import (
     Story,
     acknowledged_of,
     content,
+    folded,
     has_state,
     has_what_was_acknowledged,
     lay,
     new,
     new_folder,
+    plainly,
     recovered,
     write,
 )
@@ -385,7 +387,7 @@ OF_A_SNAPSHOT = [
     ("fdatasync,unlink", "1+", ["journal.2"], "kbroker: {}/journal.2: ", None),
     ("pwrite64", 1, [IN_THE_MAKING], "snapshot: snapshot.tmp: ", [JOURNAL, "journal.2", SNAPSHOT]),
     ("fsync", 3, [""], "kbroker: {}: ", None),
-    ("unlink", "1+", [JOURNAL], "snapshot: journal.1: ", [JOURNAL, "journal.2", SNAPSHOT, "snapshot.2"]),
+    ("unlink", "1+", [JOURNAL], "snapshot: journal.1: ", [JOURNAL, "journal.2", "snapshot.2"]),
 ]
 
 
@@ -423,6 +425,7 @@ def snapshots_left(program):
 
 # calls of a start with --fold, or with a partition more, that fail behind what it recovered, and the line
 OF_A_FOLD = [
+    ("fdatasync", 2, [JOURNAL], "kbroker: {}/journal.1: "),
     ("fdatasync", 1, ["journal.2"], "kbroker: {}/journal.2: "),
     ("fsync", 2, [""], "kbroker: {}: "),
     ("pwrite64", 1, [IN_THE_MAKING], "kbroker: {}/snapshot.tmp: "),
@@ -430,7 +433,6 @@ OF_A_FOLD = [
     ("fdatasync", 2, [IN_THE_MAKING], "kbroker: {}/snapshot.tmp: "),
     ("rename", 1, [IN_THE_MAKING], "kbroker: {}/snapshot.2: "),
     ("fsync", 3, [""], "kbroker: {}: "),
-    ("unlink", 1, [JOURNAL], "kbroker: {}/journal.1: "),
 ]
 
 
@@ -450,6 +452,37 @@ def folds_that_fail(program):
                     holds(f"{what}: {ended.lines}", len(ended.lines) == 1 and ended.lines[0].startswith(line.format(folder)))
                 with Kept(program, folder) as broker:
                     has_state(broker, kept_files.node_after(TORN, kept_files.topics_of(TOPICS)), what)
+
+
+def stays(program, folder, names, said, *arguments):
+    """A start of which each removal of a journal fails must do all else: it says this, and these names are there then. The next one
+    removes what is of no use."""
+    try:
+        with Failing(program, folder, "unlink", "EIO", "1+", [JOURNAL, "journal.2"], arguments) as broker:
+            is_soon(lambda: sorted(os.listdir(folder)) == names)
+            same("what it says", plainly(broker.lines), said)
+            has_state(broker, kept_files.node_after(TORN, kept_files.topics_of(TOPICS)), "the start whose removals fail")
+    except Ended as ended:
+        same("the status and the lines", (ended.status, plainly(ended.lines)), (0, said))
+    same("the names where a removal fails", sorted(os.listdir(folder)), names)
+    with Kept(program, folder) as broker:
+        has_state(broker, kept_files.node_after(TORN, kept_files.topics_of(TOPICS)), "the next start")
+    same("the names behind the next start", sorted(os.listdir(folder)), names[-2:])
+
+
+def removals_that_fail(program):
+    """A journal of no use that can't be removed keeps no start from going on, nor one with --fold from taking its snapshot; the snapshot
+    of its number goes all the same."""
+    node, names = kept_files.node_after([], kept_files.topics_of(TOPICS)), kept_files.topics_of(TOPICS)
+    with new_folder() as folder:
+        lay(folder, kept_files.journal([[it] for it in TORN]))
+        stays(program, folder, [JOURNAL, "journal.2", "snapshot.2"], [recovered(2), folded(2)], "--fold")
+        shutil.rmtree(folder)
+        os.mkdir(folder)
+        files = kept_files.row_of(node, names, 3, [[it] for it in TORN])
+        for name, data in {**files, JOURNAL: b"x", SNAPSHOT: b"y", "journal.2": b"z", "snapshot.2": b""}.items():
+            write(folder, name, data)
+        stays(program, folder, [JOURNAL, "journal.2", "journal.3", "snapshot.3"], [recovered(2, snapshot=3)])
 
 
 def answered_behind_a_snapshot(program):
@@ -515,6 +548,7 @@ CASES = [
     ("each call of a start that fails", where_it_can_be_seen(each_call_fails)),
     ("each write and sync of a journal that fails", where_it_can_be_seen(each_write_fails)),
     ("a call that fails of a snapshot at the start", where_it_can_be_seen(folds_that_fail)),
+    ("a removal that fails at the start", where_it_can_be_seen(removals_that_fail)),
     ("a frame that was put off, and a snapshot that fails", where_it_can_be_seen(answered_behind_a_snapshot)),
     ("what a snapshot leaves where a call fails", where_it_can_be_seen(snapshots_left)),
     ("each call of snapshots that fails", where_it_can_be_seen(each_call_of_snapshots_fails)),

@@ -16,7 +16,7 @@ import threading
 import time
 
 from cases import kept_calls, kept_checks, kept_damage, kept_disks, kept_kills, kept_moved, kept_rotations, kept_rounds, kept_stored
-from cases import kept_times
+from cases import kept_heads, kept_room, kept_times
 from cases import limits, many_clients, random_clients, waiting
 from cases.kept_runs import (
     ANOTHER,
@@ -41,6 +41,7 @@ from cases.kept_runs import (
     has_state,
     has_what_was_acknowledged,
     in_use,
+    key_in,
     lay,
     missing,
     new,
@@ -135,7 +136,7 @@ def restarted(program, sync, by, lines, *arguments, leads=True):
                 same("the status", broker.end(by), -by)
         groups = kept_files.groups_of(content(folder, JOURNAL))
         same("the frames in the journal", kept_files.all_frames(groups), story.frames)
-        wanted = kept_files.snapshot(kept_files.topics_of(TWO_TOPICS), role=int(not leads))
+        wanted = kept_files.snapshot(kept_files.topics_of(TWO_TOPICS), role=int(not leads), key=key_in(folder))
         same("the snapshot", content(folder, SNAPSHOT), wanted)
         same("the names", sorted(os.listdir(folder)), [JOURNAL, SNAPSHOT])
 
@@ -545,12 +546,13 @@ def new_and_killed(program):
 
 def left_by_a_kill(program):
     """What a kill while a directory is made may leave, each part of it, is begun anew: no file, a journal of no more than its head,
-    and with it a part of a snapshot that has not its name yet."""
-    head = kept_files.journal_head()
+    and with it a part of a snapshot that has not its name yet. So is what the program before left, whose heads are shorter."""
+    head, old = kept_files.journal_head(), kept_files.journal_head(version=0)
     snapshot = kept_files.snapshot(kept_files.topics_of(TOPICS))
-    parts = [{JOURNAL: head[:size]} for size in (0, 1, 27, 28)]
+    parts = [{JOURNAL: head[:size]} for size in (0, 1, 27, 28, 29, 55, 56)]
     parts += [{JOURNAL: head, IN_THE_MAKING: snapshot[:size]} for size in (0, 50, len(snapshot))]
-    parts += [{IN_THE_MAKING: snapshot}, {JOURNAL: bytes(28)}]
+    parts += [{IN_THE_MAKING: snapshot}, {JOURNAL: bytes(28)}, {JOURNAL: bytes(56)}, {JOURNAL: old[:27]}, {JOURNAL: old + bytes(28)}]
+    parts += [{JOURNAL: old, IN_THE_MAKING: kept_files.snapshot(kept_files.topics_of(TOPICS), version=0)}]
     for part in parts:
         with new_folder() as folder:
             os.mkdir(folder)
@@ -561,7 +563,8 @@ def left_by_a_kill(program):
                 same(f"the line behind {[*part]}", broker.said(), new(folder))
                 story.tell(broker, OF_A_LEADER[:2])
             same("the names", sorted(os.listdir(folder)), [JOURNAL, SNAPSHOT])
-            same("the snapshot", content(folder, SNAPSHOT), snapshot)
+            wanted = kept_files.snapshot(kept_files.topics_of(TOPICS), key=key_in(folder))
+            same("the snapshot", content(folder, SNAPSHOT), wanted)
             same("the frames", kept_files.all_frames(kept_files.groups_of(content(folder, JOURNAL))), story.frames)
 
 
@@ -771,8 +774,10 @@ CASES = [
     *kept_stored.CASES,
     *kept_rotations.CASES,
     *kept_disks.CASES,
+    *kept_room.CASES,
     *kept_moved.CASES,
     *kept_times.CASES,
     *kept_checks.CASES,
+    *kept_heads.CASES,
     *kept_kills.CASES,
 ]

@@ -8,9 +8,10 @@ import shutil
 import subprocess
 import tempfile
 import threading
+import time
 
 from cases.kept_calls import where_it_can_be_seen
-from cases.kept_disks import FRAMES, LARGE, NAMES, SOON, first_files, laid, names_in, node_after
+from cases.kept_disks import FRAMES, LARGE, SOON, behind, first_files, laid, names_in, node_after, row
 from cases.kept_runs import (
     FAILED,
     IN_THE_MAKING,
@@ -30,12 +31,6 @@ from models import kept_files
 from runner.places import ROOT
 
 SOUND, UNSOUND, NONE = 0, 1, 2  # statuses
-
-
-def row(first, count, *journals):
-    """A row of files: the snapshot of a number, behind so many frames, and the journals from there on, of these rounds."""
-    files = {f"snapshot.{first}": kept_files.snapshot_of(node_after(FRAMES[:count]), NAMES, first)}
-    return files | {f"journal.{first + index}": kept_files.journal(rounds, number=first + index) for index, rounds in enumerate(journals)}
 
 
 ONE_ROW = (3, 2, [FRAMES[2:3], FRAMES[3:4]], [FRAMES[4:6]], [FRAMES[6:7], FRAMES[7:8]])
@@ -90,11 +85,11 @@ def line_of_a_start(program, folder):
 
 SOUND_ONES = {
     "a snapshot and a journal": lambda: first_files(FRAMES[:2], FRAMES[2:3]),
-    "a second journal": lambda: {
-        **first_files(FRAMES[:2]),
-        "journal.2": kept_files.journal([FRAMES[2:4], FRAMES[4:5]], number=2),
-    },
+    "a second journal": lambda: behind(first_files(FRAMES[:2]), 2, [FRAMES[2:4], FRAMES[4:5]]),
     "a row": lambda: row(*ONE_ROW),
+    "version 0": lambda: row(*ONE_ROW, version=0),
+    "version 1 behind version 0": lambda: behind(row(*ONE_ROW, version=0), 6, [FRAMES[8:9]]),
+    "no group, of version 0": lambda: first_files(version=0),
     "a torn end": lambda: {**first_files(FRAMES[:2]), JOURNAL: first_files(FRAMES[:2])[JOURNAL] + b"torn"},
     "a torn end of a row": lambda: {**row(*ONE_ROW), "journal.5": row(*ONE_ROW)["journal.5"] + bytes(99)},
     "no group": lambda: first_files(),
@@ -105,17 +100,18 @@ RECOVERED = re.compile(r"recovered snapshot (\d+), (\d+) frames(?:; cut (\d+) by
 
 
 def sound_ones(program):
-    """Of each file its name, the number of its groups and where the last one ends; and what a start would recover, and cut."""
+    """Of each file its name, its version, the number of its groups and where the last one ends; and what a start would recover, and
+    cut."""
     with new_folder() as folder:
         for what, files in SOUND_ONES.items():
             laid(folder, files())
             checked = check(program, folder, SOUND, what)
             for name, data in files().items():
                 if name.startswith("snapshot"):
-                    checked.says(name, len(data))
+                    checked.says(name, len(data), f"version {kept_files.key_in_snapshot(data)[0]}")
                 else:
-                    groups = kept_files.groups_of(data, int(name.partition(".")[2]))
-                    checked.says(name, len(groups), groups[-1].end if groups else kept_files.HEAD_SIZE)
+                    head, groups = kept_files.head_of(data), kept_files.groups_of(data, int(name.partition(".")[2]))
+                    checked.says(name, f"version {head.version}", len(groups), groups[-1].end if groups else head.end)
             numbers = RECOVERED.fullmatch(line_of_a_start(program, folder))
             checked.says(f"snapshot {numbers[1]}", f"{numbers[2]} frame")
             if numbers[3]:
@@ -142,7 +138,7 @@ def flipped(data, at):
 
 def faults():
     """Files with a fault, by what it is."""
-    whole, three = first_files(FRAMES[:1], FRAMES[1:2], FRAMES[2:3]), row(*ONE_ROW)
+    whole, three, theirs = first_files(FRAMES[:1], FRAMES[1:2], FRAMES[2:3]), row(*ONE_ROW), row(*ONE_ROW, whose=b"t")
     second = kept_files.groups_of(whole[JOURNAL])[1].at
     return {
         "a group that is damaged": {**whole, JOURNAL: flipped(whole[JOURNAL], second + 40)},
@@ -154,6 +150,10 @@ def faults():
         "no snapshot": {JOURNAL: whole[JOURNAL]},
         "a journal that lacks in a row": {name: data for name, data in three.items() if name != "journal.4"},
         "a torn end before another journal": {**three, "journal.4": three["journal.4"] + b"torn"},
+        "a journal that is cut at a border": {**three, "journal.3": three["journal.3"][: kept_files.groups_of(three["journal.3"], 3)[1].at]},
+        "a snapshot of another directory": {**three, "snapshot.3": theirs["snapshot.3"]},
+        "a journal of another directory": {**three, "journal.4": theirs["journal.4"]},
+        "what the head says of the one before": {**three, "journal.4": flipped(three["journal.4"], kept_files.OLD_HEAD_SIZE)},
         "a journal of a later version": {**three, "journal.4": kept_files.journal([FRAMES[4:6]], number=4, version=3)},
         "a journal of another meaning": {**whole, JOURNAL: kept_files.journal([FRAMES[:1]], meaning=2)},
     }
@@ -309,6 +309,55 @@ def files_that_go(program):
         checked.says("snapshot 3", "6 frame")
 
 
+def met_once(program):
+    """The check has met a fault when it looks at the files behind it: then that is gone, as where a broker cuts what a failed write left. It
+    looks once more, and says what is there; a fault that stays is told then."""
+    files, told = row(*ONE_ROW), {}
+    torn = {**files, "journal.3": files["journal.3"] + b"torn"}
+    for is_cut in (True, False):
+        with new_folder() as folder:
+            laid(folder, torn)
+            trace = f"{os.path.dirname(folder)}/calls"
+            words = ["strace", "-D", "-f", "-o", trace, *by_path_or_handle(folder, ["journal.4"])]
+            words += ["-e", "trace=openat", "-e", "inject=openat:signal=STOP:when=1"]
+
+            def go(running):
+                stopped = is_soon(lambda: os.path.exists(trace) and "--- stopped by SIGSTOP" in open(trace, encoding="ascii").read(), 20)
+                if stopped and is_cut:
+                    os.truncate(f"{folder}/journal.3", len(files["journal.3"]))
+                if stopped:
+                    resume(running.pid)
+                elif running.poll() is None:
+                    raise Fault("it doesn't look at the journal behind the fault")
+
+            told[is_cut] = Checked(program, folder, words=words, meanwhile=go)
+    same(f"the status where it is cut; it says {told[True].lines}", told[True].status, SOUND)
+    told[True].says("snapshot 3", "6 frame")
+    same(f"the status where it stays; it says {told[False].lines}", told[False].status, UNSOUND)
+    told[False].says("journal.3", len(files["journal.3"]))
+
+
+def files_that_come_and_go(program):
+    """Names come all the time, so that no reading is of one moment: after some tries it says so, with status 4, and doesn't say that the
+    directory is sound, or damaged."""
+    with new_folder() as folder:
+        laid(folder, row(50, 2, [FRAMES[2:3]]))
+        told = f"{os.path.dirname(folder)}/calls"
+        words = ["strace", "-D", "-f", "-o", told, *by_path_or_handle(folder, ["snapshot.50"])]
+        words += ["-e", "trace=openat", "-e", "inject=openat:delay_enter=300000"]
+
+        def come(running):
+            for number in range(1, 50):
+                if running.poll() is not None:
+                    break
+                write(folder, f"journal.{number}", b"")
+                time.sleep(0.1)
+
+        checked = Checked(program, folder, words=words, meanwhile=come)
+        same(f"the status of a check while files come; it says {checked.lines}", checked.status, FAILED)
+        holds(f"its lines: {checked.lines}", checked.lines[-1].startswith(f"kbroker: {folder}: "))
+
+
 # ---- backups
 
 BACKUP = f"{ROOT}/examples/backup.sh"
@@ -414,6 +463,8 @@ CASES = [
     ("a check whose calls fail", where_it_can_be_seen(calls_that_fail)),
     ("a check beside a broker that runs", beside_a_broker),
     ("a check while files go", where_it_can_be_seen(files_that_go)),
+    ("a check that meets a fault once", where_it_can_be_seen(met_once)),
+    ("a check while files come all the time", where_it_can_be_seen(files_that_come_and_go)),
     ("backups that can't be made", backups_that_are_none),
     ("backups while a broker runs", backups),
 ]

@@ -28,6 +28,7 @@ from cases.kept_runs import (
     missing,
     new,
     new_folder,
+    of_another,
     recovered,
     refused,
     would,
@@ -51,6 +52,7 @@ LAST_GROUP = SOUND[LAST:]
 GROUPS = [SOUND[FIRST:SECOND], SOUND[SECOND:LAST], LAST_GROUP]
 NAMES_OF_TOPICS = kept_files.topics_of(TOPICS)
 HEAD = kept_files.journal_head()
+OLD = kept_files.journal(ROUNDS, version=0)
 # the fields of a group, each with the byte offsets of its first and its last byte; of its frames the first's size and name
 FIELDS = {"crc": (0, 3), "key": (4, 11), "offset": (12, 19), "synced": (20, 27), "size": (28, 31), "frame": (32, 40)}
 
@@ -62,11 +64,11 @@ def flipped(data, at, bits):
 # ---- what comes of a journal
 
 
-def leaves(program, folder, what, journal, count):
+def leaves(program, folder, what, journal, count, **snapshot):
     """A start on this journal must cut what is behind the first `count` groups, say so, and have what these lead to."""
     kept_frames = [it for round_ in ROUNDS[:count] for it in round_]
     end = [FIRST, SECOND, LAST, len(SOUND)][count]
-    lay(folder, journal)
+    lay(folder, journal, **snapshot)
     line = recovered(len(kept_frames), len(journal) - end, end)
     same(f"the line of a check, of {what}", checked(program, folder), would(line))
     with Kept(program, folder) as broker:
@@ -192,7 +194,8 @@ def torn_and_far_behind(program):
 
 
 def groups_out_of_place(program):
-    """A group twice, two in the wrong order, one that lacks, one of another journal, and a head of another one."""
+    """A group twice, two in the wrong order, one that lacks, one of another journal, and a head of another one: beside a snapshot that
+    says the journal's key that is refused, and beside one of version 0 it has no group."""
     first, second, last = GROUPS
     other = kept_files.journal(ROUNDS, key=b"another ")
     theirs = other[SECOND:LAST]
@@ -205,7 +208,10 @@ def groups_out_of_place(program):
         leaves(program, folder, "the first lacks", HEAD + second + last, 0)
         leaves(program, folder, "another journal's group at the end", HEAD + first + theirs, 1)
         leaves(program, folder, "another journal's groups behind one", SOUND[:SECOND] + other[SECOND:], 1)
-        leaves(program, folder, "a head of another journal", other[: kept_files.HEAD_SIZE] + SOUND[FIRST:], 0)
+        another_head = other[: kept_files.HEAD_SIZE] + SOUND[FIRST:]
+        leaves(program, folder, "a head of another journal", another_head, 0, version=0)
+        lay(folder, another_head)
+        refused(program, folder, REFUSED, of_another(folder, JOURNAL, SNAPSHOT))
         refuses(program, folder, "another journal's in the middle", HEAD + first + theirs + last, SECOND, "LaterSync")
         refuses(program, folder, "a group twice in another's place", HEAD + first + resized(first) + last, SECOND, "LaterSync")
 
@@ -412,33 +418,46 @@ def refused_frames(program):
 
 # ---- heads
 
-# fields of a journal's head that are none, with the right crc: where they stand, and why they are none
+# fields of a journal's head that are none, with the right crcs: where they stand, and why they are none
 RESEALED = [
     (4, "BadMark", {"mark": b"KSNP"}),
-    (4, "BadMark", {"mark": b"kjnl", "version": 1}),
-    (12, "BadNumber", {"number": 0}),
-    (12, "BadNumber", {"number": 2}),
-    (12, "BadNumber", {"number": -(2**63)}),
+    (4, "BadMark", {"mark": b"kjnl", "version": 2}),
+    (4, "BadMark", {"mark": b"KSNP", "version": 0}),
+    *((12, "BadNumber", {"number": number, "version": version}) for number in (0, 2, 1 - 2**63) for version in (1, 0)),
+    (12, "BadNumber", {"number": -(2**63), "version": 0}),
+    (28, "BadBefore", {"before": (1, kept_files.KEY, 99)}),
+    (28, "BadBefore", {"before": (-1, bytes(8), 0)}),
+    (28, "BadBefore", {"before": (1, kept_files.KEY, 99), "number": 3}),
+    (28, "BadBefore", {"before": (2**63 - 1, bytes(8), 0), "number": -(2**63)}),
 ]
 LATER = [
-    ("BadVersion", {"version": 1}),
-    ("BadVersion", {"version": 1, "meaning": 2}),
+    ("BadVersion", {"version": 2}),
+    ("BadVersion", {"version": 2, "meaning": 2}),
+    ("BadVersion", {"version": 2, "before": (7, bytes(8), 0)}),
     ("BadVersion", {"version": -1}),
     ("BadVersion", {"version": -1, "number": 0}),
-    ("BadMeaning", {"meaning": 2}),
-    ("BadMeaning", {"meaning": 0}),
-    ("BadMeaning", {"meaning": -1}),
+    *(("BadMeaning", {"meaning": meaning, "version": version}) for meaning in (2, 0, -1) for version in (1, 0)),
 ]
 
 
 def heads_of_journals(program):
-    """The head of a journal: each byte with a bit turned, too few bytes, and fields that are none, with the right crc."""
+    """The head of a journal, of both versions: each byte with a bit turned, too few bytes, and fields that are none, with the right
+    crcs. A later version has another form perhaps, so what stands behind the first crc's bytes isn't judged then."""
     with new_folder() as folder:
         for at in range(kept_files.HEAD_SIZE):
-            refuses(program, folder, f"a bit of byte {at}", flipped(SOUND, at, 1 << at % 8), 0, "BadCrc")
+            fault = (0, "BadCrc") if at < kept_files.OLD_HEAD_SIZE else (kept_files.OLD_HEAD_SIZE, "BadBefore")
+            refuses(program, folder, f"a bit of byte {at}", flipped(SOUND, at, 1 << at % 8), *fault)
+        for at in range(kept_files.OLD_HEAD_SIZE):
+            refuses(program, folder, f"a bit of byte {at} of version 0", flipped(OLD, at, 1 << at % 8), 0, "BadCrc")
         for size in range(kept_files.HEAD_SIZE):
             refuses(program, folder, f"{size} bytes", SOUND[:size], size, "Short")
-        refuses(program, folder, "zeros", bytes(kept_files.HEAD_SIZE), 0, "BadCrc")
+        for size in (0, 1, kept_files.OLD_HEAD_SIZE - 1):
+            refuses(program, folder, f"{size} bytes of version 0", OLD[:size], size, "Short")
+        for size in (kept_files.OLD_HEAD_SIZE, kept_files.HEAD_SIZE):
+            refuses(program, folder, f"{size} zeros", bytes(size), 0, "BadCrc")
+        for size in (kept_files.OLD_HEAD_SIZE, len(SOUND)):
+            lay(folder, kept_files.journal(ROUNDS, version=2)[:size])
+            refused(program, folder, REFUSED, later(folder, JOURNAL, "BadVersion"))
         for at, why, fields in RESEALED:
             refuses(program, folder, f"{fields}", kept_files.journal(ROUNDS, **fields), at, why)
         for why, fields in LATER:
@@ -447,27 +466,29 @@ def heads_of_journals(program):
 
 
 EMPTY = kept_files.EMPTY_IMAGE
-IMAGES = kept_files.snapshot(NAMES_OF_TOPICS)
+IMAGES, OLD_IMAGES = kept_files.snapshot(NAMES_OF_TOPICS), kept_files.snapshot(NAMES_OF_TOPICS, version=0)
 BEHIND_HEAD = len(IMAGES) - 3 * len(EMPTY)  # where the images begin: of t:0, t:1 and the groups' partition
-MARK_AT, VERSION_AT, SIZE_AT, FIELDS_AT = 4, 8, 10, 14
+MARK_AT, VERSION_AT, KEY_AT = 4, 8, 10
+FIELDS_AT = {1: 22, 0: 14}  # by the version; their size stands before them
 
 
-def fault_of_flip(at, bits):
+def fault_of_head(data):
     """Why a snapshot is refused in whose head a bit is turned, and where that stands; the crc is looked at behind the size."""
-    if MARK_AT <= at < VERSION_AT:
+    mark, version = struct.unpack(">4sh", data[MARK_AT:KEY_AT])
+    if mark != b"KSNP":
         return MARK_AT, "BadMark"
-    if VERSION_AT <= at < SIZE_AT:
+    if version not in FIELDS_AT:
         return VERSION_AT, "BadVersion"
-    size = struct.unpack(">i", flipped(IMAGES, at, bits)[SIZE_AT:FIELDS_AT])[0]
+    at = FIELDS_AT[version]
+    size = struct.unpack(">i", data[at - 4 : at])[0]
     if size < 0:
-        return SIZE_AT, "BadSize"
-    return (len(IMAGES), "Short") if FIELDS_AT + size > len(IMAGES) else (0, "BadCrc")
+        return at - 4, "BadSize"
+    return (len(data), "Short") if at + size > len(data) else (0, "BadCrc")
 
 
 NO_TOPIC = kept.fields(1, 0, 0, 0, [])
 # a byte more, a byte less, none at all, a topic that is announced and isn't there, and one whose name is null
 SAID = [NO_TOPIC + b"\0", NO_TOPIC[:-1], b"", NO_TOPIC[:-1] + b"\1", NO_TOPIC[:-1] + b"\1" + struct.pack(">hi", -1, 0)]
-NO_FIELDS = [kept.snapshot(it) for it in SAID]
 
 
 def snapshot_refused(program, folder, snapshot, at, why):
@@ -479,22 +500,27 @@ def snapshot_refused(program, folder, snapshot, at, why):
 
 
 def heads_of_snapshots(program):
-    """The head of a snapshot: each bit before its fields turned, and one of each byte of these, each front of it, and fields that are
-    none, with the right crc."""
+    """The head of a snapshot, of both versions: each bit before its fields turned, and one of each byte of these, each front of it, and
+    fields that are none, with the right crc. Of version 0 one bit of each byte, and some fronts."""
     with new_folder() as folder:
-        for at in range(BEHIND_HEAD):
-            for bit in range(8) if at < FIELDS_AT else [at % 8]:
-                snapshot_refused(program, folder, flipped(IMAGES, at, 1 << bit), *fault_of_flip(at, 1 << bit))
-        for size in range(BEHIND_HEAD):
-            snapshot_refused(program, folder, IMAGES[:size], size, "Short")
+        for sound, fields_at, fronts in ((IMAGES, FIELDS_AT[1], 1), (OLD_IMAGES, 0, 9)):
+            for at in range(len(sound) - 3 * len(EMPTY)):
+                for bit in range(8) if at < fields_at else [at % 8]:
+                    data = flipped(sound, at, 1 << bit)
+                    snapshot_refused(program, folder, data, *fault_of_head(data))
+            for size in range(0, len(sound) - 3 * len(EMPTY), fronts):
+                snapshot_refused(program, folder, sound[:size], size, "Short")
         snapshot_refused(program, folder, SOUND, MARK_AT, "BadMark")
-        for data in NO_FIELDS:
-            snapshot_refused(program, folder, data, FIELDS_AT, "BadFields")
-        snapshot_refused(program, folder, kept.snapshot(NO_TOPIC, mark=b"KJNL"), MARK_AT, "BadMark")
-        snapshot_refused(program, folder, kept.snapshot(NO_TOPIC, version=1), VERSION_AT, "BadVersion")
-        snapshot_refused(program, folder, kept.snapshot(NO_TOPIC, size=-1), SIZE_AT, "BadSize")
-        for number in (0, 2, -1):
-            snapshot_refused(program, folder, kept_files.snapshot(NAMES_OF_TOPICS, number=number), FIELDS_AT, "BadNumber")
+        for version, fields_at in FIELDS_AT.items():
+            for it in SAID:
+                snapshot_refused(program, folder, kept_files.snapshot_head(it, version), fields_at, "BadFields")
+            snapshot_refused(program, folder, kept_files.snapshot_head(NO_TOPIC, version, mark=b"KJNL"), MARK_AT, "BadMark")
+            snapshot_refused(program, folder, kept_files.snapshot_head(NO_TOPIC, version, size=-1), fields_at - 4, "BadSize")
+            for number in (0, 2, -1):
+                other = kept_files.snapshot(NAMES_OF_TOPICS, number=number, version=version)
+                snapshot_refused(program, folder, other, fields_at, "BadNumber")
+        for version in (2, -1):
+            snapshot_refused(program, folder, kept_files.snapshot_head(NO_TOPIC, version), VERSION_AT, "BadVersion")
 
 
 def images_of_snapshots(program):
@@ -513,11 +539,10 @@ def images_of_snapshots(program):
             snapshot_refused(program, folder, IMAGES[:at] + images, at + size * 3, "Behind")
 
 
-def snapshot_of(sizes, images, following=0, group=(len(EMPTY),), **said):
+def snapshot_of(version, sizes, images, following=0, group=(len(EMPTY),), role=0, first=0):
     """A snapshot with images of these sizes for t:0 and t:1, and for the groups' topic."""
     topics = [(b"t", sizes), (b"__consumer_offsets", group)]
-    role, first = said.get("role", 0), said.get("first", 0)
-    return kept.snapshot(kept.fields(1, role, first, following, topics)) + images
+    return kept_files.snapshot_head(kept.fields(1, role, first, following, topics), version) + images
 
 
 def snapshots_of_none(program):
@@ -526,21 +551,23 @@ def snapshots_of_none(program):
     gap."""
     size = len(EMPTY)
     gapped = copies.image([(2, 4)], [batches.batch([batches.record(0, b"a", b"1", [], {})], {"base": 2})], {})
-    topics_at = FIELDS_AT + 26
     with new_folder() as folder:
-        for snapshot, at, why in (
-            (snapshot_of([size, size], EMPTY * 3, role=2), FIELDS_AT + 8, "BadRole"),
-            (snapshot_of([-1, size], EMPTY * 3), BEHIND_HEAD, "BadSize"),
-            (snapshot_of([size, size], EMPTY * 3, first=5, following=4), FIELDS_AT + 18, "EarlyProducer"),
-            (snapshot_of([size, size], EMPTY * 2, group=()), topics_at, "BadTopics"),
-            (snapshot_of([size, size], EMPTY * 4, group=(size, size)), topics_at, "BadTopics"),
-            (snapshot_of([len(gapped), size], gapped + EMPTY * 2), BEHIND_HEAD, "Gapped"),
-        ):
-            snapshot_refused(program, folder, snapshot, at, why)
+        for version, fields_at in FIELDS_AT.items():
+            topics_at, images_at = fields_at + 26, BEHIND_HEAD - FIELDS_AT[1] + fields_at
+            for snapshot, at, why in (
+                (snapshot_of(version, [size, size], EMPTY * 3, role=2), fields_at + 8, "BadRole"),
+                (snapshot_of(version, [-1, size], EMPTY * 3), images_at, "BadSize"),
+                (snapshot_of(version, [size, size], EMPTY * 3, first=5, following=4), fields_at + 18, "EarlyProducer"),
+                (snapshot_of(version, [size, size], EMPTY * 2, group=()), topics_at, "BadTopics"),
+                (snapshot_of(version, [size, size], EMPTY * 4, group=(size, size)), topics_at, "BadTopics"),
+                (snapshot_of(version, [len(gapped), size], gapped + EMPTY * 2), images_at, "Gapped"),
+            ):
+                snapshot_refused(program, folder, snapshot, at, why)
 
 
 def first_fault(program):
-    """Of many faults the first is named: of the names, of the snapshot, of the configuration, of the journal's head, of its groups."""
+    """Of many faults the first is named: of the names, of the snapshot, of the configuration, of the journal's head, of what it means,
+    of what it stands behind, of its groups."""
     bad = flipped(SOUND, SECOND, 1)
     with new_folder() as folder:
         lay(folder, flipped(bad, 0, 1))
@@ -552,6 +579,9 @@ def first_fault(program):
         write(folder, SNAPSHOT, IMAGES)
         refused(program, folder, ANOTHER, another(folder, "topic t: 2 partitions"), topics=("t:1",))
         refused(program, folder, REFUSED, damaged(folder, JOURNAL, 0, "BadCrc"))
+        for fields, line in (({"meaning": 2}, later(folder, JOURNAL, "BadMeaning")), ({}, of_another(folder, JOURNAL, SNAPSHOT))):
+            write(folder, JOURNAL, flipped(kept_files.journal(ROUNDS, key=b"another ", **fields), SECOND, 1))
+            refused(program, folder, REFUSED, line)
         write(folder, JOURNAL, bad)
         refused(program, folder, REFUSED, damaged(folder, JOURNAL, SECOND, "LaterSync"))
 
@@ -570,10 +600,11 @@ def files_that_are_missing(program):
         for name in (JOURNAL, SNAPSHOT):
             without(folder, name)
             refused(program, folder, REFUSED, missing(folder, name))
-        for size in (29, 40, FIRST + 40, len(SOUND) - 1):
-            lay(folder, SOUND[:size])
-            os.remove(f"{folder}/{SNAPSHOT}")
-            refused(program, folder, REFUSED, missing(folder, SNAPSHOT))
+        for journal in (SOUND, OLD):
+            for size in (FIRST + 1, FIRST + 10, FIRST + 40, len(journal) - 1):
+                lay(folder, journal[:size])
+                os.remove(f"{folder}/{SNAPSHOT}")
+                refused(program, folder, REFUSED, missing(folder, SNAPSHOT))
         lay(folder, HEAD)
         with Kept(program, folder) as broker:
             same("the line of a journal without a group", broker.said(), recovered(0))

@@ -23,6 +23,7 @@ from cases.kept_runs import (
     folded,
     found,
     has_state,
+    key_in,
     new,
     new_folder,
     recovered,
@@ -45,13 +46,24 @@ def laid(folder, files):
     return files
 
 
-def first_files(*rounds, **journal):
-    """A snapshot of an empty broker and a journal, of version 0."""
-    return {SNAPSHOT: kept_files.snapshot(NAMES), JOURNAL: kept_files.journal(rounds, **journal)}
+def first_files(*rounds, version=1, **journal):
+    """A snapshot of an empty broker and a journal."""
+    return {SNAPSHOT: kept_files.snapshot(NAMES, version=version), JOURNAL: kept_files.journal(rounds, version=version, **journal)}
 
 
 def node_after(frames):
     return kept_files.node_after(frames, NAMES)
+
+
+def row(first, count, *journals, **ways):
+    """A row of files: the snapshot of a number, behind so many frames, and the journals from there on, of these rounds."""
+    return kept_files.row_of(node_after(FRAMES[:count]), NAMES, first, *journals, **ways)
+
+
+def behind(files, number, rounds, **head):
+    """The same files, and a journal behind the last one."""
+    before = kept_files.stands_before(files[f"journal.{number - 1}"])
+    return {**files, f"journal.{number}": kept_files.journal(rounds, number=number, before=before, **head)}
 
 
 def names_in(folder):
@@ -105,15 +117,15 @@ def written_again(program):
     groups that were each synced it is the last one, of others it is more. A start that is refused writes nothing."""
     with new_folder() as folder:
         for torn in (b"", bytes(9)):
-            behind = f"{len(torn)} bytes of a torn end"
-            writes_again(program, folder, f"each synced, {behind}", kept_files.journal(ROUNDS), BEGIN[3], torn)
-            writes_again(program, folder, f"none synced, {behind}", kept_files.journal(ROUNDS, kept_files.never), BEGIN[0], torn)
-            writes_again(program, folder, f"no group, {behind}", kept_files.journal([]), 0, torn)
-            half = kept_files.journal(ROUNDS, lambda at: min(at, BEGIN[1]))
-            writes_again(program, folder, f"the first one synced, {behind}", half, BEGIN[1], torn)
+            end = f"{len(torn)} bytes of a torn end"
+            writes_again(program, folder, f"each synced, {end}", kept_files.journal(ROUNDS), BEGIN[3], torn)
+            writes_again(program, folder, f"none synced, {end}", kept_files.journal(ROUNDS, kept_files.never), BEGIN[0], torn)
+            writes_again(program, folder, f"no group, {end}", kept_files.journal([]), 0, torn)
+            half = kept_files.journal(ROUNDS, lambda at, _: min(at, BEGIN[1]))
+            writes_again(program, folder, f"the first one synced, {end}", half, BEGIN[1], torn)
         large = [[request(f"produce t:{number % 2} batch k={{v*90000}}")] for number in range(4)]
         writes_again(program, folder, "large groups", kept_files.journal(large, kept_files.never), BEGIN[0], b"")
-        laid(folder, {**first_files(*ROUNDS, synced=kept_files.never), "journal.2": kept_files.journal([[request("export t:0")]], number=2)})
+        laid(folder, behind(first_files(*ROUNDS, synced=kept_files.never), 2, [[request("export t:0")]]))
         before = all_of(folder)
         try:
             with Watched(program, folder) as broker:
@@ -241,11 +253,8 @@ def room_before_it_is_written_again(program):
 
 
 def put_back_files():
-    """A backup: a snapshot and two journals, of version 0."""
-    files = {"snapshot.2": kept_files.snapshot_of(node_after(FRAMES[:3]), NAMES, 2)}
-    files["journal.2"] = kept_files.journal([FRAMES[3:4], FRAMES[4:6]], number=2)
-    files["journal.3"] = kept_files.journal([FRAMES[6:7]], number=3)
-    return files
+    """A backup: a snapshot and two journals."""
+    return row(2, 3, [FRAMES[3:4], FRAMES[4:6]], [FRAMES[6:7]])
 
 
 def story_of_put_back():
@@ -478,7 +487,7 @@ def folds_on_a_full_disk(program):
         for number in (2, 3):
             same("the last line of --fold", fold(program, folder)[-1], folded(number))
             same("the names then", names_in(folder), [f"journal.{number}", f"snapshot.{number}"])
-        laid(folder, {**files, "journal.2": kept_files.journal([], number=2, meaning=2)})
+        laid(folder, behind(files, 2, [], meaning=2))
         same("behind another meaning", fold(program, folder)[-1], folded(3))
 
 
@@ -508,10 +517,12 @@ def somebodys_draft(program):
             same("what is said", snapshot_lines(broker), [f"snapshot: {IN_THE_MAKING}: entity already exists"])
             story.tell(broker, [LARGE])
             holds(f"the names {names_in(folder)}", is_soon(lambda: names_in(folder) == ["journal.3", "snapshot.3"]))
-            same("the snapshot", content(folder, "snapshot.3"), kept_files.snapshot_of(story.node, NAMES, 3))
+            wanted = kept_files.snapshot_of(story.node, NAMES, 3, key=key_in(folder, "journal.3"))
+            same("the snapshot", content(folder, "snapshot.3"), wanted)
         write(folder, IN_THE_MAKING, b"mine" * 25_000)
         same("the last line of --fold", fold(program, folder)[-1], folded(4))
-        same("the snapshot of --fold", content(folder, "snapshot.4"), kept_files.snapshot_of(story.node, NAMES, 4))
+        wanted = kept_files.snapshot_of(story.node, NAMES, 4, key=key_in(folder, "journal.4"))
+        same("the snapshot of --fold", content(folder, "snapshot.4"), wanted)
         same("the names", names_in(folder), ["journal.4", "snapshot.4"])
 
 

@@ -5,7 +5,6 @@ What must come is the plain model's (tests/models/broker.py), and the bytes of f
 """
 import os
 import signal
-import struct
 import threading
 import time
 
@@ -28,6 +27,7 @@ from cases.kept_runs import (
     folded,
     found,
     has_state,
+    key_in,
     later,
     missing,
     new,
@@ -60,8 +60,15 @@ def snapshot_behind(count, number, **head):
     return kept_files.snapshot_of(kept_files.node_after(FRAMES[:count], NAMES), NAMES, number, **head)
 
 
-def journal(number, *rounds, **head):
-    return kept_files.journal(rounds, number=number, **head)
+def row(first, count, *journals, **ways):
+    """A row of files: the snapshot of a number, behind so many frames, and the journals from there on, of these rounds."""
+    return kept_files.row_of(kept_files.node_after(FRAMES[:count], NAMES), NAMES, first, *journals, **ways)
+
+
+def has_taken(folder, number, count):
+    """The snapshot of a number must be that behind so many frames, with the key of its journal, whatever version stood there before."""
+    wanted = snapshot_behind(count, number, key=key_in(folder, f"journal.{number}"))
+    same(f"snapshot {number}", content(folder, f"snapshot.{number}"), wanted)
 
 
 def names_in(folder):
@@ -80,68 +87,73 @@ def state_behind(program, folder, frames, said, names, *arguments):
 # ---- what a start finds
 
 
-def rows_of_journals(program):
-    """A snapshot and the journals from its number on are one story; what is below goes, and a journal behind them that was being made
-    too."""
-    head = kept_files.journal_head(number=5)
-    rows = {
-        # the files, what a start says, and the names that are there then
-        "a later snapshot": ({"snapshot.3": snapshot_behind(4, 3), "journal.3": journal(3, FRAMES[4:])}, recovered(7, snapshot=3)),
-        "two journals": (
-            {"snapshot.3": snapshot_behind(4, 3), "journal.3": journal(3, FRAMES[4:6], FRAMES[6:8]), "journal.4": journal(4, FRAMES[8:])},
-            recovered(7, snapshot=3),
-        ),
+HIGHEST = 9223372036854775806  # the highest number of a file
+
+
+def sound_rows(version):
+    """Rows of files of a version, and what a start says of each."""
+    torn = row(3, 4, [FRAMES[4:6]], [FRAMES[6:]], version=version)
+    return {
+        "a later snapshot": (row(3, 4, [FRAMES[4:]], version=version), recovered(7, snapshot=3)),
+        "two journals": (row(3, 4, [FRAMES[4:6], FRAMES[6:8]], [FRAMES[8:]], version=version), recovered(7, snapshot=3)),
         "three journals, the second without a group": (
-            {
-                "snapshot.3": snapshot_behind(4, 3),
-                "journal.3": journal(3, FRAMES[4:6]),
-                "journal.4": journal(4),
-                "journal.5": journal(5, FRAMES[6:]),
-            },
+            row(3, 4, [FRAMES[4:6]], [], [FRAMES[6:]], version=version),
             recovered(7, snapshot=3),
         ),
-        "a torn end": (
-            {"snapshot.3": snapshot_behind(4, 3), "journal.3": journal(3, FRAMES[4:6]), "journal.4": journal(4, FRAMES[6:]) + b"torn"},
-            recovered(7, 4, len(journal(4, FRAMES[6:])), 3, 4),
-        ),
-        "the highest name": (
-            {"snapshot.9223372036854775806": snapshot_behind(11, 9223372036854775806), "journal.9223372036854775806": journal(9223372036854775806)},
-            recovered(0, snapshot=9223372036854775806),
-        ),
+        "a torn end": ({**torn, "journal.4": torn["journal.4"] + b"torn"}, recovered(7, 4, len(torn["journal.4"]), 3, 4)),
+        "the highest name": (row(HIGHEST, 11, [], version=version), recovered(0, snapshot=HIGHEST)),
     }
-    for what, (files, said) in rows.items():
+
+
+def rows_of_journals(program):
+    """A snapshot and the journals from its number on are one story, in either version; what is below goes, and a journal behind them that
+    was being made too."""
+    for version in (1, 0):
+        for what, (files, said) in sound_rows(version).items():
+            with new_folder() as folder:
+                laid(folder, files)
+                try:
+                    state_behind(program, folder, FRAMES, said, files)
+                    state_behind(program, folder, FRAMES, said.partition(";")[0], files)
+                except Fault as why:
+                    raise Fault(f"{what}, of version {version}: {why}") from None
+        rows_and_what_goes(program, version)
+
+
+def rows_and_what_goes(program, version):
+    """The same of a row with files that a start removes: lower ones, and a journal that was being made, also by the program before."""
+    kept = row(3, 4, [FRAMES[4:8]], [FRAMES[8:]], version=version)
+    head = kept_files.journal_head(number=5, before=kept_files.stands_before(kept["journal.4"]))
+    old = kept_files.journal_head(number=5, version=0)
+    below = {"snapshot.1": b"", "snapshot.2": snapshot_behind(2, 2)[:50], "journal.1": b"x", "journal.2": b"y", IN_THE_MAKING: b"z"}
+    for making in (*(head[:size] for size in (0, 5, 27, 28, 29, 44, 52, 55)), bytes(28), bytes(56), old[:27], bytes(27)):
         with new_folder() as folder:
-            laid(folder, files)
-            try:
-                state_behind(program, folder, FRAMES, said, files)
-                state_behind(program, folder, FRAMES, said.partition(";")[0], files)
-            except Fault as why:
-                raise Fault(f"{what}: {why}") from None
-    kept = {"snapshot.3": snapshot_behind(4, 3), "journal.3": journal(3, FRAMES[4:8]), "journal.4": journal(4, FRAMES[8:])}
-    below = {"snapshot.1": b"", "snapshot.2": snapshot_behind(2, 2)[:50], "journal.1": b"x", "journal.2": journal(2, FRAMES[2:4]), IN_THE_MAKING: b"y"}
-    for size in (0, 5, 27, 28):
-        with new_folder() as folder:
-            laid(folder, {**kept, **below, "journal.5": head[:size] if size < 28 else bytes(28)})
+            laid(folder, {**kept, **below, "journal.5": making})
             state_behind(program, folder, FRAMES, recovered(7, snapshot=3), kept)
     with new_folder() as folder:
-        torn = journal(4, FRAMES[8:]) + b"torn"
+        torn = kept["journal.4"] + b"torn"
         laid(folder, {**kept, "journal.4": torn, "journal.5": head[:9]})
         state_behind(program, folder, FRAMES, recovered(7, 4, len(torn) - 4, 3, 4), kept)
 
 
-def rows_with_a_fault(program):
-    """What no crash leaves of a row is refused, and stays as it was: a file that is missing, a journal with a torn end before another
-    one, one of another number, a group with other frames' offset."""
-    three, four = journal(3, FRAMES[4:6], FRAMES[6:8]), journal(4, FRAMES[8:])
-    kept = {"snapshot.3": snapshot_behind(4, 3), "journal.3": three, "journal.4": four, "journal.5": journal(5)}
-    last, only_reads = kept_files.groups_of(three, 3)[-1].at, request("export t:0")
+def faults_of_rows(version):
+    """A row of files of a version; and what is changed of it, and what is said then."""
+    kept = row(3, 4, [FRAMES[4:6], FRAMES[6:8]], [FRAMES[8:]], [], version=version)
+    three, four, five = (kept[f"journal.{number}"] for number in (3, 4, 5))
+    last, start, number_at = kept_files.groups_of(three, 3)[-1].at, kept_files.head_of(five).end, 22 if version else 14
+    before = kept_files.stands_before(three)
     below = {"snapshot.1": b"", "journal.2": b"x", IN_THE_MAKING: b"y"}
-    rows = [
+    seven = kept_files.journal([], number=7, version=version)
+    only_reads = kept_files.with_groups(five, [[request("export t:0")]], key=kept_files.key_number(5))
+    of_two = snapshot_behind(4, 2, version=version, key=kept_files.key_number(3))
+    another_number = kept_files.journal([FRAMES[8:]], number=3, version=version)
+    another_meaning = kept_files.journal([FRAMES[8:]], key=kept_files.key_number(4), number=4, meaning=2, before=before, version=version)
+    return kept, [
         # what is changed of these files, and what is said then
         ({"journal.3": None}, lambda at: missing(at, "journal.3")),
         ({"journal.4": None}, lambda at: missing(at, "journal.4")),
         ({"journal.3": None, "journal.4": None, "journal.5": None}, lambda at: missing(at, "journal.3")),
-        ({"journal.7": journal(7)}, lambda at: missing(at, "journal.6")),
+        ({"journal.7": seven}, lambda at: missing(at, "journal.6")),
         ({"snapshot.3": None}, lambda at: missing(at, "snapshot.3")),
         ({"snapshot.4": b""}, lambda at: damaged(at, "snapshot.4", 0, "Short")),
         ({"snapshot.6": b""}, lambda at: missing(at, "journal.6")),
@@ -149,24 +161,33 @@ def rows_with_a_fault(program):
         ({"journal.3": three + b"torn"}, lambda at: damaged(at, "journal.3", len(three), "LaterJournal")),
         ({"journal.3": three[: last + 40] + b"?" + three[last + 41 :]}, lambda at: damaged(at, "journal.3", last, "LaterJournal")),
         ({"journal.4": four + b"torn"}, lambda at: damaged(at, "journal.4", len(four), "LaterJournal")),  # (though none has groups behind it)
-        ({"journal.5": journal(5, [only_reads]), **below}, lambda at: damaged(at, "journal.5", 28, "OnlyReads")),
-        ({"journal.4": journal(3, FRAMES[8:])}, lambda at: damaged(at, "journal.4", 12, "BadNumber")),
+        ({"journal.5": only_reads, **below}, lambda at: damaged(at, "journal.5", start, "OnlyReads")),
+        ({"journal.4": another_number}, lambda at: damaged(at, "journal.4", 12, "BadNumber")),
         ({"journal.4": four[:20]}, lambda at: damaged(at, "journal.4", 20, "Short")),
         ({"journal.4": bytes(28)}, lambda at: damaged(at, "journal.4", 0, "BadCrc")),
-        ({"journal.5": bytes(29)}, lambda at: damaged(at, "journal.5", 0, "BadCrc")),
-        ({"snapshot.3": snapshot_behind(4, 2)}, lambda at: damaged(at, "snapshot.3", 14, "BadNumber")),
-        ({"journal.4": journal(4, FRAMES[8:], meaning=2)}, lambda at: later(at, "journal.4", "BadMeaning")),
+        ({"journal.5": bytes(57)}, lambda at: damaged(at, "journal.5", 0, "BadCrc")),
+        ({"journal.5": kept_files.journal_head(number=5, version=2)}, lambda at: later(at, "journal.5", "BadVersion")),
+        ({"snapshot.3": of_two}, lambda at: damaged(at, "snapshot.3", number_at, "BadNumber")),
+        ({"journal.4": another_meaning}, lambda at: later(at, "journal.4", "BadMeaning")),
     ]
-    for changed, said in rows:
-        with new_folder() as folder:
-            laid(folder, {name: data for name, data in {**kept, **changed}.items() if data is not None})
-            refused(program, folder, REFUSED, said(folder))
+
+
+def rows_with_a_fault(program):
+    """What no crash leaves of a row is refused, and stays as it was: a file that is missing, a journal with a torn end before another
+    one, one of another number, a group with other frames' offset. So it is in either version."""
+    for version in (1, 0):
+        kept, rows = faults_of_rows(version)
+        for changed, said in rows:
+            with new_folder() as folder:
+                laid(folder, {name: data for name, data in {**kept, **changed}.items() if data is not None})
+                refused(program, folder, REFUSED, said(folder))
 
 
 def turned_bits(program):
     """A bit turned in each field of a snapshot of a broker that holds something, and in each image; cut at each place of some, and
     with a byte more."""
-    whole, rest = snapshot_behind(9, 2), {"journal.2": journal(2, FRAMES[9:])}
+    rest = row(2, 9, [FRAMES[9:]])
+    whole = rest.pop("snapshot.2")
     node = kept_files.node_after(FRAMES[:9], NAMES)
     images = [copy.image() for name in (*(it for it, _ in NAMES), b"__consumer_offsets") for copy in node.topics[name]]
     begins = [len(whole) - sum(len(it) for it in images[index:]) for index in range(len(images) + 1)]
@@ -202,22 +223,24 @@ def fold(program, folder, *words, topics=TOPICS):
 
 def folded_once(program):
     """The frames of all journals become a snapshot, byte for byte that of the model, and a journal without a group; whatever torn end
-    there was."""
-    files = {"snapshot.3": snapshot_behind(4, 3), "journal.3": journal(3, FRAMES[4:8]), "journal.4": journal(4, FRAMES[8:]) + b"torn"}
-    at = len(files["journal.4"]) - 4
-    with new_folder() as folder:
-        laid(folder, files)
-        same("the lines", fold(program, folder), [recovered(7, 4, at, 3, 4), folded(5)])
-        same("the names", names_in(folder), ["journal.5", "snapshot.5"])
-        same("the snapshot", content(folder, "snapshot.5"), snapshot_behind(11, 5))
-        head = content(folder, "journal.5")
-        same("the journal's number and size", (struct.unpack(">q", head[12:20])[0], len(head)), (5, 28))
-        state_behind(program, folder, FRAMES, recovered(0, snapshot=5), ["journal.5", "snapshot.5"])
-        same("the lines once more", fold(program, folder), [recovered(0, snapshot=5), folded(6)])
-        same("the snapshot once more", content(folder, "snapshot.6"), snapshot_behind(11, 6))
+    there was, and whichever version the files had."""
+    for version in (1, 0):
+        files = row(3, 4, [FRAMES[4:8]], [FRAMES[8:]], version=version)
+        at, before = len(files["journal.4"]), kept_files.stands_before(files["journal.4"])
+        with new_folder() as folder:
+            laid(folder, {**files, "journal.4": files["journal.4"] + b"torn"})
+            same("the lines", fold(program, folder), [recovered(7, 4, at, 3, 4), folded(5)])
+            same("the names", names_in(folder), ["journal.5", "snapshot.5"])
+            has_taken(folder, 5, 11)
+            data = content(folder, "journal.5")
+            head = kept_files.head_of(data)
+            same("what its journal's head says", (head.version, head.number, head.before, len(data)), (1, 5, before, 56))
+            state_behind(program, folder, FRAMES, recovered(0, snapshot=5), ["journal.5", "snapshot.5"])
+            same("the lines once more", fold(program, folder), [recovered(0, snapshot=5), folded(6)])
+            has_taken(folder, 6, 11)
     with new_folder() as folder:
         same("the lines of a new directory", fold(program, folder), [new(folder), folded(2)])
-        same("its snapshot", content(folder, "snapshot.2"), snapshot_behind(0, 2))
+        has_taken(folder, 2, 0)
 
 
 def of_a_follower(program):
@@ -228,7 +251,8 @@ def of_a_follower(program):
         with Kept(program, folder, "--role", "follower") as broker:
             story.tell(broker, lines)
         fold(program, folder, "--role", "follower")
-        same("the snapshot", content(folder, "snapshot.2"), kept_files.snapshot_of(story.node, NAMES, 2))
+        wanted = kept_files.snapshot_of(story.node, NAMES, 2, key=key_in(folder, "journal.2"))
+        same("the snapshot", content(folder, "snapshot.2"), wanted)
         with Kept(program, folder, "--role", "follower") as broker:
             same("the line", broker.said(), recovered(0, snapshot=2))
             has_state(broker, story.node, "the state")
@@ -237,12 +261,13 @@ def of_a_follower(program):
 def another_meaning(program):
     """A snapshot and a journal without a group, as another program left them by `--fold`, are taken, and a journal of this program's
     meaning begins."""
-    for meaning in (0, 2, -1):
+    for meaning, version in ((0, 1), (2, 1), (-1, 1), (0, 0), (2, 0)):
         with new_folder() as folder:
-            laid(folder, {"snapshot.4": snapshot_behind(11, 4), "journal.4": journal(4, meaning=meaning)})
+            heads = {"number": 4, "meaning": meaning, "version": version}
+            laid(folder, {"snapshot.4": snapshot_behind(11, 4, version=version), "journal.4": kept_files.journal([], **heads)})
             state_behind(program, folder, FRAMES, recovered(0, snapshot=4), ["journal.5", "snapshot.5"])
-            same("the meaning", struct.unpack(">h", content(folder, "journal.5")[10:12])[0], kept_files.MEANING)
-            laid(folder, {"snapshot.4": snapshot_behind(9, 4), "journal.4": journal(4, FRAMES[9:], meaning=meaning)})
+            same("the meaning", kept_files.head_of(content(folder, "journal.5")).meaning, kept_files.MEANING)
+            laid(folder, {"snapshot.4": snapshot_behind(9, 4, version=version), "journal.4": kept_files.journal([FRAMES[9:]], **heads)})
             refused(program, folder, REFUSED, later(folder, "journal.4", "BadMeaning"))
             refused(program, folder, REFUSED, later(folder, "journal.4", "BadMeaning"), "--fold")
 
@@ -255,10 +280,11 @@ def topics_added(program):
     asked = ("v:1", "t:4", "u:2")
     names, story = kept_files.topics_of(asked), Story(asked)
     with new_folder() as folder:
-        laid(folder, {"snapshot.1": snapshot_behind(0, 1), "journal.1": journal(1, FRAMES[:6], FRAMES[6:]) + b"torn"})
+        files = row(1, 0, [FRAMES[:6], FRAMES[6:]])
+        laid(folder, {**files, "journal.1": files["journal.1"] + b"torn"})
         for frame in FRAMES:
             story.node.reply(frame[4:])
-        at = len(content(folder, "journal.1")) - 4
+        at = len(files["journal.1"])
         with Kept(program, folder, topics=asked) as broker:
             same("the line", broker.said(), recovered(11, 4, at, 1, 1))
             story.stands(broker, "the first start with more")
@@ -282,7 +308,7 @@ def refused_before_it_was_there(program):
     asked = ("t:4", "v:1")
     frames = [request("produce t:3 batch a=1"), request("produce v:0 batch b=1 | t:1 batch c=1")]
     with new_folder() as folder:
-        laid(folder, {"snapshot.1": snapshot_behind(0, 1), "journal.1": journal(1, frames[:1], frames[1:])})
+        laid(folder, row(1, 0, [frames[:1], frames[1:]]))
         with Kept(program, folder, topics=asked) as broker:
             same("the line", broker.said(), recovered(2))
             story = Story(asked)
@@ -303,7 +329,8 @@ def first_producer_once(program):
         lines = fold(program, folder, "--first-producer", "1000", topics=more)
         same("the lines where a partition is added", lines, [recovered(0, snapshot=5), folded(7)])
         node, names = Story(more).node, kept_files.topics_of(more)
-        same("the snapshot then", content(folder, "snapshot.7"), kept_files.snapshot_of(node, names, 7, first=41, following=49))
+        wanted = kept_files.snapshot_of(node, names, 7, first=41, following=49, key=key_in(folder, "journal.7"))
+        same("the snapshot then", content(folder, "snapshot.7"), wanted)
 
 
 # ---- while it runs
@@ -365,13 +392,13 @@ def taken_when_due(program):
             story.tell(broker, ["produce t:0 batch k={a*3000}"])
             time.sleep(0.2)
             same("the names, behind less than that snapshot has", names_in(folder), ["journal.3", "snapshot.3"])
-        node, files = kept_files.node_after(large[:9], NAMES), {"journal.3": journal(3, large[9:10]), "journal.4": journal(4, large[10:11])}
-        laid(folder, {"snapshot.3": kept_files.snapshot_of(node, NAMES, 3), **files, "journal.5": journal(5)})
+        rounds = [large[9:10]], [large[10:11]], []
+        laid(folder, kept_files.row_of(kept_files.node_after(large[:9], NAMES), NAMES, 3, *rounds))
         with Kept(program, folder, "--snapshot-after", "1500") as broker:
             story.tell(broker, [])
             time.sleep(0.2)
             same("the names of a start on less than the snapshot has", names_in(folder), ["journal.3", "journal.4", "journal.5", "snapshot.3"])
-        laid(folder, {"snapshot.3": kept_files.snapshot_of(kept_files.node_after([], NAMES), NAMES, 3), **files, "journal.5": journal(5)})
+        laid(folder, kept_files.row_of(kept_files.node_after([], NAMES), NAMES, 3, *rounds))
         with Kept(program, folder, "--snapshot-after", "2000") as broker:
             story.tell(broker, [])
             there = stands_at(folder, 5)  # (the last journal has no group)

@@ -21,6 +21,7 @@ from cases.kept_runs import (
     SNAPSHOT,
     Kept,
     content,
+    key_in,
     lay,
     new,
     new_folder,
@@ -326,7 +327,8 @@ def largest_configuration(program):
             with Kept(program, folder, topics=LARGEST) as broker, broker.client() as client:
                 same("the line", broker.said(), recovered(turn) if turn else new(folder))
                 client.ask("producer-id", f"producer 0 {turn} 0")
-        same("the snapshot", content(folder, SNAPSHOT), kept_files.snapshot(kept_files.topics_of(LARGEST)))
+        wanted = kept_files.snapshot(kept_files.topics_of(LARGEST), key=key_in(folder))
+        same("the snapshot", content(folder, SNAPSHOT), wanted)
         status, line = refusal(program, folder, topics=LARGEST[:-1])
         same("one topic less", (status, line), (ANOTHER, f"kbroker: {folder}: topic {LARGEST[-1][:-3]}: 64 partitions"))
 

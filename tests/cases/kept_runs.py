@@ -56,6 +56,10 @@ def later(folder, name, why=None):
     return f"kbroker: {folder}/{name}: of a later version" + (f": {why}" if why else "")
 
 
+def of_another(folder, name, other):
+    return f"kbroker: {folder}/{name}: of another directory than {other}"
+
+
 def missing(folder, name):
     return f"kbroker: {folder}/{name}: missing"
 
@@ -207,6 +211,11 @@ def write(folder, name, data):
 def content(folder, name):
     with open(f"{folder}/{name}", "rb") as file:
         return file.read()
+
+
+def key_in(folder, name=JOURNAL):
+    """The key of a journal, whose head must be sound."""
+    return kept_files.head_of(content(folder, name)).key
 
 
 def lay(folder, journal, topics=TOPICS, **snapshot):

@@ -1,8 +1,8 @@
 """Stored journals with each kind of request that may change a broker, and the images of what they lead to, by their CRC-32C.
 
-A journal is made by the encoders of the tests, and the images by the plain model of tests/models/broker.py; the crcs of both stand here,
-so that neither changes unseen. Where the program comes to other images, the meaning of requests has changed, and the number of the
-meaning in a journal's head has to rise with it.
+A journal is made by the encoders of the tests, with a head of each version, and the images by the plain model of
+tests/models/broker.py; the crcs of both stand here, so that neither changes unseen. Where the program comes to other images, the meaning
+of requests has changed, and the number of the meaning in a journal's head has to rise with it.
 """
 import struct
 
@@ -52,10 +52,12 @@ OF_A_FOLLOWER = [
 # the crcs of the images of t:0, t:1, t:2, u:0, u:1 and the groups' partition
 LEADERS_IMAGES = [0xE5A722F3, 0x0C66FB89, 0x803F08A9, 0x92818A1F, 0x99583B46, 0x1CC6974E]
 FOLLOWERS_IMAGES = [0xAE846540, 0x8C58785D, 0xE28A528F, 0xBDDBB674, 0xBBA56923, 0xA7CCC0DE]
-# of each the rounds, whether it leads, the crc of its journal, and those of the images
+# of each the rounds, whether it leads, the version of its files, the crc of its journal, and those of the images
 STORED = [
-    ("a leader's journal", OF_A_LEADER, True, 0x5EC18896, LEADERS_IMAGES),
-    ("a follower's journal", OF_A_FOLLOWER, False, 0x1C2C0D15, FOLLOWERS_IMAGES),
+    ("a leader's journal", OF_A_LEADER, True, 1, 0x0B61E76A, LEADERS_IMAGES),
+    ("a leader's journal", OF_A_LEADER, True, 0, 0x5EC18896, LEADERS_IMAGES),
+    ("a follower's journal", OF_A_FOLLOWER, False, 1, 0x4287FC05, FOLLOWERS_IMAGES),
+    ("a follower's journal", OF_A_FOLLOWER, False, 0, 0x1C2C0D15, FOLLOWERS_IMAGES),
 ]
 
 
@@ -75,15 +77,15 @@ def crcs_of(node):
 def stored(program):
     """Each journal must be the stored one, and lead to the images that are stored."""
     names, met = kept_files.topics_of(TOPICS), set()
-    for what, words, leads, crc, images in STORED:
-        rounds = rounds_of(words)
+    for what, words, leads, version, crc, images in STORED:
+        what, rounds = f"{what} of version {version}", rounds_of(words)
         frames = [it for round_ in rounds for it in round_]
-        journal, node = kept_files.journal(rounds), kept_files.node_after(frames, names, leads, 7)
+        journal, node = kept_files.journal(rounds, version=version), kept_files.node_after(frames, names, leads, 7)
         met |= known_keys(frames)
         same(f"the crc of {what}", crc32c(journal), crc)
         same(f"the crcs of the model's images behind {what}", crcs_of(node), images)
         with new_folder() as folder:
-            lay(folder, journal, TOPICS, role=int(not leads), first=7)
+            lay(folder, journal, TOPICS, role=int(not leads), first=7, version=version)
             role = "leader" if leads else "follower"
             with Kept(program, folder, "--role", role, "--first-producer", "7", topics=TOPICS) as broker:
                 same(f"the line of {what}", broker.said(), recovered(len(frames)))

@@ -154,15 +154,9 @@ def taken_later(program):
         holds(f"the names behind {WITHIN} s: {names_in(folder)}", taken)
 
 
-def names_without(folder, number):
-    """Whether no file below a number stands there but those of number 1, and those of the number do."""
-    numbers = {int(it.partition(".")[2]) for it in names_in(folder)}
-    return number in numbers and not numbers & {*range(2, number)}
-
-
 def one_that_stays(program):
     """A file that can never be removed keeps neither the next snapshots nor the removal of others from being done: the snapshots come in
-    their time, the others go within a minute, and the broker rests."""
+    their time, the others go within a minute, the snapshot of its own number too, and the broker rests."""
     with new_folder() as folder:
         laid(folder, first_files())
         with Watched(program, folder, *SOON, names=[JOURNAL], inject=["unlink:error=EPERM"]) as broker:
@@ -172,18 +166,35 @@ def one_that_stays(program):
                     there = is_soon(lambda: f"snapshot.{turn + 2}" in names_in(folder), PATIENCE)
                     holds(f"the names behind snapshot {turn + 2}: {names_in(folder)}", there)
             broker.rests("a file can't be removed")
-            gone = is_soon(lambda: names_without(folder, 4), WITHIN)
+            gone = is_soon(lambda: names_in(folder) == [JOURNAL, "journal.4", "snapshot.4"], WITHIN)
             holds(f"the names behind {WITHIN} s: {names_in(folder)}, and {snapshot_lines(broker)}", gone)
             holds("the call didn't fail", broker.has_injected())
             holds(f"what is said: {snapshot_lines(broker)}", all(it.startswith("snapshot: journal.1: ") for it in snapshot_lines(broker)))
             holds(f"how often it is said: {snapshot_lines(broker)}", 1 <= len(snapshot_lines(broker)) <= 5)
 
 
+def stays_while_the_next_is_taken(program):
+    """The removal of an old file fails once, and the next snapshot is taken within the minute: then the files of both numbers go."""
+    with new_folder() as folder:
+        laid(folder, first_files())
+        with Watched(program, folder, *SOON, names=[JOURNAL], inject=["unlink:error=EIO:when=1"]) as broker:
+            with broker.client() as client:
+                client.ask(LARGE, "produced t:0 0 0")
+                holds(f"nothing is said: {broker.lines}", is_soon(lambda: snapshot_lines(broker)))
+                client.ask(LARGE.replace("1600", "4800"), "produced t:0 0 1")
+            there = is_soon(lambda: "snapshot.3" in names_in(folder), PATIENCE)
+            holds(f"the names behind the next snapshot: {names_in(folder)}", there and JOURNAL in names_in(folder))
+            gone = is_soon(lambda: names_in(folder) == ["journal.3", "snapshot.3"], WITHIN)
+            holds(f"the names behind {WITHIN} s: {names_in(folder)}, and {snapshot_lines(broker)}", gone)
+            same(f"what is said, in {broker.lines}", len(snapshot_lines(broker)), 1)
+
+
 @slow(A_MINUTE)
 def tried_again(program):
     """Each of these waits for a minute: they do so beside each other."""
-    with concurrent.futures.ThreadPoolExecutor() as pool:
-        tried = [(case, pool.submit(case, program)) for case in (removed_later, one_that_stays, taken_later)]
+    cases = (removed_later, stays_while_the_next_is_taken, one_that_stays, taken_later)
+    with concurrent.futures.ThreadPoolExecutor(len(cases)) as pool:
+        tried = [(case, pool.submit(case, program)) for case in cases]
     for case, it in tried:
         if why := it.exception():
             raise Fault(f"{case.__name__}: {why}")
@@ -232,6 +243,19 @@ def line_of_a_slow_sync(program):
             holds(f"nothing is said of a sync of 1.5 s: {broker.lines}", is_said)
 
 
+def line_of_a_slow_beginning(program):
+    """The same of a snapshot's first step, which syncs what wasn't yet: with `never` that may be much."""
+    with new_folder() as folder:
+        laid(folder, first_files())
+        number = syncs_at_the_start(program, folder, JOURNAL) + 1
+        inject = [f"fsync,fdatasync:delay_enter=1500000:when={number}"]
+        with Watched(program, folder, *SOON, sync="never", names=[JOURNAL], inject=inject) as broker, broker.client() as client:
+            client.ask(LARGE, "produced t:0 0 0")
+            form = r"journal\.1: a sync took [1-9]\d*(\.\d+)? s"
+            is_said = is_soon(lambda: any(re.fullmatch(form, line) for line in [*broker.lines]), PATIENCE)
+            holds(f"nothing is said of a step of 1.5 s: {broker.lines}", is_said)
+
+
 CASES = [
     ("a group that is synced before an image is written", where_it_can_be_seen(synced_before_an_image)),
     ("a group that is synced before a piece is cut", where_it_can_be_seen(synced_before_a_cut)),
@@ -240,4 +264,5 @@ CASES = [
     ("the line of a snapshot", line_of_a_snapshot),
     ("the lines of a long start", where_it_can_be_seen(progress_of_a_start)),
     ("the line of a slow sync", where_it_can_be_seen(line_of_a_slow_sync)),
+    ("the line of a slow beginning of a snapshot", where_it_can_be_seen(line_of_a_slow_beginning)),
 ]
