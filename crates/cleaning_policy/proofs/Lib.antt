@@ -1,0 +1,14 @@
+mod Sampling
+mod Options
+mod Changing
+mod Turns
+mod Remembering
+mod Bounding
+mod Waiting
+mod Learning
+mod Turning
+mod Rows
+mod Following
+mod Few
+mod CourseRows
+mod Resting
