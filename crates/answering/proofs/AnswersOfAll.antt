@@ -1,8 +1,8 @@
 -- Answers that a function gives, as a relation and by one pass.
-use Rattle.std.proofs.Common.{◌≡◌, ℕ, List, [], ◌∷◌, Option, inl, refl, sym, ap, ◌∙◌}
+use Rattle.std.proofs.Common.{◌≡◌, ℕ, List, [], ◌∷◌, Option, inl, inr, refl, sym, ap, ◌∙◌}
 use Rattle.frame_fields.specs.Types.{TopicOf}
 use Rattle.answering.specs.Lists.{map_accum}
-use Rattle.answering.specs.Work.{answer, IsAnswer, MayAnswer}
+use Rattle.answering.specs.Work.{answer, IsAnswer, IsOutOfMemory, MayAnswer}
 use Rattle.answering.specs.Plans.{over_entries, over_topics, AnswersAll, AnswersTopic, AnswersTopics, Plan, HowAnswered, reply_by, RepliesBy}
 
 -- ---- over lists
@@ -51,6 +51,9 @@ topics_weaker A B weaker = all_weaker (AnswersTopic A) (AnswersTopic B) (λ s t 
 abbrev pub in_full : HowAnswered
 in_full = λ R S w. IsAnswer w
 
+abbrev pub in_want : HowAnswered
+in_want = λ R S w. IsOutOfMemory w
+
 abbrev pub in_any_case : HowAnswered
 in_any_case = λ R S w. MayAnswer w
 
@@ -75,6 +78,15 @@ plan_weaker p out after replies = record {
   results = replies.results;
   end = replies.end;
   answers = topics_weaker (λ s name e r m. IsAnswer (p.work s name e) s r m) (λ s name e r m. MayAnswer (p.work s name e) s r m) (λ s name e r m is. inl is) p.first p.topics replies.results replies.end replies.answers;
+  sends = replies.sends;
+  leaves = replies.leaves;
+}
+
+pub plan_want_may : {E R S B : Type 0} (p : Plan E R S B) (out : Option (List ℕ)) (after : B) → RepliesBy in_want p out after → RepliesBy in_any_case p out after
+plan_want_may p out after replies = record {
+  results = replies.results;
+  end = replies.end;
+  answers = topics_weaker (λ s name e r m. IsOutOfMemory (p.work s name e) s r m) (λ s name e r m. MayAnswer (p.work s name e) s r m) (λ s name e r m is. inr is) p.first p.topics replies.results replies.end replies.answers;
   sends = replies.sends;
   leaves = replies.leaves;
 }

@@ -1,7 +1,7 @@
 -- What is told of memory beside the answer to an entry.
-use Rattle.std.proofs.Common.{◌≡◌, ◌⊎◌, inl, inr, ℕ, ℤ, List, ◌++◌, Ok, refl, sym, ap, subst, ◌∙◌}
+use Rattle.std.proofs.Common.{◌≡◌, inl, inr, ℕ, ℤ, List, ◌++◌, Option, Ok, refl, sym, ap, ◌∙◌}
 use Rattle.answering.specs.declared.memory.Memory.{Memory}
-use Rattle.answering.specs.declared.memory.Memory.TheVariants.{Sufficed, Lacked}
+use Rattle.answering.specs.declared.memory.Memory.TheVariants.{Sufficed, Lacked, LackedInPart}
 use Rattle.answering.specs.declared.memory.Refused.{Refused}
 use Rattle.answering.specs.declared.memory.Refused.TheVariants.{Check, OutOfMemory}
 use Rattle.answering.specs.Work.{Work, answer_after, IsAnswer, MayAnswer}
@@ -13,6 +13,7 @@ use Rattle.answering.specs.Doing.{RefusesWork, DoesTold}
 pub told_may : {R S : Type 0} (memory : Memory) (w : Work R S) (s : S) (r : R) (after : S) → AnswersTold memory w s r after → MayAnswer w s r after
 told_may Sufficed w s r after is = inl is
 told_may Lacked w s r after lacks = inr lacks
+told_may LackedInPart w s r after in_part = absurd in_part
 
 -- work that was done is answered so
 pub done_told : {R S T : Type 0} (w : Work R S) (result : T → R) (x : T) (s after : S) → DoesTold w result (Ok x) s after → IsAnswer w s (result x) after
@@ -31,7 +32,6 @@ told_written sent memory w s after r n z out out' same told e =
     record { result = r; answers = told; appends = e ∙ ap (λ m. out ++ sent m r) same }
 
 -- it is noted behind what was told of the entries before
-pub told_next : {R S : Type 0} (told before now : Memory) (w : Work R S) (s : S) (r : R) (after : S) → now ≡ noted before told → AnswersTold told w s r after
+pub told_next : {R S : Type 0} (told : Memory) (before now : Option Memory) (w : Work R S) (s : S) (r : R) (after : S) → now ≡ noted before told → AnswersTold told w s r after
     → TellsNext w (s, before) r (after, now)
-told_next Sufficed before now w s r after is full = inl (is, full)
-told_next Lacked before now w s r after is lacks = inr (is, lacks)
+told_next told before now w s r after is answers = record { told = told; answers = answers; notes = is }

@@ -1,19 +1,21 @@
 -- Answers, beside which it is told whether memory sufficed for them. Kafka's documentation, "Protocol Guide": a response has an
 -- error code for each partition.
-use Rattle.std.specs.Prelude.{◌≡◌, ◌⊎◌, ℕ, List, ◌∷◌, ◌++◌, Option}
+use Rattle.std.specs.Prelude.{◌≡◌, ◌⊎◌, ℕ, List, ◌∷◌, ◌++◌, Option, None}
 use Rattle.frame_fields.specs.Types.{TopicOf}
 use Rattle.answering.specs.declared.memory.Memory.{Memory}
-use Rattle.answering.specs.declared.memory.Memory.TheVariants.{Sufficed, Lacked}
+use Rattle.answering.specs.declared.memory.Memory.TheVariants.{Sufficed, Lacked, LackedInPart}
+use Rattle.answering.specs.Refusals.{noted, of_all}
 use Rattle.answering.specs.Work.{Work, IsAnswer, IsOutOfMemory}
 use Rattle.answering.specs.Plans.{AnswersTopics, Plan}
 use Rattle.answering.specs.Responding.{sent}
 
 -- ---- one entry
 
--- the answer where memory suffices, or the one where it lacks
+-- The answer where memory suffices, or the one where it lacks. One entry doesn't lack it in part.
 abbrev pub AnswersTold : {R S : Type 0} → Memory → Work R S → S → R → S → Type 0
 AnswersTold Sufficed w s r after = IsAnswer w s r after
 AnswersTold Lacked w s r after = IsOutOfMemory w s r after
+AnswersTold LackedInPart w s r after = ⊥
 
 -- the entry is answered, and the response is written behind the output
 pub record WritesTold {R S : Type 0} (response : R → List ℕ) (w : Work R S) (s : S) (out out' : List ℕ) (memory : Memory) (after : S) : Type 0 where
@@ -23,17 +25,20 @@ pub record WritesTold {R S : Type 0} (response : R → List ℕ) (w : Work R S) 
 
 -- ---- entries, one after the other
 
--- The next entry is answered in full, and what is told stays; or it lacks memory, and this is told. What was told before it
--- stands beside the state.
-abbrev pub TellsNext : {R S : Type 0} → Work R S → S × Memory → R → S × Memory → Type 0
-TellsNext w before r after =
-    ((after.1 ≡ before.1) × IsAnswer w before.0 r after.0) ⊎ ((after.1 ≡ Lacked) × IsOutOfMemory w before.0 r after.0)
+-- The next entry is answered, and what is told of it is noted behind what was told of those before, which stands beside the
+-- state.
+pub record TellsNext {R S : Type 0} (w : Work R S) (before : S × Option Memory) (r : R) (after : S × Option Memory) : Type 0 where
+  pub told : Memory
+  pub answers : AnswersTold told w before.0 r after.0
+  pub notes : after.1 ≡ noted before.1 told
 
--- what is sent, what is told and the state after; at first memory suffices
+-- what is sent, what is told and the state after
 pub record RepliesTold {E R S B : Type 0} (p : Plan E R S B) (reply : Option (List ℕ)) (memory : Memory) (after : B) : Type 0 where
   pub results : List (TopicOf R)
   pub end : S
-  pub answers : AnswersTopics (λ before name e r after. TellsNext (p.work before.0 name e) before r after) (p.first, Sufficed) p.topics results (end, memory)
+  pub told : Option Memory
+  pub answers : AnswersTopics (λ before name e r after. TellsNext (p.work before.0 name e) before r after) (p.first, None) p.topics results (end, told)
+  pub tells : memory ≡ of_all told
   pub sends : reply ≡ p.response results
   pub leaves : after ≡ p.after end
 
@@ -57,3 +62,13 @@ LacksEntry {S = S} p name e r = (s after : S) × IsOutOfMemory (p.work s name e)
 -- one of the results of a plan's entries is
 abbrev pub LacksAny : {E R S B : Type 0} → Plan E R S B → List (TopicOf R) → Type 0
 LacksAny p results = AnyPair (λ t r. AnyPair (LacksEntry p t.name) t.entries r.entries) p.topics results
+
+-- ---- replies for which it lacked in part
+
+-- this is the result of an entry of a topic where memory suffices for its work, in some state
+abbrev pub SufficesEntry : {E R S B : Type 0} → Plan E R S B → (name : List ℕ) → E → R → Type 0
+SufficesEntry {S = S} p name e r = (s after : S) × IsAnswer (p.work s name e) s r after
+
+-- one of the results of a plan's entries is
+abbrev pub SufficesAny : {E R S B : Type 0} → Plan E R S B → List (TopicOf R) → Type 0
+SufficesAny p results = AnyPair (λ t r. AnyPair (SufficesEntry p t.name) t.entries r.entries) p.topics results

@@ -23,7 +23,7 @@ pub trait Answers<E, S>: Sized {
 
     /// How an entry of a topic of this name may be answered, from the state and what was told of memory
     /// before it to those after it.
-    ghost answers: { Self → S × Memory → List ℕ → E → Answered → S × Memory → Type 0 };
+    ghost answers: { Self → S × Option Memory → List ℕ → E → Answered → S × Option Memory → Type 0 };
 
     /// How many bytes each answer has, where all have as many; then the room for a response can be
     /// taken before any work is done.
@@ -40,7 +40,7 @@ pub trait Answers<E, S>: Sized {
     fn put<A: Allocator + Copy>(
         &self,
         state: &mut S,
-        memory: &mut Memory,
+        memory: &mut Option<Memory>,
         topic: &[u8],
         entry: E,
         out: &mut Vec<u8, A>,

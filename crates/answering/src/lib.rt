@@ -14,21 +14,22 @@
 //! - **It only reads.** `Answers` is implemented by a struct that borrows the broker, for the state `S`
 //!   that entries share, or `()`; `size` is `None`, since answers need not be of one size. Where memory
 //!   runs out, `respond` cuts the output back, and nothing else has changed. Nothing is told of memory:
-//!   `respond` gets one that is thrown away.
+//!   what `respond` notes is thrown away.
 //! - **It changes something.** `S` is what the broker holds, and `size` is `Some` of the bytes of an
 //!   answer. The room is taken before any work is done, so that want of memory can't come between. An
-//!   entry's work tells whether it lacked memory, and `put` notes it:
+//!   entry's work tells whether it lacked memory, and `put` notes it. So it is told of the request whether
+//!   memory sufficed for each entry, lacked for each, or lacked for some of them:
 //!
 //! ```
 //! let Some(room) = response_room(ANSWER_BYTES, AROUND_BYTES, &request.topics) else {
 //!     return Err(AllocError);
 //! };
 //! out.reserve(room)?;
-//! let mut memory = Memory::Sufficed;
+//! let mut noted = None;
 //! let Ok(()) = respond(
 //!     &asked,
 //!     state,
-//!     &mut memory,
+//!     &mut noted,
 //!     correlation,
 //!     &[],
 //!     &request.topics,
@@ -37,7 +38,7 @@
 //! ) else {
 //!     unreachable!()
 //! };
-//! Ok(memory)
+//! Ok(Memory::of_all(noted))
 //! ```
 //!
 //! Its proof is three facts: the way in which `put` answers is one that the entry's work allows

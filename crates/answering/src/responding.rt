@@ -21,7 +21,7 @@ use std::alloc::{AllocError, Allocator};
 fn put_topic<'a, E: Element<'a> + Drop, S, Q: Answers<E, S>, A: Allocator + Copy>(
     asked: &Q,
     state: &mut S,
-    memory: &mut Memory,
+    memory: &mut Option<Memory>,
     topic: Topic<'a, E>,
     out: &mut Vec<u8, A>,
 ) -> Result<(), AllocError>
@@ -47,7 +47,7 @@ fn put_topic<'a, E: Element<'a> + Drop, S, Q: Answers<E, S>, A: Allocator + Copy
 fn put_topics<'a, E: Element<'a> + Drop, S, Q: Answers<E, S>, A: Allocator + Copy>(
     asked: &Q,
     state: &mut S,
-    memory: &mut Memory,
+    memory: &mut Option<Memory>,
     topics: Topics<'a, E>,
     out: &mut Vec<u8, A>,
 ) -> Result<(), AllocError>
@@ -93,7 +93,7 @@ fn put_head<A: Allocator + Copy>(
 fn put_response<'a, E: Element<'a> + Drop, S, Q: Answers<E, S>, A: Allocator + Copy>(
     asked: &Q,
     state: &mut S,
-    memory: &mut Memory,
+    memory: &mut Option<Memory>,
     correlation: i32,
     before: &[u8],
     topics: Topics<'a, E>,
@@ -126,7 +126,7 @@ fn put_response<'a, E: Element<'a> + Drop, S, Q: Answers<E, S>, A: Allocator + C
 pub fn respond<'a, E: Element<'a> + Drop, S, Q: Answers<E, S>, A: Allocator + Copy>(
     asked: &Q,
     state: &mut S,
-    memory: &mut Memory,
+    memory: &mut Option<Memory>,
     correlation: i32,
     before: &[u8],
     topics: &Array<'a, Topic<'a, E>>,

@@ -1,14 +1,15 @@
 -- What each effect on one partition says: what cleans makes a cleaning, what trims a cut, and what takes from another copy
 -- does nothing at a leader whose log has begun. A request of the effect is of a kind that has it, and that kind's work, where
 -- it is done, is by its definition what is said.
-use Rattle.std.proofs.Common.{◌≡◌, ◌⊎◌, inl, inr, ℕ, ℤ, Bool, true, List, ◌++◌, Option, Some, None, refl, sym, ap, subst, ◌∙◌, true≢false, arith}
+use Rattle.std.proofs.Common.{◌≡◌, inl, inr, ℕ, ℤ, Bool, true, List, ◌++◌, Option, Some, None, refl, sym, ap, subst, ◌∙◌, true≢false, arith}
 use Rattle.content.specs.Content.{Content}
-use Rattle.request_frames.specs.Requests.BodyValue.{deliver, import, import_delta, clean, trim}
+use Rattle.request_frames.specs.Requests.BodyValue.{deliver, import, import_delta, clean, clean_part, trim}
 use Rattle.request_frames.specs.Requests.{BodyValue, RequestValue}
 use Rattle.request_frames.specs.Deliver.{DeliverValue}
 use Rattle.request_frames.specs.Import.{ImportValue}
 use Rattle.request_frames.specs.ImportDelta.{ImportDeltaValue}
 use Rattle.request_frames.specs.Clean.{CleanValue}
+use Rattle.request_frames.specs.CleanPart.{CleanPartValue}
 use Rattle.request_frames.specs.Trim.{TrimValue}
 use Rattle.answering.specs.declared.codes.ErrorCode.TheVariants.{InvalidRequest}
 use Rattle.answering.specs.Lists.{first_some}
@@ -17,6 +18,8 @@ use Rattle.broker_state.specs.declared.config.Role.TheVariants.{Leader, Follower
 use Rattle.broker_state.specs.Checks.{follower_code, not_follower, unknown}
 use Rattle.broker_state.specs.State.{State, content_at}
 use Rattle.broker_state.proofs.Passed.{none_first, none_both, no_fault}
+use Rattle.copy_requests.specs.declared.clean.Cleaning.TheVariants.{Whole, Part}
+use Rattle.copy_requests.specs.Clean.{asked_part as part_of}
 use Rattle.copy_requests.specs.Deliver.{deliver_work}
 use Rattle.copy_requests.specs.Import.{has_begun, import_role_fault, import_work}
 use Rattle.copy_requests.specs.ImportDelta.{import_delta_work}
@@ -26,6 +29,7 @@ use Rattle.broker_node.specs.Effects.{Effect, TopicPartition, effect}
 use Rattle.broker_node.specs.Replies.{MayReply}
 use Rattle.broker_node.proofs.KeptStates.{Keeps, way_keeps}
 use Rattle.broker_laws.specs.OneChange.{CleansAt, TrimsAt}
+use Rattle.broker_laws.proofs.AskedCleans.{asked_clean, asked_part, of_clean}
 
 -- ---- requests of one kind
 
@@ -36,15 +40,8 @@ place_of other (cleans p) = p
 place_of other (trims p) = p
 place_of other _ = other
 
-abbrev asked_clean : BodyValue → Option CleanValue
-asked_clean (clean q) = Some q
-asked_clean _ = None
-
-asks_clean : (body : BodyValue) (q : CleanValue) → asked_clean body ≡ Some q → body ≡ clean q
-asks_clean body q one = grind (arith, one)
-
-cleans_some : (body : BodyValue) (p : TopicPartition) → effect body ≡ cleans p → asked_clean body ≡ None → ⊥
-cleans_some body p is none = absurd (grind (arith, is, none))
+cleans_some : (body : BodyValue) (p : TopicPartition) → effect body ≡ cleans p → asked_clean body ≡ None → asked_part body ≡ None → ⊥
+cleans_some body p is none no_part = absurd (grind (arith, is, none, no_part))
 
 abbrev asked_trim : BodyValue → Option TrimValue
 asked_trim (trim q) = Some q
@@ -58,20 +55,23 @@ trims_some body p is none = absurd (grind (arith, is, none))
 
 -- ---- a cleaning, and a cut
 
-cleaned : (s : State) (n : ℤ) (q : CleanValue) → Keeps (CleansAt (record { topic = q.topic; partition = q.partition }) s) ((kind (clean q)).way s n)
-cleaned s n q = (inl refl, λ none. inr ((q.upto, q.tomb_before, refl)))
+cleaned_there : (s : State) (n : ℤ) (q : CleanValue) → Keeps (CleansAt (record { topic = q.topic; partition = q.partition }) s) ((kind (clean q)).way s n)
+cleaned_there s n q = (inl refl, λ none. inr ((Whole q.upto q.tomb_before, refl)))
+
+part_there : (s : State) (n : ℤ) (q : CleanPartValue) → Keeps (CleansAt (record { topic = q.topic; partition = q.partition }) s) ((kind (clean_part q)).way s n)
+part_there s n q = (inl refl, λ none. inr ((Part (part_of q), refl)))
+
+-- where the effect of a request is a cleaning
+abbrev CleansAsked : State → (n : ℤ) → TopicPartition → BodyValue → Type 0
+CleansAsked s n p body = effect body ≡ cleans p → Keeps (CleansAt p s) ((kind body).way s n)
 
 pub cleans_there : (s after : State) (q : RequestValue) (out : Option (List ℕ)) (p : TopicPartition) → effect q.body ≡ cleans p → MayReply s q out after → CleansAt p s after
-cleans_there s after q out p is = by (asked_clean q.body) refl
-  where
-    by : (o : Option CleanValue) → asked_clean q.body ≡ o → MayReply s q out after → CleansAt p s after
-    by None e = absurd (cleans_some q.body p is e)
-    by (Some asked) e =
-        let body = asks_clean q.body asked e in
-        let here : record { topic = asked.topic; partition = asked.partition } ≡ p = ap (place_of p) (subst (λ (b : BodyValue). effect b ≡ cleans p) body is) in
-        way_keeps (CleansAt p s) ((kind q.body).way s q.correlation) out after
-        (subst (λ (b : BodyValue). Keeps (CleansAt p s) ((kind b).way s q.correlation)) (sym body)
-        (subst (λ (x : TopicPartition). Keeps (CleansAt x s) ((kind (clean asked)).way s q.correlation)) here (cleaned s q.correlation asked)))
+cleans_there s after q out p is =
+    way_keeps (CleansAt p s) ((kind q.body).way s q.correlation) out after
+    (of_clean (CleansAsked s q.correlation p)
+    (λ asked here. subst (λ (x : TopicPartition). Keeps (CleansAt x s) ((kind (clean asked)).way s q.correlation)) (ap (place_of p) here) (cleaned_there s q.correlation asked))
+    (λ asked here. subst (λ (x : TopicPartition). Keeps (CleansAt x s) ((kind (clean_part asked)).way s q.correlation)) (ap (place_of p) here) (part_there s q.correlation asked))
+    q.body (cleans_some q.body p is) is)
 
 cut_there : (s : State) (n : ℤ) (q : TrimValue) → Keeps (TrimsAt (record { topic = q.topic; partition = q.partition }) s) ((kind (trim q)).way s n)
 cut_there s n q = (inl refl, λ none. inr ((q.start, refl)))

@@ -1,6 +1,7 @@
 pub mod AnsweredFrames
 pub mod ChangedPlaces
 pub mod FollowersStay
+pub mod AskedCleans
 mod EffectsApart
 mod Followed
 mod Said
@@ -20,7 +21,7 @@ mod FindCoordinatorFits
 mod ApiVersionsFits
 mod InitProducerIdFits
 mod DeliverFits
-mod CleanFits
+pub mod CleanFits
 mod ExportFits
 mod ExportDeltaFits
 mod ImportFits

@@ -13,7 +13,7 @@ use Rattle.frame_fields.specs.Fields.{size32, Value, encoded, Encodes}
 use Rattle.frame_fields.specs.Frames.{IsBytes, IsWithinLimit}
 use Rattle.frame_fields.proofs.Numbers.{IsBytes-drop, number_fits}
 use Rattle.request_frames.specs.declared.api.Api.{Api}
-use Rattle.request_frames.specs.declared.api.Api.TheVariants.{Produce, Fetch, ListOffsets, Metadata, OffsetCommit, OffsetFetch, FindCoordinator, ApiVersions, InitProducerId, Deliver, Clean, Export, ExportDelta, Import, ImportDelta, Get, Cover, ForgetGroup, Trim}
+use Rattle.request_frames.specs.declared.api.Api.TheVariants.{Produce, Fetch, ListOffsets, Metadata, OffsetCommit, OffsetFetch, FindCoordinator, ApiVersions, InitProducerId, Deliver, Clean, CleanPart, Export, ExportDelta, Import, ImportDelta, Get, Cover, ForgetGroup, Trim}
 use Rattle.request_frames.specs.Requests.{fields_of, body_value, RequestValue, body_fields, body_of, version_of, correlation_of, IsRequest}
 use Rattle.answering.specs.Work.{MayAnswer}
 use Rattle.broker_state.specs.State.{State}
@@ -32,7 +32,7 @@ use Rattle.broker_laws.proofs.FindCoordinatorFits.{find_coordinator_fits}
 use Rattle.broker_laws.proofs.ApiVersionsFits.{versions_fit, api_versions_fits}
 use Rattle.broker_laws.proofs.InitProducerIdFits.{init_producer_id_fits}
 use Rattle.broker_laws.proofs.DeliverFits.{deliver_fits}
-use Rattle.broker_laws.proofs.CleanFits.{clean_fits}
+use Rattle.broker_laws.proofs.CleanFits.{clean_fits, clean_part_fits}
 use Rattle.broker_laws.proofs.ExportFits.{export_fits}
 use Rattle.broker_laws.proofs.ExportDeltaFits.{export_delta_fits}
 use Rattle.broker_laws.proofs.ImportFits.{import_fits}
@@ -66,6 +66,7 @@ body_fits ApiVersions = api_versions_fits
 body_fits InitProducerId = init_producer_id_fits
 body_fits Deliver = deliver_fits
 body_fits Clean = clean_fits
+body_fits CleanPart = clean_part_fits
 body_fits Export = export_fits
 body_fits ExportDelta = export_delta_fits
 body_fits Import = import_fits

@@ -111,8 +111,8 @@ pub fn a_request_changes_only_its_places()
 {}
 
 /// What a request makes of the one partition that it changes, by its effect: what cleans makes a cleaning of what is there,
-/// what trims cuts it at a start, and what takes what another copy has does nothing at a leader whose log has begun; or
-/// nothing changes. With what [`a_request_changes_only_its_places`] says of those that read, give an id and append, a request
+/// whole or of a part, what trims cuts it at a start, and what takes what another copy has does nothing at a leader whose log
+/// has begun; or nothing changes. With what [`a_request_changes_only_its_places`] says of those that read, give an id and append, a request
 /// that can change something has no other effect than its own. Of one that only reads this isn't said: it may have any.
 pub fn effects_are_told_apart()
     ensures one_cleaning { (s after : State) (q : RequestValue) (out : Option (List ℕ)) (p : TopicPartition)

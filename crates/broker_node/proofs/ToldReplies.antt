@@ -6,13 +6,13 @@ use Rattle.request_frames.specs.declared.parsing.RequestBody.{RequestBody}
 use Rattle.request_frames.specs.Requests.{RequestValue}
 use Rattle.request_frames.specs.Views.{request_body, request_value}
 use Rattle.answering.specs.declared.memory.Memory.{Memory}
-use Rattle.answering.specs.declared.memory.Memory.TheVariants.{Sufficed, Lacked}
+use Rattle.answering.specs.declared.memory.Memory.TheVariants.{Sufficed, Lacked, LackedInPart}
 use Rattle.answering.specs.Work.{Work}
 use Rattle.answering.specs.Plans.{Plan}
 use Rattle.answering.specs.Responding.{sent}
 use Rattle.answering.specs.Telling.{WritesTold, RepliesTold, RespondsTold}
-use Rattle.answering.proofs.AnswersOfAll.{in_full, in_any_case}
-use Rattle.answering.proofs.ToldPlans.{told_in_full, told_lacks}
+use Rattle.answering.proofs.AnswersOfAll.{in_full, in_any_case, plan_want_may}
+use Rattle.answering.proofs.ToldPlans.{told_in_full, told_lacks, told_lacks_in_part, want_changes_nothing}
 use Rattle.broker_state.specs.State.{State}
 use Rattle.broker_node.specs.declared.handling.Answer.{Answer}
 use Rattle.broker_node.specs.Ways.Way.{planned, once, fixed}
@@ -21,34 +21,44 @@ use Rattle.broker_node.specs.Kinds.{kind}
 use Rattle.broker_node.specs.Effects.{may_change}
 use Rattle.broker_node.specs.Answers.{RespondsTo, answer_to}
 use Rattle.broker_node.specs.Handling.{Handles}
-use Rattle.broker_node.specs.Exactly.{LacksByWay, HandlesExactly, told_sufficed}
+use Rattle.broker_node.specs.Exactly.{LacksByWay, LacksInPartByWay, HandlesExactly, told_sufficed}
 use Rattle.broker_node.proofs.PlannedReplies.{way_weaker}
 use Rattle.broker_node.proofs.HandledReplies.{handled}
 
 -- ---- by the way
 
-abbrev pub ToldByWay : {B : Type 0} → Memory → Way B → Option (List ℕ) → B → Type 0
-ToldByWay Sufficed w out after = RepliesByWay in_full w out after
-ToldByWay Lacked w out after = LacksByWay w out after
+-- in the state in which the request is answered
+abbrev pub ToldByWay : {B : Type 0} → Memory → Way B → B → Option (List ℕ) → B → Type 0
+ToldByWay Sufficed w s out after = RepliesByWay in_full w out after
+ToldByWay Lacked w s out after = LacksByWay w out after × (after ≡ s)
+ToldByWay LackedInPart w s out after = LacksInPartByWay w out after
 
 lacks_may : {B : Type 0} (w : Way B) (out : Option (List ℕ)) (after : B) → LacksByWay w out after → RepliesByWay in_any_case w out after
-lacks_may (planned p) out after lacks = lacks.0
+lacks_may (planned p) out after lacks = plan_want_may p out after lacks.0
 lacks_may (once response w s) out after lacks = record { result = lacks.result; answers = inr lacks.answers; sends = lacks.sends }
 lacks_may (fixed response s) out after lacks = absurd lacks
 
-planned_told : {E R S B : Type 0} (p : Plan E R S B) (memory : Memory) (out : Option (List ℕ)) (after : B) → RepliesTold p out memory after → ToldByWay memory (planned p) out after
-planned_told p Sufficed out after told = told_in_full p out after told
-planned_told p Lacked out after told = told_lacks p out after told
+lacks_in_part_may : {B : Type 0} (w : Way B) (out : Option (List ℕ)) (after : B) → LacksInPartByWay w out after → RepliesByWay in_any_case w out after
+lacks_in_part_may (planned p) out after lacks = lacks.0
+lacks_in_part_may (once response w s) out after lacks = absurd lacks
+lacks_in_part_may (fixed response s) out after lacks = absurd lacks
+
+planned_told : {E R S B : Type 0} (p : Plan E R S B) (s : B) → p.after p.first ≡ s → (memory : Memory) (out : Option (List ℕ)) (after : B) → RepliesTold p out memory after → ToldByWay memory (planned p) s out after
+planned_told p s starts Sufficed out after told = told_in_full p out after told
+planned_told p s starts Lacked out after told =
+    let lacks = told_lacks p out after told in (lacks, want_changes_nothing p out after lacks.0 ∙ starts)
+planned_told p s starts LackedInPart out after told = told_lacks_in_part p out after told
 
 once_told : {R B : Type 0} (response : R → List ℕ) (w : Work R B) (s : B) (memory : Memory) (held held' : List ℕ) (after : B) → (written : WritesTold response w s held held' memory after)
-    → ToldByWay memory (once response w s) (Some (response written.result)) after
+    → ToldByWay memory (once response w s) s (Some (response written.result)) after
 once_told response w s Sufficed held held' after written = record { result = written.result; answers = written.answers; sends = refl }
-once_told response w s Lacked held held' after written = record { result = written.result; answers = written.answers; sends = refl }
+once_told response w s Lacked held held' after written = (record { result = written.result; answers = written.answers; sends = refl }, written.answers.unchanged)
+once_told response w s LackedInPart held held' after written = absurd written.answers
 
 -- ---- of a request that may change something
 
 exactly : (s after : State) (q : RequestValue) (held held' : List ℕ) (memory : Memory) (response : Option (List ℕ)) → may_change q.body ≡ true
-    → ToldByWay memory ((kind q.body).way s q.correlation) response after → held' ≡ held ++ sent response → HandlesExactly s q held held' memory after
+    → ToldByWay memory ((kind q.body).way s q.correlation) s response after → held' ≡ held ++ sent response → HandlesExactly s q held held' memory after
 exactly s after q held held' Sufficed response changes told appends = record {
   response = response;
   replies = way_weaker ((kind q.body).way s q.correlation) response after told;
@@ -58,7 +68,14 @@ exactly s after q held held' Sufficed response changes told appends = record {
 }
 exactly s after q held held' Lacked response changes told appends = record {
   response = response;
-  replies = lacks_may ((kind q.body).way s q.correlation) response after told;
+  replies = lacks_may ((kind q.body).way s q.correlation) response after told.0;
+  appends = appends;
+  tells = told;
+  reads_only = λ none. absurd (true≢false (sym changes ∙ none));
+}
+exactly s after q held held' LackedInPart response changes told appends = record {
+  response = response;
+  replies = lacks_in_part_may ((kind q.body).way s q.correlation) response after told;
   appends = appends;
   tells = told;
   reads_only = λ none. absurd (true≢false (sym changes ∙ none));
@@ -66,23 +83,23 @@ exactly s after q held held' Lacked response changes told appends = record {
 
 -- of the request with this body
 of_body : (s after : State) (request : Request) (body : RequestBody) (held held' : List ℕ) (memory : Memory) (response : Option (List ℕ)) → request.body ≡ body → may_change (request_body body) ≡ true
-    → ToldByWay memory ((kind (request_body body)).way s request.correlation) response after → held' ≡ held ++ sent response → HandlesExactly s (request_value request) held held' memory after
+    → ToldByWay memory ((kind (request_body body)).way s request.correlation) s response after → held' ≡ held ++ sent response → HandlesExactly s (request_value request) held held' memory after
 of_body s after request body held held' memory response is changes told appends =
     exactly s after (request_value request) held held' memory response (ap (λ b. may_change (request_body b)) is ∙ changes)
-    (subst (λ b. ToldByWay memory ((kind (request_body b)).way s request.correlation) response after) (sym is) told) appends
+    (subst (λ b. ToldByWay memory ((kind (request_body b)).way s request.correlation) s response after) (sym is) told) appends
 
 -- of entries, whose plan this is
-pub planned_exactly : {E R S X : Type 0} (p : Plan E R S State) (r : Result Memory X) (s after : State) (request : Request) (body : RequestBody) (held held' : List ℕ) → request.body ≡ body → may_change (request_body body) ≡ true
-    → ((memory : Memory) (response : Option (List ℕ)) → ToldByWay memory (planned p) response after → ToldByWay memory ((kind (request_body body)).way s request.correlation) response after)
+pub planned_exactly : {E R S X : Type 0} (p : Plan E R S State) (r : Result Memory X) (s after : State) (request : Request) (body : RequestBody) (held held' : List ℕ) → request.body ≡ body → may_change (request_body body) ≡ true → p.after p.first ≡ s
+    → ((memory : Memory) (response : Option (List ℕ)) → ToldByWay memory (planned p) s response after → ToldByWay memory ((kind (request_body body)).way s request.correlation) s response after)
     → IfOk r (λ memory. RespondsTold p held held' memory after) → IfOk r (λ memory. HandlesExactly s (request_value request) held held' memory after)
-planned_exactly p (Err e) s after request body held held' is changes arm responds = tt
-planned_exactly p (Ok memory) s after request body held held' is changes arm responds =
+planned_exactly p (Err e) s after request body held held' is changes starts arm responds = tt
+planned_exactly p (Ok memory) s after request body held held' is changes starts arm responds =
     of_body s after request body held held' memory responds.response is changes
-    (arm memory responds.response (planned_told p memory responds.response after responds.replies)) responds.appends
+    (arm memory responds.response (planned_told p s starts memory responds.response after responds.replies)) responds.appends
 
 -- of one entry
 pub once_exactly : {R X : Type 0} (sent : ℤ → R → List ℕ) (w : Work R State) (r : Result Memory X) (s after : State) (request : Request) (body : RequestBody) (n : ℤ) (held held' : List ℕ) → n ≡ request.correlation → request.body ≡ body → may_change (request_body body) ≡ true
-    → ((memory : Memory) (response : Option (List ℕ)) → ToldByWay memory (once (sent request.correlation) w s) response after → ToldByWay memory ((kind (request_body body)).way s request.correlation) response after)
+    → ((memory : Memory) (response : Option (List ℕ)) → ToldByWay memory (once (sent request.correlation) w s) s response after → ToldByWay memory ((kind (request_body body)).way s request.correlation) s response after)
     → IfOk r (λ memory. WritesTold (sent n) w s held held' memory after) → IfOk r (λ memory. HandlesExactly s (request_value request) held held' memory after)
 once_exactly sent w (Err e) s after request body n held held' same is changes arm writes = tt
 once_exactly sent w (Ok memory) s after request body n held held' same is changes arm writes =

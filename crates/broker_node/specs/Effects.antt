@@ -4,7 +4,7 @@ use Rattle.std.specs.Prelude.{ℕ, ℤ, pos, Bool, true, false, ◌&&◌, List, 
 use Rattle.std.specs.List.{flat_map, list_any}
 use Rattle.std.specs.Ordering.{int_eq}
 use Rattle.frame_fields.specs.Types.{TopicOf}
-use Rattle.request_frames.specs.Requests.BodyValue.{produce, list_offsets, offset_commit, offset_fetch, init_producer_id, deliver, clean, export, export_delta, import, import_delta, get, forget_group, trim}
+use Rattle.request_frames.specs.Requests.BodyValue.{produce, list_offsets, offset_commit, offset_fetch, init_producer_id, deliver, clean, clean_part, export, export_delta, import, import_delta, get, forget_group, trim}
 use Rattle.request_frames.specs.Requests.{BodyValue}
 use Rattle.request_frames.specs.Produce.{ProducePartitionValue}
 use Rattle.broker_state.specs.State.{group_topic}
@@ -14,7 +14,7 @@ pub record TopicPartition : Type 0 where
   pub partition : ℤ
 
 -- A request only reads, gives out the next producer id, appends to partitions, takes into one what another copy has of it,
--- cleans one, or moves the start of one.
+-- cleans one or a part of it, or moves the start of one.
 pub data Effect : Type 0 where
   reads : Effect
   gives_id : Effect
@@ -41,6 +41,7 @@ effect (deliver q) = takes (record { topic = q.topic; partition = q.partition })
 effect (import q) = takes (record { topic = q.topic; partition = q.partition })
 effect (import_delta q) = takes (record { topic = q.topic; partition = q.partition })
 effect (clean q) = cleans (record { topic = q.topic; partition = q.partition })
+effect (clean_part q) = cleans (record { topic = q.topic; partition = q.partition })
 effect (trim q) = trims (record { topic = q.topic; partition = q.partition })
 effect _ = reads
 
@@ -68,6 +69,14 @@ places (trims p) = p ∷ []
 abbrev pub is_among : List TopicPartition → (topic : List ℕ) → (partition : ℤ) → Bool
 is_among ps topic partition = list_any (λ p. bytes_eq p.topic topic && int_eq p.partition partition) ps
 
+-- ---- requests that leave Fetches asleep
+
+-- It only appends to partitions, or cleans one: a Fetch that waits is due by what is appended alone.
+abbrev pub only_grows : Effect → Bool
+only_grows (appends ps) = true
+only_grows (cleans p) = true
+only_grows _ = false
+
 -- ---- requests that take long
 
 -- Where a partition has much, these may take long: they look through its log, make an image of it, or take one in.
@@ -75,6 +84,7 @@ abbrev pub is_dear : BodyValue → Bool
 is_dear (list_offsets topics) = true
 is_dear (offset_fetch q) = true
 is_dear (clean q) = true
+is_dear (clean_part q) = true
 is_dear (export q) = true
 is_dear (export_delta q) = true
 is_dear (import q) = true

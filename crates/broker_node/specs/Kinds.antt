@@ -2,7 +2,7 @@
 -- "Protocol Guide", section "The Messages".
 use Rattle.std.specs.Prelude.{ℤ}
 use Rattle.frame_fields.specs.Fields.{Fields}
-use Rattle.request_frames.specs.Requests.BodyValue.{produce, fetch, list_offsets, metadata, offset_commit, offset_fetch, find_coordinator, api_versions, init_producer_id, deliver, clean, export, export_delta, import, import_delta, get, cover, forget_group, trim}
+use Rattle.request_frames.specs.Requests.BodyValue.{produce, fetch, list_offsets, metadata, offset_commit, offset_fetch, find_coordinator, api_versions, init_producer_id, deliver, clean, clean_part, export, export_delta, import, import_delta, get, cover, forget_group, trim}
 use Rattle.request_frames.specs.Requests.{BodyValue}
 use Rattle.responses.specs.Produce.{produce_response}
 use Rattle.responses.specs.Fetch.{fetch_response}
@@ -33,7 +33,7 @@ use Rattle.setup_requests.specs.FindCoordinator.{find_coordinator_work, find_coo
 use Rattle.setup_requests.specs.ApiVersions.{api_versions_reply}
 use Rattle.setup_requests.specs.InitProducerId.{init_producer_id_work, init_producer_id_sent}
 use Rattle.copy_requests.specs.Deliver.{deliver_work, deliver_sent}
-use Rattle.copy_requests.specs.Clean.{clean_work, clean_sent}
+use Rattle.copy_requests.specs.Clean.{clean_work, clean_part_work, clean_sent}
 use Rattle.copy_requests.specs.Export.{export_work, export_sent}
 use Rattle.copy_requests.specs.ExportDelta.{export_delta_work}
 use Rattle.copy_requests.specs.Import.{import_work, import_sent}
@@ -63,6 +63,7 @@ kind (init_producer_id id) =
     record { fields = init_producer_id_response; way = λ s n. once (init_producer_id_sent n) (init_producer_id_work s id) s }
 kind (deliver q) = record { fields = deliver_response; way = λ s n. once (deliver_sent n) (deliver_work s q) s }
 kind (clean q) = record { fields = clean_response; way = λ s n. once (clean_sent n) (clean_work s q) s }
+kind (clean_part q) = record { fields = clean_response; way = λ s n. once (clean_sent n) (clean_part_work s q) s }
 kind (export q) = record { fields = export_response; way = λ s n. once (export_sent n) (export_work s q) s }
 kind (export_delta q) = record { fields = export_response; way = λ s n. once (export_sent n) (export_delta_work s q) s }
 kind (import q) = record { fields = import_response; way = λ s n. once (import_sent n) (import_work s q) s }

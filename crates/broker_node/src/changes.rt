@@ -2,7 +2,7 @@
 
 ghost use Rattle.std.specs.Prelude.{◌≡◌, is_some};
 ghost use Rattle.request_frames.specs.Views.{request_body};
-ghost use Rattle.broker_node.specs.Effects.{effect, is_change, is_dear, may_change, places};
+ghost use Rattle.broker_node.specs.Effects.{effect, is_change, is_dear, may_change, only_grows, places};
 ghost use Rattle.broker_node.specs.Changes.{change_said, places_said};
 
 use broker_state::GROUP_TOPIC;
@@ -35,6 +35,7 @@ pub fn what_may_change<'a, 'r>(body: &'a RequestBody<'r>) -> MayChange<'a, 'r>
         RequestBody::InitProducerId(_) => MayChange::NextId,
         RequestBody::Deliver(asked) => MayChange::One(asked.topic, asked.partition),
         RequestBody::Clean(asked) => MayChange::One(asked.topic, asked.partition),
+        RequestBody::CleanPart(asked) => MayChange::One(asked.topic, asked.partition),
         RequestBody::Import(asked) => MayChange::One(asked.topic, asked.partition),
         RequestBody::ImportDelta(asked) => MayChange::One(asked.topic, asked.partition),
         RequestBody::Trim(asked) => MayChange::One(asked.topic, asked.partition),
@@ -49,6 +50,20 @@ pub fn may_change(body: &RequestBody<'_>) -> bool
     !matches!(what_may_change(body), MayChange::Nothing)
 }
 
+/// Whether a request only appends to partitions, or cleans one. A Fetch that waits is due by what is appended
+/// alone.
+pub fn only_grows(body: &RequestBody<'_>) -> bool
+    ensures { result ≡ only_grows (effect (request_body body.now)) }
+{
+    match body {
+        RequestBody::Produce(_) | RequestBody::OffsetCommit(_) | RequestBody::ForgetGroup(_) =>
+            true,
+        RequestBody::Clean(_) => true,
+        RequestBody::CleanPart(_) => true,
+        _ => false,
+    }
+}
+
 /// Whether a request may take long where a partition has much: it looks through the log, makes an image of
 /// it, or takes one in.
 pub fn is_dear(body: &RequestBody<'_>) -> bool
@@ -59,6 +74,7 @@ pub fn is_dear(body: &RequestBody<'_>) -> bool
         RequestBody::ListOffsets(_)
             | RequestBody::OffsetFetch(_)
             | RequestBody::Clean(_)
+            | RequestBody::CleanPart(_)
             | RequestBody::Export(_)
             | RequestBody::ExportDelta(_)
             | RequestBody::Import(_)

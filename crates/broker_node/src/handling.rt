@@ -11,8 +11,9 @@ use crate::node::Node;
 use answering::Memory;
 use broker_state::BrokerState;
 use copy_requests::{
-    index_asked_key, reply_to_clean, reply_to_cover, reply_to_deliver, reply_to_export,
-    reply_to_export_delta, reply_to_get, reply_to_import, reply_to_import_delta, reply_to_trim,
+    index_asked_key, reply_to_clean, reply_to_clean_part, reply_to_cover, reply_to_deliver,
+    reply_to_export, reply_to_export_delta, reply_to_get, reply_to_import, reply_to_import_delta,
+    reply_to_trim,
 };
 use group_requests::{
     index_asked_commits, reply_to_forget_group, reply_to_offset_commit, reply_to_offset_fetch,
@@ -113,6 +114,7 @@ fn reply_to<S: BatchStore, A: Allocator + Copy>(
         }
         RequestBody::Deliver(asked) => reply_to_deliver(state, correlation, asked, out),
         RequestBody::Clean(asked) => reply_to_clean(state, correlation, asked, out),
+        RequestBody::CleanPart(asked) => reply_to_clean_part(state, correlation, asked, out),
         RequestBody::Export(asked) => only_reads(reply_to_export(state, correlation, asked, out)),
         RequestBody::ExportDelta(asked) => only_reads(reply_to_export_delta(
             state,
@@ -158,8 +160,9 @@ impl<S: BatchStore> Node<S> {
     }
 
     /// Handles a request as `handle` does, and tells whether memory sufficed for it, where it may change
-    /// something: then the reply and the state after are those that the state and the request make. Of a
-    /// request that only reads it is always told that memory sufficed.
+    /// something: then the reply and the state after are those that the state and the request make. Where it
+    /// lacked for each entry, the broker is as it was; where it lacked in part, the request has several, and
+    /// some of it may have been done. Of a request that only reads it is always told that memory sufficed.
     ///
     /// Of a Produce request with acks 0 it is told too, though no client sees it.
     ///

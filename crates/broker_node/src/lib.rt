@@ -19,7 +19,7 @@ pub use answering::{ErrorCode, Memory};
 pub use broker_state::{
     Config, ConfigError, GROUP_TOPIC, MAX_HOST_BYTES, MAX_PARTITIONS, MAX_TOPICS, Role, TopicConfig,
 };
-pub use changes::{MayChange, is_dear, may_change, what_may_change};
+pub use changes::{MayChange, is_dear, may_change, only_grows, what_may_change};
 pub use copy_requests::{MAX_COVER_RUNS, MAX_EXPORT_BYTES};
 pub use group_requests::{MAX_FETCHED_OFFSETS, MAX_METADATA_BYTES};
 pub use handling::Answer;

@@ -1,18 +1,17 @@
 -- Two lists of requests that are the same once their Cleans are left out are answered alike.
-use Rattle.std.proofs.Common.{◌≡◌, ℕ, ℤ, Bool, true, false, not, cond, List, [], ◌∷◌, Option, Some, None, refl, sym, ap, subst, ◌∙◌, arith}
+use Rattle.std.proofs.Common.{◌≡◌, ℕ, ℤ, Bool, true, false, not, cond, List, [], ◌∷◌, None, refl, ap, subst, ◌∙◌, arith}
 use Rattle.std.specs.List.{filter, AllByRecursion}
-use Rattle.request_frames.specs.Requests.BodyValue.{clean}
 use Rattle.request_frames.specs.Requests.{BodyValue, RequestValue}
-use Rattle.request_frames.specs.Clean.{CleanValue}
 use Rattle.content.specs.Logs.{IsPlainLog}
 use Rattle.broker_state.specs.declared.config.Role.TheVariants.{Follower}
 use Rattle.broker_state.specs.State.{ConfigValue, State, new_state}
 use Rattle.broker_node.specs.Replies.{reply_to, reply}
+use Rattle.broker_laws.proofs.AskedCleans.{asked_clean, asked_part, of_clean}
 use Rattle.cleaning_laws.specs.Logs.{Logs, no_logs, IsLegalFromSome, IsStateOf}
-use Rattle.cleaning_laws.specs.Alike.{AreAlike, StayAlike}
+use Rattle.cleaning_laws.specs.Alike.{seen_topics, AreAlike, StayAlike}
 use Rattle.cleaning_laws.specs.Settled.{IsWithin, MayTrim, is_settled, AnswerAlike}
 use Rattle.cleaning_laws.specs.Cleans.{is_clean, is_no_clean, without_cleans, compared_replies, AreWithin, replies_to, state_after, MayTrimAll, AnswerAllAlike}
-use Rattle.cleaning_laws.proofs.Stated.{IsKept, clean_keeps, alike_cleaned, other_cleaned}
+use Rattle.cleaning_laws.proofs.Stated.{IsKept, IsSeenAlike, clean_keeps, clean_part_keeps, clean_seen, clean_part_seen, alike_cleaned, other_cleaned}
 use Rattle.cleaning_laws.proofs.GrownLogs.{same_logs, stay, stay_on}
 use Rattle.cleaning_laws.proofs.LongerLogs.{IsLater, within_longer}
 use Rattle.cleaning_laws.proofs.ConfigStays.{config_stays, known_stays}
@@ -29,28 +28,31 @@ not_true false e = absurd cc
 
 -- ---- one request
 
--- the Clean that this is
-abbrev asked_clean : BodyValue → Option CleanValue
-asked_clean (clean q) = Some q
-asked_clean _ = None
-
-asks_clean : (body : BodyValue) (q : CleanValue) → asked_clean body ≡ Some q → body ≡ clean q
-asks_clean body q one = grind (arith, one)
-
-asks_none : (body : BodyValue) → is_clean body ≡ true → asked_clean body ≡ None → ⊥
-asks_none body is none = absurd (grind (arith, is, none))
-
--- what holds of each Clean holds of a request that is one
-of_clean : (P : BodyValue → Type 0) → ((q : CleanValue) → P (clean q)) → (body : BodyValue) → is_clean body ≡ true → P body
-of_clean P each body is = by (asked_clean body) refl
-  where
-    by : (o : Option CleanValue) → asked_clean body ≡ o → P body
-    by None e = absurd (asks_none body is e)
-    by (Some q) e = subst P (sym (asks_clean body q e)) (each q)
+asks_none : (body : BodyValue) → is_clean body ≡ true → asked_clean body ≡ None → asked_part body ≡ None → ⊥
+asks_none body is none no_part = absurd (grind (arith, is, none, no_part))
 
 -- what a Clean leaves
 kept_by : (logs : Logs) (s : State) (n : ℤ) (body : BodyValue) → is_clean body ≡ true → IsStateOf logs s → IsKept logs s (reply_to s n body).1
-kept_by logs s n body e is = of_clean (λ b. IsKept logs s (reply_to s n b).1) (λ q. clean_keeps logs s n q is) body e
+kept_by logs s n body e is =
+    of_clean (λ b. IsKept logs s (reply_to s n b).1) (λ q. clean_keeps logs s n q is) (λ q. clean_part_keeps logs s n q is) body (asks_none body e)
+
+-- the same without the logs
+seen_by : (s : State) (n : ℤ) (body : BodyValue) → is_clean body ≡ true → IsSeenAlike s (reply_to s n body).1
+seen_by s n body e = of_clean (λ b. IsSeenAlike s (reply_to s n b).1) (clean_seen s n) (clean_part_seen s n) body (asks_none body e)
+
+-- what the law on one Clean says
+
+pub clean_states : (logs : Logs) (s : State) (q : RequestValue) → is_clean q.body ≡ true → IsStateOf logs s → IsStateOf logs (reply s q).1
+clean_states logs s q e is = (kept_by logs s q.correlation q.body e is).states
+
+pub seen_kept : (s : State) (q : RequestValue) → is_clean q.body ≡ true → seen_topics (reply s q).1 ≡ seen_topics s
+seen_kept s q e = (seen_by s q.correlation q.body e).seen
+
+pub config_kept : (s : State) (q : RequestValue) → is_clean q.body ≡ true → (reply s q).1.config ≡ s.config
+config_kept s q e = (seen_by s q.correlation q.body e).config
+
+pub producer_kept : (s : State) (q : RequestValue) → is_clean q.body ≡ true → (reply s q).1.next_producer ≡ s.next_producer
+producer_kept s q e = (seen_by s q.correlation q.body e).next_producer
 
 -- the reply to a Clean isn't settled
 settled_stays : (body : BodyValue) → is_settled body ≡ true → not (is_clean body) ≡ true
@@ -126,7 +128,7 @@ module _ (logs : Logs) (first : State) where
 -- ---- what the lists share makes both within the logs
 
 within_cleaned : (s : State) (logs : Logs) (body : BodyValue) → is_clean body ≡ true → IsWithin s logs body
-within_cleaned s logs body e = of_clean (IsWithin s logs) (λ q. (tt, tt)) body e
+within_cleaned s logs body e = of_clean (IsWithin s logs) (λ q. (tt, tt)) (λ q. (tt, tt)) body (asks_none body e)
 
 module _ {X : Type 0} (stays : X → Bool) (IsGood : X → Type 0) (left_out_good : (x : X) → stays x ≡ false → IsGood x) where
   good_of_filter : (xs : List X) → AllByRecursion IsGood (filter stays xs) → AllByRecursion IsGood xs

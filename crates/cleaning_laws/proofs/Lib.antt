@@ -2,6 +2,7 @@
 pub mod Asked
 pub mod Seen
 pub mod Stated
+pub mod PartsAsked
 pub mod TopicsAlike
 pub mod GrownLogs
 pub mod NewBatches

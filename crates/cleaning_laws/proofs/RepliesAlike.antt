@@ -2,7 +2,7 @@
 use Rattle.std.proofs.Common.{◌≡◌, ℤ, Bool, true, false, not, List, ◌++◌, Option, Some, refl, sym, ap, ◌∙◌}
 use Rattle.std.specs.Prelude.{drop}
 use Rattle.std.specs.Option.{option_or}
-use Rattle.request_frames.specs.Requests.BodyValue.{produce, fetch, list_offsets, metadata, offset_commit, offset_fetch, find_coordinator, api_versions, init_producer_id, deliver, clean, export, export_delta, import, import_delta, get, cover, forget_group, trim}
+use Rattle.request_frames.specs.Requests.BodyValue.{produce, fetch, list_offsets, metadata, offset_commit, offset_fetch, find_coordinator, api_versions, init_producer_id, deliver, clean, clean_part, export, export_delta, import, import_delta, get, cover, forget_group, trim}
 use Rattle.request_frames.specs.Requests.{BodyValue, RequestValue}
 use Rattle.request_frames.specs.Import.{ImportValue}
 use Rattle.answering.specs.declared.codes.ErrorCode.{ErrorCode}
@@ -67,6 +67,7 @@ body_alike logs s z n (api_versions version) alike within may other_may no_clean
 body_alike logs s z n (init_producer_id id) alike within may other_may no_clean = init_producer_id_alike logs s z n id alike
 body_alike logs s z n (deliver q) alike within may other_may no_clean = deliver_alike logs s z n q within.0 within.1 alike
 body_alike logs s z n (clean q) alike within may other_may no_clean = absurd cc
+body_alike logs s z n (clean_part q) alike within may other_may no_clean = absurd cc
 body_alike logs s z n (export q) alike within may other_may no_clean = export_alike logs s z n q alike
 body_alike logs s z n (export_delta q) alike within may other_may no_clean = export_delta_alike logs s z n q alike
 body_alike logs s z n (import q) alike within may other_may no_clean = unknown_alike logs s z n q within.1 alike

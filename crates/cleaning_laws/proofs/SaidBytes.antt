@@ -10,7 +10,7 @@ use Rattle.frame_fields.specs.Types.{nullable_string, nullable_bytes, topic, top
 use Rattle.frame_fields.specs.Frames.{IsBytes}
 use Rattle.frame_fields.proofs.Numbers.{IsBytes-drop, IsBytes-take, IsBytes-second}
 use Rattle.request_frames.specs.declared.api.Api.{Api}
-use Rattle.request_frames.specs.declared.api.Api.TheVariants.{Produce, Fetch, ListOffsets, Metadata, OffsetCommit, OffsetFetch, FindCoordinator, ApiVersions, InitProducerId, Deliver, Clean, Export, ExportDelta, Import, ImportDelta, Get, Cover, ForgetGroup, Trim}
+use Rattle.request_frames.specs.declared.api.Api.TheVariants.{Produce, Fetch, ListOffsets, Metadata, OffsetCommit, OffsetFetch, FindCoordinator, ApiVersions, InitProducerId, Deliver, Clean, CleanPart, Export, ExportDelta, Import, ImportDelta, Get, Cover, ForgetGroup, Trim}
 use Rattle.request_frames.specs.Requests.{fields_of, body_value, RequestValue, body_fields, IsRequest}
 use Rattle.request_frames.specs.Produce.{produce_partition, produce_partition_value, produce_fields, produce_request}
 use Rattle.request_frames.specs.OffsetCommit.{offset_commit_partition, offset_commit_partition_value, offset_commit_fields, offset_commit_request}
@@ -111,6 +111,7 @@ said_within s logs ApiVersions v fits all from = (tt, from)
 said_within s logs InitProducerId v fits all from = (tt, from)
 said_within s logs Deliver v fits all from = (all.1.1.0, from)
 said_within s logs Clean v fits all from = (tt, from)
+said_within s logs CleanPart v fits all from = (tt, from)
 said_within s logs Export v fits all from = (tt, from)
 said_within s logs ExportDelta v fits all from = (tt, from)
 said_within s logs Import v fits all from = (tt, from)

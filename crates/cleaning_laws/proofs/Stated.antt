@@ -7,24 +7,25 @@ use Rattle.std.proofs.lemmas.Int.{ints}
 use Rattle.std.proofs.lemmas.Slice.Eq.{bytes_eq-Decides}
 use Rattle.batch_codec.specs.Values.{BatchValue}
 use Rattle.content.specs.Content.{Content, empty}
-use Rattle.content.specs.Cleaning.{clean}
-use Rattle.content_laws.proofs.ContentSteps.{content_clean}
-use Rattle.content_laws.proofs.CopyClean.{copy_of_clean}
-use Rattle.content_laws.proofs.LeaderCopies.{leader_clean}
+use Rattle.content_laws.proofs.CopyClean.{copy_of_clean, copy_of_part}
+use Rattle.content_laws.proofs.LeaderCopies.{leader_clean, leader_part}
 use Rattle.request_frames.specs.Clean.{CleanValue}
-use Rattle.request_frames.specs.Requests.BodyValue.{clean as clean_body}
-use Rattle.request_frames.specs.Requests.{BodyValue, RequestValue}
+use Rattle.request_frames.specs.CleanPart.{CleanPartValue}
+use Rattle.request_frames.specs.Requests.BodyValue.{clean, clean_part}
 use Rattle.broker_state.specs.declared.config.Role.{Role}
 use Rattle.broker_state.specs.declared.config.Role.TheVariants.{Leader, Follower}
 use Rattle.broker_state.specs.State.{State, partition_at, is_known, content_at, with_content}
 use Rattle.broker_state.proofs.OneContent.{with_same, with_unknown, other_index, other_name}
 use Rattle.answering.specs.declared.codes.ErrorCode.TheVariants.{UnknownTopicOrPartition}
 use Rattle.answering.specs.Lists.{fault_if, first_some}
-use Rattle.answering.specs.Work.{answer_after}
-use Rattle.copy_requests.specs.Clean.{clean_work}
-use Rattle.broker_node.specs.Replies.{reply, reply_to}
+use Rattle.answering.specs.Work.{answer, answer_after}
+use Rattle.copy_requests.specs.declared.clean.Cleaning.{Cleaning}
+use Rattle.copy_requests.specs.declared.clean.Cleaning.TheVariants.{Whole, Part}
+use Rattle.copy_requests.specs.Clean.{cleaned, cleaning_work, asked_part}
+use Rattle.broker_laws.proofs.CleanFits.{content_cleaned}
+use Rattle.broker_node.specs.Replies.{reply_to}
 use Rattle.cleaning_laws.specs.Logs.{Logs, IsCopyAs, IsPartitionOf, IsStateOf}
-use Rattle.cleaning_laws.specs.Alike.{seen_topics, AreAlike}
+use Rattle.cleaning_laws.specs.Alike.{seen_of, seen_topics, AreAlike}
 use Rattle.cleaning_laws.proofs.Seen.{seen_stays}
 
 -- ---- another content of one partition
@@ -71,16 +72,22 @@ module _ (logs longer : Logs) (s : State) (name : List ℕ) (p : ℤ) (c : Conte
 
 -- ---- cleaning
 
-copy_cleaned : (role : Role) (u d : ℤ) (c : Content) (log : List BatchValue) → IsPartitionOf role c log → IsCopyAs role (clean u d c) log
-copy_cleaned Leader u d c log is = leader_clean u d c log is.content is.plain is.copy
-copy_cleaned Follower u d c log is = (copy_of_clean u d c log is.content is.plain is.copy.0, is.copy.1)
+copy_cleaned : (role : Role) (cleaning : Cleaning) (c : Content) (log : List BatchValue) → IsPartitionOf role c log → IsCopyAs role (cleaned cleaning c) log
+copy_cleaned Leader (Whole upto tomb_before) c log is = leader_clean upto tomb_before c log is.content is.plain is.copy
+copy_cleaned Leader (Part part) c log is = leader_part part c log is.content is.plain is.copy
+copy_cleaned Follower (Whole upto tomb_before) c log is = (copy_of_clean upto tomb_before c log is.content is.plain is.copy.0, is.copy.1)
+copy_cleaned Follower (Part part) c log is = (copy_of_part part c log is.content is.plain is.copy.0, is.copy.1)
 
-pub partition_cleaned : (role : Role) (u d : ℤ) (c : Content) (log : List BatchValue) → IsPartitionOf role c log → IsPartitionOf role (clean u d c) log
-partition_cleaned role u d c log is = record {
-  content = content_clean u d c is.content;
+partition_cleaned : (role : Role) (cleaning : Cleaning) (c : Content) (log : List BatchValue) → IsPartitionOf role c log → IsPartitionOf role (cleaned cleaning c) log
+partition_cleaned role cleaning c log is = record {
+  content = content_cleaned cleaning c is.content;
   plain = is.plain;
-  copy = copy_cleaned role u d c log is;
+  copy = copy_cleaned role cleaning c log is;
 }
+
+seen_left : (cleaning : Cleaning) (c : Content) → seen_of (cleaned cleaning c) ≡ seen_of c
+seen_left (Whole upto tomb_before) c = refl
+seen_left (Part part) c = refl
 
 -- what a Clean leaves: the logs, all names, starts and covers, the configuration, and the next producer id
 pub record IsKept (logs : Logs) (s after : State) : Type 0 where
@@ -90,60 +97,50 @@ pub record IsKept (logs : Logs) (s after : State) : Type 0 where
   pub next_producer : after.next_producer ≡ s.next_producer
 
 -- the same without the logs
-record IsSeenAlike (s after : State) : Type 0 where
-  seen : seen_topics after ≡ seen_topics s
-  config : after.config ≡ s.config
-  next_producer : after.next_producer ≡ s.next_producer
+pub record IsSeenAlike (s after : State) : Type 0 where
+  pub seen : seen_topics after ≡ seen_topics s
+  pub config : after.config ≡ s.config
+  pub next_producer : after.next_producer ≡ s.next_producer
 
-states_at : (logs : Logs) (s : State) (name : List ℕ) (p u d : ℤ) → IsStateOf logs s → IsStateOf logs (with_content s name p (clean u d (content_at s name p)))
-states_at logs s name p u d is = state_with logs logs s name p (clean u d (content_at s name p)) is (λ n q e. refl) (λ n q e. refl) (λ known. partition_cleaned s.config.role u d (content_at s name p) (logs name p) (is name p known))
+-- ---- a cleaning of a partition, by the test whether it is known
 
-seen_at_clean : (s : State) (name : List ℕ) (p u d : ℤ) → IsSeenAlike s (with_content s name p (clean u d (content_at s name p)))
-seen_at_clean s name p u d = record { seen = seen_stays s name p (clean u d (content_at s name p)) refl; config = refl; next_producer = refl }
+module _ (s : State) (name : List ℕ) (p : ℤ) (cleaning : Cleaning) where
+  abbrev left : State
+  left = (answer (cleaning_work s name p cleaning) s).1
 
-pub cleaned_at : (logs : Logs) (s : State) (name : List ℕ) (p u d : ℤ) → IsStateOf logs s → IsKept logs s (with_content s name p (clean u d (content_at s name p)))
-cleaned_at logs s name p u d is =
-    let same = seen_at_clean s name p u d in
-    record { states = states_at logs s name p u d is; seen = same.seen; config = same.config; next_producer = same.next_producer }
+  abbrev if_known : Bool → State
+  if_known known = (answer_after (first_some (fault_if (not known) UnknownTopicOrPartition ∷ [])) (cleaning_work s name p cleaning) s).1
 
--- the state after a Clean, by the test whether the partition is known
-abbrev if_known : State → ℤ → CleanValue → Bool → State
-if_known s correlation q known = (answer_after (first_some (fault_if (not known) UnknownTopicOrPartition ∷ [])) (clean_work s q) s).1
+  left_states : (logs : Logs) → IsStateOf logs s → IsStateOf logs left
+  left_states logs is = by (is_known s name p)
+    where
+      by : (b : Bool) → IsStateOf logs (if_known b)
+      by true = state_with logs logs s name p (cleaned cleaning (content_at s name p)) is (λ n q e. refl) (λ n q e. refl) (λ known. partition_cleaned s.config.role cleaning (content_at s name p) (logs name p) (is name p known))
+      by false = is
 
-clean_states : (logs : Logs) (s : State) (correlation : ℤ) (q : CleanValue) → IsStateOf logs s → IsStateOf logs (reply_to s correlation (clean_body q)).1
-clean_states logs s correlation q is = by (is_known s q.topic q.partition)
-  where
-    by : (b : Bool) → IsStateOf logs (if_known s correlation q b)
-    by true = states_at logs s q.topic q.partition q.upto q.tomb_before is
-    by false = is
+  left_seen : IsSeenAlike s left
+  left_seen = by (is_known s name p)
+    where
+      by : (b : Bool) → IsSeenAlike s (if_known b)
+      by true = record { seen = seen_stays s name p (cleaned cleaning (content_at s name p)) (seen_left cleaning (content_at s name p)); config = refl; next_producer = refl }
+      by false = record { seen = refl; config = refl; next_producer = refl }
 
-clean_seen : (s : State) (correlation : ℤ) (q : CleanValue) → IsSeenAlike s (reply_to s correlation (clean_body q)).1
-clean_seen s correlation q = by (is_known s q.topic q.partition)
-  where
-    by : (b : Bool) → IsSeenAlike s (if_known s correlation q b)
-    by true = seen_at_clean s q.topic q.partition q.upto q.tomb_before
-    by false = record { seen = refl; config = refl; next_producer = refl }
+  left_kept : (logs : Logs) → IsStateOf logs s → IsKept logs s left
+  left_kept logs is = record { states = left_states logs is; seen = left_seen.seen; config = left_seen.config; next_producer = left_seen.next_producer }
 
-pub clean_keeps : (logs : Logs) (s : State) (correlation : ℤ) (q : CleanValue) → IsStateOf logs s → IsKept logs s (reply_to s correlation (clean_body q)).1
-clean_keeps logs s correlation q is =
-    let same = clean_seen s correlation q in
-    record { states = clean_states logs s correlation q is; seen = same.seen; config = same.config; next_producer = same.next_producer }
+-- ---- a Clean, in either version
 
--- the same of a request that is a Clean
-pub request_states : (logs : Logs) (s : State) (q : RequestValue) (c : CleanValue) → q.body ≡ clean_body c → IsStateOf logs s → IsStateOf logs (reply s q).1
-request_states logs s q c is of = subst (λ (body : BodyValue). IsStateOf logs (reply_to s q.correlation body).1) (sym is) (clean_states logs s q.correlation c of)
+pub clean_keeps : (logs : Logs) (s : State) (n : ℤ) (q : CleanValue) → IsStateOf logs s → IsKept logs s (reply_to s n (clean q)).1
+clean_keeps logs s n q is = left_kept s q.topic q.partition (Whole q.upto q.tomb_before) logs is
 
-request_seen_alike : (s : State) (q : RequestValue) (c : CleanValue) → q.body ≡ clean_body c → IsSeenAlike s (reply s q).1
-request_seen_alike s q c is = subst (λ (body : BodyValue). IsSeenAlike s (reply_to s q.correlation body).1) (sym is) (clean_seen s q.correlation c)
+pub clean_part_keeps : (logs : Logs) (s : State) (n : ℤ) (q : CleanPartValue) → IsStateOf logs s → IsKept logs s (reply_to s n (clean_part q)).1
+clean_part_keeps logs s n q is = left_kept s q.topic q.partition (Part (asked_part q)) logs is
 
-pub request_seen : (s : State) (q : RequestValue) (c : CleanValue) → q.body ≡ clean_body c → seen_topics (reply s q).1 ≡ seen_topics s
-request_seen s q c is = (request_seen_alike s q c is).seen
+pub clean_seen : (s : State) (n : ℤ) (q : CleanValue) → IsSeenAlike s (reply_to s n (clean q)).1
+clean_seen s n q = left_seen s q.topic q.partition (Whole q.upto q.tomb_before)
 
-pub request_config : (s : State) (q : RequestValue) (c : CleanValue) → q.body ≡ clean_body c → (reply s q).1.config ≡ s.config
-request_config s q c is = (request_seen_alike s q c is).config
-
-pub request_producer : (s : State) (q : RequestValue) (c : CleanValue) → q.body ≡ clean_body c → (reply s q).1.next_producer ≡ s.next_producer
-request_producer s q c is = (request_seen_alike s q c is).next_producer
+pub clean_part_seen : (s : State) (n : ℤ) (q : CleanPartValue) → IsSeenAlike s (reply_to s n (clean_part q)).1
+clean_part_seen s n q = left_seen s q.topic q.partition (Part (asked_part q))
 
 -- so of two that are alike either may be cleaned
 pub alike_cleaned : (logs : Logs) (s z m : State) → AreAlike logs s z → IsKept logs s m → AreAlike logs m z

@@ -1,7 +1,7 @@
 -- Requests of which the Cleans are left out, and the replies that are compared then.
 use Rattle.std.specs.Prelude.{◌≡◌, ℕ, Bool, true, false, not, ⊤, List, [], ◌∷◌, Option, if◌then◌else◌}
 use Rattle.std.specs.List.{filter, AllByRecursion}
-use Rattle.request_frames.specs.Requests.BodyValue.{clean}
+use Rattle.request_frames.specs.Requests.BodyValue.{clean, clean_part}
 use Rattle.request_frames.specs.Requests.{BodyValue, RequestValue}
 use Rattle.answering.specs.Lists.{map_accum}
 use Rattle.broker_state.specs.State.{State}
@@ -12,8 +12,10 @@ use Rattle.cleaning_laws.specs.Settled.{IsWithin, MayTrim, is_settled}
 
 -- ---- lists of requests
 
+-- a Clean, in either version
 abbrev pub is_clean : BodyValue → Bool
 is_clean (clean q) = true
+is_clean (clean_part q) = true
 is_clean _ = false
 
 abbrev pub is_no_clean : RequestValue → Bool

@@ -3,5 +3,6 @@ pub mod Logs
 pub mod Alike
 pub mod Settled
 pub mod Cleans
+pub mod Parts
 pub mod WithMemory
 pub mod AnsweredFrames

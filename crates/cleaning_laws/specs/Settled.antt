@@ -13,7 +13,7 @@ use Rattle.content.specs.Logs.{IsPlainLog}
 use Rattle.content.specs.Copies.{IsCopy}
 use Rattle.deltas.specs.Deltas.{Delta, delta_of}
 use Rattle.delta_bytes.specs.Reading.{delta_at}
-use Rattle.request_frames.specs.Requests.BodyValue.{produce, fetch, list_offsets, offset_commit, deliver, clean, export, export_delta, import, import_delta, trim}
+use Rattle.request_frames.specs.Requests.BodyValue.{produce, fetch, list_offsets, offset_commit, deliver, clean, clean_part, export, export_delta, import, import_delta, trim}
 use Rattle.request_frames.specs.Requests.{BodyValue, RequestValue}
 use Rattle.request_frames.specs.ListOffsets.{ListOffsetsPartitionValue}
 use Rattle.request_frames.specs.OffsetCommit.{OffsetCommitPartitionValue}
@@ -103,6 +103,7 @@ is_settled (fetch q) = false
 is_settled (export q) = false
 is_settled (export_delta q) = false
 is_settled (clean q) = false
+is_settled (clean_part q) = false
 is_settled (list_offsets topics) = list_all (λ t. list_all is_no_time t.entries) topics
 is_settled _ = true
 

@@ -1,12 +1,14 @@
 //! Laws about the definitions alone. The functions do nothing: what they ensure is the law.
 
-ghost use Rattle.std.specs.Prelude.{◌≡◌, ℕ, ℤ, true, List, ◌++◌, Option};
+ghost use Rattle.std.specs.Prelude.{◌≡◌, ◌≤ℤ◌, ℕ, ℤ, true, List, ◌++◌, Option};
 ghost use Rattle.content.specs.Logs.{IsPlainLog};
+ghost use Rattle.content.specs.Parts.{AreEnds};
 ghost use Rattle.request_frames.specs.Clean.{CleanValue};
-ghost use Rattle.request_frames.specs.Requests.{RequestValue};
 ghost use Rattle.request_frames.specs.Requests.BodyValue.{clean};
+ghost use Rattle.request_frames.specs.Requests.{RequestValue};
 ghost use Rattle.broker_state.specs.declared.config.Role.TheVariants.{Follower};
-ghost use Rattle.broker_state.specs.State.{ConfigValue, State, new_state};
+ghost use Rattle.broker_state.specs.State.{ConfigValue, State, new_state, content_at};
+ghost use Rattle.broker_state.specs.Sound.{IsSound};
 ghost use Rattle.answering.specs.Lists.{map_accum};
 ghost use Rattle.answering.specs.Responding.{sent};
 ghost use Rattle.broker_node.specs.declared.handling.Answer.{Answer};
@@ -16,7 +18,8 @@ ghost use Rattle.broker_node.specs.Streams.{AreAnswered};
 ghost use Rattle.cleaning_laws.specs.Logs.{Logs, no_logs, IsLegalFromSome, IsStateOf};
 ghost use Rattle.cleaning_laws.specs.Alike.{seen_topics, AreAlike};
 ghost use Rattle.cleaning_laws.specs.Settled.{IsWithin, MayTrim, AnswerAlike};
-ghost use Rattle.cleaning_laws.specs.Cleans.{is_no_clean, without_cleans, AreWithin, MayTrimAll, state_after, AnswerAllAlike};
+ghost use Rattle.cleaning_laws.specs.Cleans.{is_clean, is_no_clean, without_cleans, AreWithin, MayTrimAll, state_after, AnswerAllAlike};
+ghost use Rattle.cleaning_laws.specs.Parts.{asked_in_parts};
 ghost use Rattle.cleaning_laws.specs.WithMemory.{AnsweredWithMemory};
 ghost use Rattle.cleaning_laws.specs.AnsweredFrames.{AnsweredFrame, frames_of, requests_of, responses_of, sent_for, AreAnsweredWithMemory, AreFramesWithin, AreAnsweredAlike};
 
@@ -29,23 +32,34 @@ pub fn a_new_broker_holds_copies_of_the_logs()
         → AreAlike logs (new_state g) (new_state g) }
 {}
 
-/// A Clean, of any topic, partition and bounds, leaves the logs, of each partition the start and the offsets
-/// that were seen, the configuration, and the next producer id.
+/// A Clean of either version, of any topic, partition and bounds, leaves the logs, of each partition the
+/// start and the offsets that were seen, the configuration, and the next producer id.
 pub fn cleaning_keeps_the_logs()
-    ensures logs { (logs : Logs) (s : State) (q : RequestValue) (c : CleanValue) → q.body ≡ clean c
+    ensures logs { (logs : Logs) (s : State) (q : RequestValue) → is_clean q.body ≡ true
         → IsStateOf logs s → IsStateOf logs (reply s q).1 }
-    ensures seen { (s : State) (q : RequestValue) (c : CleanValue) → q.body ≡ clean c
+    ensures seen { (s : State) (q : RequestValue) → is_clean q.body ≡ true
         → seen_topics (reply s q).1 ≡ seen_topics s }
-    ensures config { (s : State) (q : RequestValue) (c : CleanValue) → q.body ≡ clean c
+    ensures config { (s : State) (q : RequestValue) → is_clean q.body ≡ true
         → (reply s q).1.config ≡ s.config }
-    ensures next_producer { (s : State) (q : RequestValue) (c : CleanValue) → q.body ≡ clean c
+    ensures next_producer { (s : State) (q : RequestValue) → is_clean q.body ≡ true
         → (reply s q).1.next_producer ≡ s.next_producer }
 {}
 
+/// Cleans of parts of a partition, one after another, leave what one Clean with their bounds leaves. The first part
+/// begins at the start or below it, each other one where the one before ended, and the last ends at the bound or
+/// further. No batch that is to be cleaned lies across an end.
+pub fn parts_leave_what_one_clean_leaves()
+    ensures { (s : State) (correlation : ℤ) (q : CleanValue) (from : ℤ) (ends : List ℤ) → IsSound s
+        → from ≤ℤ (content_at s q.topic q.partition).start
+        → AreEnds q.upto from ends (content_at s q.topic q.partition)
+        → state_after s (asked_in_parts correlation q from ends)
+        ≡ (reply s (record { correlation = correlation; body = clean q })).1 }
+{}
+
 /// Two brokers that differ only in what they keep of the same logs answer each request within the logs,
-/// but for a Clean, alike, where a Trim is to an offset at which both may start: the states after are again
-/// two such, of logs that may have grown, and the replies are the same, but for those that are read of which
-/// records are kept. On followers the logs stay as they are. No request changes the configuration.
+/// but for a Clean of either version, alike, where a Trim is to an offset at which both may start: the states
+/// after are again two such, of logs that may have grown, and the replies are the same, but for those that are
+/// read of which records are kept. On followers the logs stay as they are. No request changes the configuration.
 pub fn brokers_of_the_same_logs_answer_alike()
     ensures alike { (logs : Logs) (s z : State) (q : RequestValue) → AreAlike logs s z
         → IsWithin s logs q.body → MayTrim s q.body → MayTrim z q.body
@@ -58,8 +72,8 @@ pub fn brokers_of_the_same_logs_answer_alike()
 {}
 
 /// Two brokers that are alike, as two new ones are, get two lists of requests within the logs, which are
-/// the same once their Cleans are left out, and of which each Trim is to an offset at which its copy may
-/// start then. Then each other request gets the same reply from both, but for
+/// the same once their Cleans are left out, those of all and those of parts, and of which each Trim is to an
+/// offset at which its copy may start then. Then each other request gets the same reply from both, but for
 /// those that are read of which records are kept, and the brokers after are again alike; followers stay alike
 /// of the same logs. So cleaning changes no such reply, whenever and with whatever bounds it is done.
 pub fn cleaning_changes_no_reply()

@@ -7,5 +7,5 @@ mod laws;
 pub use laws::{
     a_new_broker_holds_copies_of_the_logs, an_answer_with_memory_is_the_reply,
     brokers_of_the_same_logs_answer_alike, cleaning_changes_no_answer, cleaning_changes_no_reply,
-    cleaning_keeps_the_logs,
+    cleaning_keeps_the_logs, parts_leave_what_one_clean_leaves,
 };

@@ -1,14 +1,16 @@
 -- Each event leads from a consistent world to one, so the headline holds after each front of a list of events.
 use Rattle.std.proofs.Common.{◌≡◌, ℕ, zero, suc, ℤ, Result, Ok, Err, List, [], ◌∷◌, Some, refl, sym, subst, arith, true, false}
 use Rattle.content.specs.Content.{Content, cut, IsAcceptedStart}
-use Rattle.content.specs.Cleaning.{clean}
+use Rattle.cluster.specs.declared.cleaning.Cleaning.{Cleaning}
+use Rattle.cluster.specs.declared.cleaning.Cleaning.TheVariants.{Whole, Part}
 use Rattle.cluster.specs.declared.event.Event.{Event}
-use Rattle.cluster.specs.declared.event.Event.TheVariants.{Produce, Deliver, Clean, Send, Merge, Trim}
+use Rattle.cluster.specs.declared.event.Event.TheVariants.{Produce, Deliver, Clean, CleanPart, Send, Merge, Trim}
 use Rattle.cluster.specs.declared.event.Outcome.{Outcome}
 use Rattle.cluster.specs.declared.event.Outcome.TheVariants.{Based, Delivered, Cleaned, Sent, Merged, Trimmed}
 use Rattle.cluster.specs.declared.event.EventError.{EventError}
 use Rattle.cluster.specs.Worlds.{World, copy_at, with_copy}
 use Rattle.cluster.specs.Events.{Produces, Delivers, Cleans, Sends, Merges, Trims, Steps, Runs}
+use Rattle.cluster.specs.Parts.{cleaned as left, reported}
 use Rattle.cluster.specs.Headline.{IsConsistent, HoldsOnTheWay}
 use Rattle.cluster.proofs.WorldSteps.{copy_is, image_is, after_change, after_image, cleaned_copy, after_leader_cleaning, trimmed_copy, after_leader_trim, merged_copy}
 use Rattle.cluster.proofs.EventSteps.{on_log, added_copy}
@@ -45,18 +47,18 @@ module _ (w : World) (is : IsConsistent w) where
   delivered copy batch after (Ok Trimmed) d = absurd d
   delivered copy batch after (Err e) d = same after d.1
 
-  cleaned_one : (copy : ℕ) (upto tomb_before : ℤ) (c : Content) → copy_at w copy ≡ Some c → IsConsistent (with_copy copy (clean upto tomb_before c) w)
-  cleaned_one zero upto tomb_before c there = subst (λ (x : Content). IsConsistent (with_copy 0 (clean upto tomb_before x) w)) (some_is w.leader c there) (after_leader_cleaning w is upto tomb_before)
-  cleaned_one (suc i) upto tomb_before c there = after_change w is (suc i) _ (omega arith) (cleaned_copy w is upto tomb_before c (copy_is w is (suc i) c there))
+  cleaned_one : (copy : ℕ) (cleaning : Cleaning) (c : Content) → copy_at w copy ≡ Some c → IsConsistent (with_copy copy (left cleaning c) w)
+  cleaned_one zero cleaning c there = subst (λ (x : Content). IsConsistent (with_copy 0 (left cleaning x) w)) (some_is w.leader c there) (after_leader_cleaning w is cleaning)
+  cleaned_one (suc i) cleaning c there = after_change w is (suc i) _ (omega arith) (cleaned_copy w is cleaning c (copy_is w is (suc i) c there))
 
-  cleaned : (copy : ℕ) (upto tomb_before : ℤ) (after : World) (r : Result Outcome EventError) → Cleans w copy upto tomb_before after r → IsConsistent after
-  cleaned copy upto tomb_before after (Ok (Cleaned x)) (c, there, e, report) = another after _ e (cleaned_one copy upto tomb_before c there)
-  cleaned copy upto tomb_before after (Ok (Based x y)) d = absurd d
-  cleaned copy upto tomb_before after (Ok (Delivered x)) d = absurd d
-  cleaned copy upto tomb_before after (Ok (Sent x)) d = absurd d
-  cleaned copy upto tomb_before after (Ok Merged) d = absurd d
-  cleaned copy upto tomb_before after (Ok Trimmed) d = absurd d
-  cleaned copy upto tomb_before after (Err e) d = same after d.1
+  cleaned : (copy : ℕ) (cleaning : Cleaning) (after : World) (r : Result Outcome EventError) → Cleans w copy (left cleaning) (reported cleaning) after r → IsConsistent after
+  cleaned copy cleaning after (Ok (Cleaned x)) (c, there, e, report) = another after _ e (cleaned_one copy cleaning c there)
+  cleaned copy cleaning after (Ok (Based x y)) d = absurd d
+  cleaned copy cleaning after (Ok (Delivered x)) d = absurd d
+  cleaned copy cleaning after (Ok (Sent x)) d = absurd d
+  cleaned copy cleaning after (Ok Merged) d = absurd d
+  cleaned copy cleaning after (Ok Trimmed) d = absurd d
+  cleaned copy cleaning after (Err e) d = same after d.1
 
   sent : (copy : ℕ) (after : World) (r : Result Outcome EventError) → Sends w copy after r → IsConsistent after
   sent copy after (Ok (Sent x)) (c, there, image, e, number) = another after _ e (after_image w is c (copy_is w is copy c there) image)
@@ -95,7 +97,8 @@ module _ (w : World) (is : IsConsistent w) where
   pub stepped : {A : Type 0} (event : Event A) (after : World) (r : Result Outcome EventError) → Steps w event after r → IsConsistent after
   stepped (Produce bytes) after r does = produced bytes.items after r does
   stepped (Deliver copy batch) after r does = delivered copy batch after r does
-  stepped (Clean copy upto tomb_before) after r does = cleaned copy upto tomb_before after r does
+  stepped (Clean copy upto tomb_before) after r does = cleaned copy (Whole upto tomb_before) after r does
+  stepped (CleanPart copy part) after r does = cleaned copy (Part part) after r does
   stepped (Send copy) after r does = sent copy after r does
   stepped (Merge copy image) after r does = merged copy image after r does
   stepped (Trim copy start) after r does = trimmed copy start after r does

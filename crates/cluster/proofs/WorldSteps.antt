@@ -6,19 +6,21 @@ use Rattle.batch_codec.specs.Values.{BatchValue}
 use Rattle.batch_codec.specs.Offsets.{first_offset}
 use Rattle.content.specs.Windows.{heads}
 use Rattle.content.specs.Content.{Content, IsContent, IsLogBatch, add, cut, IsAcceptedStart}
-use Rattle.content.specs.Cleaning.{clean}
 use Rattle.content.specs.Joins.{join, Agree}
 use Rattle.content.specs.Logs.{IsPlainLog, next_offset}
 use Rattle.content.specs.LegalLogs.{IsNew, IsLeaderCopy}
-use Rattle.content_laws.proofs.ContentSteps.{content_clean, content_cut, content_join}
+use Rattle.content_laws.proofs.ContentSteps.{content_clean, content_part, content_cut, content_join}
 use Rattle.content_laws.proofs.CopyGrow.{copy_of_longer}
-use Rattle.content_laws.proofs.CopyClean.{copy_of_clean}
+use Rattle.content_laws.proofs.CopyClean.{copy_of_clean, copy_of_part}
 use Rattle.content_laws.proofs.CopyCut.{copy_of_cut}
 use Rattle.content_laws.proofs.CopyStarts.{accepted_boundary, accepted_in_range}
 use Rattle.content_laws.proofs.CopyJoin.{copies_agree, copy_of_join}
-use Rattle.content_laws.proofs.LeaderCopies.{leader_append, leader_clean, leader_cut}
+use Rattle.content_laws.proofs.LeaderCopies.{leader_append, leader_clean, leader_part, leader_cut}
 use Rattle.copy_images.specs.Images.{image_of, IsImage}
 use Rattle.cluster.specs.Worlds.{World, copy_at, with_copy, with_appended, with_image_of}
+use Rattle.cluster.specs.declared.cleaning.Cleaning.{Cleaning}
+use Rattle.cluster.specs.declared.cleaning.Cleaning.TheVariants.{Whole, Part}
+use Rattle.cluster.specs.Parts.{cleaned}
 use Rattle.cluster.specs.Headline.{IsCopyOf, IsImageOfCopy, IsConsistent, IsHeld}
 use Rattle.cluster.proofs.LogEnds.{longer_log}
 use Rattle.copy_images.proofs.FirstFaults.{one_copy}
@@ -84,14 +86,19 @@ module _ (w : World) (is : IsConsistent w) where
     images = all_both (IsImageOfCopy w.log) w.images (image_of c ∷ []) is.images ((c, image, copy), tt);
   }
 
-  pub cleaned_copy : (upto tomb_before : ℤ) (c : Content) → IsCopyOf w.log c → IsCopyOf w.log (clean upto tomb_before c)
-  cleaned_copy upto tomb_before c copy = (content_clean upto tomb_before c copy.0, copy_of_clean upto tomb_before c w.log copy.0 is.plain copy.1)
+  pub cleaned_copy : (cleaning : Cleaning) (c : Content) → IsCopyOf w.log c → IsCopyOf w.log (cleaned cleaning c)
+  cleaned_copy (Whole upto tomb_before) c copy = (content_clean upto tomb_before c copy.0, copy_of_clean upto tomb_before c w.log copy.0 is.plain copy.1)
+  cleaned_copy (Part part) c copy = (content_part part c copy.0, copy_of_part part c w.log copy.0 is.plain copy.1)
 
-  pub after_leader_cleaning : (upto tomb_before : ℤ) → IsConsistent (with_copy 0 (clean upto tomb_before w.leader) w)
-  after_leader_cleaning upto tomb_before = record {
+  cleaned_leader : (cleaning : Cleaning) → IsLeaderCopy (cleaned cleaning w.leader) w.log
+  cleaned_leader (Whole upto tomb_before) = leader_clean upto tomb_before w.leader w.log leader_copy.0 is.plain is.leads
+  cleaned_leader (Part part) = leader_part part w.leader w.log leader_copy.0 is.plain is.leads
+
+  pub after_leader_cleaning : (cleaning : Cleaning) → IsConsistent (with_copy 0 (cleaned cleaning w.leader) w)
+  after_leader_cleaning cleaning = record {
     plain = is.plain;
-    leads = leader_clean upto tomb_before w.leader w.log leader_copy.0 is.plain is.leads;
-    copies = (cleaned_copy upto tomb_before w.leader leader_copy, is.copies.1);
+    leads = cleaned_leader cleaning;
+    copies = (cleaned_copy cleaning w.leader leader_copy, is.copies.1);
     images = is.images;
   }
 

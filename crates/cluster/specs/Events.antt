@@ -12,6 +12,8 @@ use Rattle.content.specs.declared.verdict.Verdict.TheVariants as verdict
 use Rattle.content.specs.declared.delivery.Delivered.TheVariants.{Repeat}
 use Rattle.content.specs.Content.{Content, add, has_seen_all, HasSeenNone, cut, IsAcceptedStart}
 use Rattle.content.specs.Cleaning.{clean, clean_report}
+use Rattle.content.specs.Parts.{clean_part, part_report}
+use Rattle.content.specs.declared.report.CleanReport.{CleanReport}
 use Rattle.content.specs.Joins.{join}
 use Rattle.content.specs.Logs.{next_offset}
 use Rattle.copy_images.specs.Images.{IsImage, image_of}
@@ -21,7 +23,7 @@ use Rattle.partition_log.specs.declared.leader.AppendError.TheVariants as append
 use Rattle.partition_log.specs.Trims.{RefusesTrim}
 use Rattle.partition_log.specs.declared.trim.TrimError.TheVariants as trim
 use Rattle.cluster.specs.declared.event.Event.{Event}
-use Rattle.cluster.specs.declared.event.Event.TheVariants.{Produce, Deliver, Clean, Send, Merge, Trim}
+use Rattle.cluster.specs.declared.event.Event.TheVariants.{Produce, Deliver, Clean, CleanPart, Send, Merge, Trim}
 use Rattle.cluster.specs.declared.event.Outcome.{Outcome}
 use Rattle.cluster.specs.declared.event.Outcome.TheVariants.{Based, Delivered, Cleaned, Sent, Merged, Trimmed}
 use Rattle.cluster.specs.declared.event.EventError.{EventError}
@@ -111,12 +113,12 @@ RefusesCopy w copy NoCopy = copy_at w copy ≡ None
 RefusesCopy w copy OutOfMemory = (c : Content) × (copy_at w copy ≡ Some c)
 RefusesCopy w copy _ = ⊥
 
-abbrev pub Cleans : World → (copy : ℕ) (upto tomb_before : ℤ) → World → Result Outcome EventError → Type 0
-Cleans w copy upto tomb_before after (Ok (Cleaned report)) =
-    (c : Content) × (copy_at w copy ≡ Some c) × (after ≡ with_copy copy (clean upto tomb_before c) w)
-    × (report ≡ clean_report upto tomb_before c)
-Cleans w copy upto tomb_before after (Ok _) = ⊥
-Cleans w copy upto tomb_before after (Err error) = RefusesCopy w copy error × (after ≡ w)
+-- a copy is cleaned in some way, of which it is told what went
+abbrev pub Cleans : World → (copy : ℕ) → (Content → Content) → (Content → CleanReport) → World → Result Outcome EventError → Type 0
+Cleans w copy cleaned reported after (Ok (Cleaned report)) =
+    (c : Content) × (copy_at w copy ≡ Some c) × (after ≡ with_copy copy (cleaned c) w) × (report ≡ reported c)
+Cleans w copy cleaned reported after (Ok _) = ⊥
+Cleans w copy cleaned reported after (Err error) = RefusesCopy w copy error × (after ≡ w)
 
 abbrev pub Sends : World → (copy : ℕ) → World → Result Outcome EventError → Type 0
 Sends w copy after (Ok (Sent image)) =
@@ -155,7 +157,9 @@ Trims w copy start after (Err error) = RefusesStart w copy start error × (after
 abbrev pub Steps : {A : Type 0} → World → Event A → World → Result Outcome EventError → Type 0
 Steps w (Produce bytes) after result = Produces w bytes.items after result
 Steps w (Deliver copy batch) after result = Delivers w copy batch after result
-Steps w (Clean copy upto tomb_before) after result = Cleans w copy upto tomb_before after result
+Steps w (Clean copy upto tomb_before) after result =
+    Cleans w copy (clean upto tomb_before) (clean_report upto tomb_before) after result
+Steps w (CleanPart copy part) after result = Cleans w copy (clean_part part) (part_report part) after result
 Steps w (Send copy) after result = Sends w copy after result
 Steps w (Merge copy image) after result = Merges w copy image after result
 Steps w (Trim copy start) after result = Trims w copy start after result

@@ -6,6 +6,8 @@ use Rattle.content.specs.declared.report.CleanReport.{CleanReport}
 use Rattle.content.specs.declared.verdict.Verdict.TheVariants as verdict
 use Rattle.content.specs.declared.delivery.Delivered.TheVariants.{Repeat}
 use Rattle.content.specs.Content.{Content, end, add, has_seen_all, HasSeenNone}
+use Rattle.content.specs.Cleaning.{clean, clean_report}
+use Rattle.content.specs.Parts.{clean_part, part_report}
 use Rattle.content.specs.Joins.{join}
 use Rattle.copy_images.specs.declared.layout.TheConstants.{MAX_COUNT}
 use Rattle.copy_images.specs.Images.{image_of, IsImage}
@@ -15,6 +17,8 @@ use Rattle.partition_log.specs.declared.leader.AppendError.TheVariants as append
 use Rattle.partition_log.specs.declared.trim.TrimError.{TrimError}
 use Rattle.partition_log.specs.declared.trim.TrimError.TheVariants as trim
 use Rattle.cluster.specs.Worlds.{World, copy_at}
+use Rattle.cluster.specs.declared.cleaning.Cleaning.{Cleaning}
+use Rattle.cluster.specs.declared.cleaning.Cleaning.TheVariants.{Whole, Part}
 use Rattle.cluster.specs.declared.event.Outcome.{Outcome}
 use Rattle.cluster.specs.declared.event.Outcome.TheVariants.{Based, Delivered, Cleaned, Sent, Merged, Trimmed}
 use Rattle.cluster.specs.declared.event.EventError.{EventError}
@@ -36,6 +40,15 @@ AppendsTo c log b after longer (Err (Append why)) =
     RefusesAppend c b why × (why ≢ append.OutOfMemory) × (after ≡ c) × (longer ≡ log)
 AppendsTo c log b after longer (Err OutOfMemory) = IsNew c b × (after ≡ c) × (longer ≡ log)
 AppendsTo c log b after longer (Err _) = ⊥
+
+-- what a cleaning leaves of a copy, and what is told of it
+abbrev pub cleaned : Cleaning → Content → Content
+cleaned (Whole upto tomb_before) = clean upto tomb_before
+cleaned (Part part) = clean_part part
+
+abbrev pub reported : Cleaning → Content → CleanReport
+reported (Whole upto tomb_before) = clean_report upto tomb_before
+reported (Part part) = part_report part
 
 -- the outcome of a cleaning
 abbrev pub clean_outcome : Result CleanReport AllocError → Result Outcome EventError

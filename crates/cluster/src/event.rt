@@ -1,7 +1,7 @@
 //! What may happen in a cluster, and what comes of it.
 
 use batch_codec::BatchError;
-use content::{CleanReport, Delivered};
+use content::{CleanReport, CleaningPart, Delivered};
 use partition_log::{AppendError, TrimError};
 use std::alloc::{AllocError, Allocator};
 use thiserror::Error;
@@ -30,6 +30,13 @@ pub enum Event<A: Allocator + Copy> {
         upto: i64,
         /// Tombstones whose offset is below this may go; any number.
         tomb_before: i64,
+    },
+    /// A part of a copy is cleaned.
+    CleanPart {
+        /// The copy.
+        copy: usize,
+        /// The part; its bounds may be any numbers.
+        part: CleaningPart,
     },
     /// A copy is written as an image, which is kept.
     Send {

@@ -4,6 +4,7 @@ ghost use Rattle.std.specs.Prelude.{◌≡◌, IfOk, OnErr};
 ghost use Rattle.cluster.specs.Events.{Steps, Runs};
 ghost use Rattle.cluster.specs.Headline.{Headline, HoldsOnTheWay};
 
+use crate::cleaning::Cleaning;
 use crate::cluster::Cluster;
 use crate::event::{Event, EventError, Outcome};
 use segment::BatchStore;
@@ -21,7 +22,14 @@ impl<S: BatchStore> Cluster<S> {
                 copy,
                 upto,
                 tomb_before,
-            } => self.clean(*copy, *upto, *tomb_before),
+            } => self.clean(
+                *copy,
+                Cleaning::Whole {
+                    upto: *upto,
+                    tomb_before: *tomb_before,
+                },
+            ),
+            Event::CleanPart { copy, part } => self.clean(*copy, Cleaning::Part(*part)),
             Event::Send { copy } => self.send(*copy),
             Event::Merge { copy, image } => self.merge(*copy, *image),
             Event::Trim { copy, start } => self.trim(*copy, *start),

@@ -6,6 +6,7 @@ pub mod Content
 pub mod Windows
 pub mod Verdicts
 pub mod Cleaning
+pub mod Parts
 pub mod Joins
 pub mod Logs
 pub mod Copies

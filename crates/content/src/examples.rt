@@ -11,7 +11,8 @@ ghost use Rattle.content.specs.Windows.{heads, producer_window};
 ghost use Rattle.content.specs.Verdicts.{verdict};
 ghost use Rattle.content.specs.Joins.{join, AgreeAt};
 ghost use Rattle.content.specs.Cleaning.{clean, clean_report};
-ghost use Rattle.content.specs.Examples.{key_a, key_b, two, three, entry, batch_0, batch_1, batch_2, batch_3, other_0, only_0_seen, three_then_one, copy_of_three, cleaned_three, cut_at_2, twice_a, thin_a, cleaned_twice_a, a_b_a_b, latest_a_b, five_and_one, sixth, copy_of_four, last_possible};
+ghost use Rattle.content.specs.Parts.{part_of, clean_part, part_report};
+ghost use Rattle.content.specs.Examples.{key_a, key_b, two, three, entry, batch_0, batch_1, batch_2, batch_3, other_0, only_0_seen, three_then_one, copy_of_three, cleaned_three, part_below_2, deleted_a, first_part_cleaned, cut_at_2, twice_a, thin_a, cleaned_twice_a, a_b_a_b, latest_a_b, five_and_one, sixth, copy_of_four, last_possible};
 
 /// Deliveries in any order, and one that comes again.
 pub fn deliveries()
@@ -60,6 +61,24 @@ pub fn a_thinned_batch()
     ensures a_is_2 { get (shown_table cleaned_twice_a) key_a ≡ two }
 {}
 
+/// A part keeps a tombstone while an older record of its key stands before the part. Otherwise that
+/// record would show again.
+pub fn a_tombstone_in_a_part()
+    ensures tombstone_stays { clean_part (part_below_2 (pos 1) (pos 2)) deleted_a ≡ deleted_a }
+    ensures reports_nothing { part_report (part_below_2 (pos 1) (pos 2)) deleted_a
+        ≡ record { records = 0; tombstones = 0; batches = 0 } }
+    ensures both_go_from_the_start { (clean_part (part_below_2 (pos 0) (pos 2)) deleted_a).kept ≡ [] }
+    ensures report_from_the_start { part_report (part_below_2 (pos 0) (pos 2)) deleted_a
+        ≡ record { records = 1; tombstones = 1; batches = 2 } }
+    // Cleaned from 0 on, and then from 1 on: by then the older record is gone.
+    ensures both_go_part_by_part { (clean_part (part_below_2 (pos 1) (pos 2)) first_part_cleaned).kept
+        ≡ [] }
+    ensures first_report { part_report (part_below_2 (pos 0) (pos 1)) deleted_a
+        ≡ record { records = 1; tombstones = 0; batches = 1 } }
+    ensures second_report { part_report (part_below_2 (pos 1) (pos 2)) first_part_cleaned
+        ≡ record { records = 0; tombstones = 1; batches = 1 } }
+{}
+
 /// A batch is cleaned as a whole, or not at all.
 pub fn reach()
     ensures bound_at_last_offset_cleans_nothing { clean (pos 3) (pos 0) (add empty a_b_a_b)
@@ -71,6 +90,10 @@ pub fn reach()
         ≡ record { records = 2; tombstones = 0; batches = 0 } }
     ensures offsets_stay_seen { (clean (pos 4) (pos 0) (add empty a_b_a_b)).cover
         ≡ (pos 0, pos 3) ∷ [] }
+    ensures part_from_within_it_cleans_nothing { clean_part (part_of (pos 4) (pos 0) (pos 1) (pos 4))
+        (add empty a_b_a_b) ≡ add empty a_b_a_b }
+    ensures part_to_within_it_cleans_nothing { clean_part (part_of (pos 4) (pos 0) (pos 0) (pos 3))
+        (add empty a_b_a_b) ≡ add empty a_b_a_b }
 {}
 
 /// A producer's newest five batches stay when they are empty, so that a retry is recognised.

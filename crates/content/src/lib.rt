@@ -16,9 +16,11 @@
 
 mod delivery;
 pub mod examples;
+mod part;
 mod report;
 mod verdict;
 
 pub use delivery::{DeliverError, Delivered};
+pub use part::CleaningPart;
 pub use report::CleanReport;
 pub use verdict::Verdict;

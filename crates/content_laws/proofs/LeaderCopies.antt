@@ -19,7 +19,9 @@ use Rattle.cover_ranges.proofs.RunEnds.{has_all_covers, covers_has_all}
 use Rattle.content.specs.ByOffset.{look_up, Rises}
 use Rattle.content.specs.Windows.{heads, is_in_window, window, heads_from, EpochsNeverFall}
 use Rattle.content.specs.Content.{Content, IsContent, has_seen_all, with_batch, HasSeenNone, add, cut, IsAcceptedStart}
+use Rattle.content.specs.declared.part.CleaningPart.{CleaningPart}
 use Rattle.content.specs.Cleaning.{clean}
+use Rattle.content.specs.Parts.{clean_part}
 use Rattle.content.specs.Logs.{IsPlainLog, IsBoundary, next_offset, is_inside, heads_inside}
 use Rattle.content.specs.LegalLogs.{IsNew, IsLegalAfter, IsLeaderCopy}
 use Rattle.content.specs.Copies.{IsCopy}
@@ -34,7 +36,7 @@ use Rattle.content_laws.proofs.CopyAdd.{copy_with_batch}
 use Rattle.content_laws.proofs.CopyGrow.{plain_front, last_base, copy_of_longer}
 use Rattle.content_laws.proofs.CopyCut.{copy_of_cut}
 use Rattle.content_laws.proofs.CopyStarts.{accepted_boundary, accepted_in_range}
-use Rattle.content_laws.proofs.CopyClean.{kept_heads, look_up-heads, rises-heads, copy_of_clean}
+use Rattle.content_laws.proofs.CopyClean.{kept_heads, look_up-heads, rises-heads, copy_of_clean, copy_of_part}
 
 -- ---- entries that pass a test
 
@@ -60,7 +62,7 @@ all_of_filter t q low (h ∷ later) rise each = by (q h) refl (all_of_filter t q
 
 pub window_of_copy : (c : Content) (log : Batches) (p : ℤ) → IsContent c → IsPlainLog log → IsCopy c log → pos 0 ≤ℤ p → EpochsNeverFall p (heads_inside c.cover log) → window (heads c.kept) p ≡ window (heads_inside c.cover log) p
 window_of_copy c log p content plain copy least falls =
-    ap (λ (hs : Heads). window hs p) (kept_heads (pos 0) (pos 0) c log content plain copy)
+    ap (λ (hs : Heads). window hs p) (kept_heads c log content plain copy)
     ∙ window_is p (pos 0) (filter test (heads_inside c.cover log)) (rises-filter base_of test (pos 0) (heads_inside c.cover log) rise)
     ∙ newest_part p test (heads_inside c.cover log) (never_falls_is p (heads_inside c.cover log) falls) (ap (list_all test) (sym (window_is p (pos 0) (heads_inside c.cover log) rise)) ∙ passes)
     ∙ sym (window_is p (pos 0) (heads_inside c.cover log) rise)
@@ -142,6 +144,13 @@ module _ (c : Content) (log : Batches) (content : IsContent c) (plain : IsPlainL
 pub leader_clean : (u d : ℤ) (c : Content) (log : Batches) → IsContent c → IsPlainLog log → IsLeaderCopy c log → IsLeaderCopy (clean u d c) log
 leader_clean u d c log content plain leads = record {
   copy = copy_of_clean u d c log content plain leads.copy;
+  whole = leads.whole;
+  legal = leads.legal;
+}
+
+pub leader_part : (p : CleaningPart) (c : Content) (log : Batches) → IsContent c → IsPlainLog log → IsLeaderCopy c log → IsLeaderCopy (clean_part p c) log
+leader_part p c log content plain leads = record {
+  copy = copy_of_part p c log content plain leads.copy;
   whole = leads.whole;
   legal = leads.legal;
 }

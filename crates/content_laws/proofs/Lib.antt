@@ -17,7 +17,10 @@ pub mod CopyParts
 pub mod CopyAdd
 pub mod CopyGrow
 pub mod CopyCut
+pub mod Sweeps
 pub mod CopyClean
+pub mod AdjacentParts
+pub mod CleaningParts
 pub mod CopyStarts
 pub mod CopyJoin
 pub mod LeaderCopies

@@ -5,7 +5,9 @@ ghost use Rattle.batch_codec.specs.Values.{BatchValue};
 ghost use Rattle.batch_codec.specs.Offsets.{first_offset};
 ghost use Rattle.content.specs.ByOffset.{look_up};
 ghost use Rattle.content.specs.Content.{Content, IsContent, IsAcceptedStart, empty, add, cut};
+ghost use Rattle.content.specs.declared.part.CleaningPart.{CleaningPart};
 ghost use Rattle.content.specs.Cleaning.{clean};
+ghost use Rattle.content.specs.Parts.{clean_part};
 ghost use Rattle.content.specs.Joins.{join, Agree};
 ghost use Rattle.content.specs.Logs.{IsPlainLog, IsBoundary};
 ghost use Rattle.content.specs.Copies.{IsCopy};
@@ -27,6 +29,12 @@ pub fn adding_leaves_a_copy()
 pub fn cleaning_leaves_a_copy()
     ensures { (upto tomb_before : ℤ) (c : Content) (log : List BatchValue)
         → IsContent c → IsPlainLog log → IsCopy c log → IsCopy (clean upto tomb_before c) log }
+{}
+
+/// A copy of which a part is cleaned, with any bounds, stays a copy of its log.
+pub fn cleaning_a_part_leaves_a_copy()
+    ensures { (p : CleaningPart) (c : Content) (log : List BatchValue)
+        → IsContent c → IsPlainLog log → IsCopy c log → IsCopy (clean_part p c) log }
 {}
 
 /// A copy whose start moves to where its log may start, or to any start that is accepted of it, stays

@@ -9,5 +9,6 @@ pub mod copies;
 pub mod joins;
 pub mod legal_logs;
 pub mod lists;
+pub mod parts;
 pub mod producer_windows;
 pub mod shown_tables;

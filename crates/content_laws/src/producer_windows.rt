@@ -8,7 +8,9 @@ ghost use Rattle.batch_codec.specs.Values.{BatchValue};
 ghost use Rattle.cover_ranges.specs.Runs.{Runs, covers, IsCanonical};
 ghost use Rattle.content.specs.ByOffset.{Rises};
 ghost use Rattle.content.specs.Content.{Content, IsContent, add, cut, IsAcceptedStart};
+ghost use Rattle.content.specs.declared.part.CleaningPart.{CleaningPart};
 ghost use Rattle.content.specs.Cleaning.{clean};
+ghost use Rattle.content.specs.Parts.{clean_part};
 ghost use Rattle.content.specs.Logs.{IsPlainLog, heads_inside};
 ghost use Rattle.content.specs.Copies.{IsCopy};
 ghost use Rattle.content.specs.Verdicts.{verdict_on};
@@ -76,14 +78,16 @@ pub fn a_leaders_verdict_is_its_logs()
         → verdict_on (heads c.kept) h ≡ verdict_on (heads_from c.start (heads log)) h }
 {}
 
-/// A leader's copy stays one when a new batch is appended to its log and added, when it is cleaned, and
-/// when its start moves to one that is accepted.
+/// A leader's copy stays one when a new batch is appended to its log and added, when it or a part of it is
+/// cleaned, and when its start moves to one that is accepted.
 pub fn a_leaders_copy_stays_one()
     ensures appending { (c : Content) (b : BatchValue) (log : List BatchValue) → IsContent c
         → IsPlainLog (log ++ b ∷ []) → IsLeaderCopy c log → IsNew (heads log) c.start b.head
         → IsLeaderCopy (add c b) (log ++ b ∷ []) }
     ensures cleaning { (upto tomb_before : ℤ) (c : Content) (log : List BatchValue) → IsContent c
         → IsPlainLog log → IsLeaderCopy c log → IsLeaderCopy (clean upto tomb_before c) log }
+    ensures cleaning_a_part { (p : CleaningPart) (c : Content) (log : List BatchValue) → IsContent c
+        → IsPlainLog log → IsLeaderCopy c log → IsLeaderCopy (clean_part p c) log }
     ensures trimming { (c : Content) (start : ℤ) (log : List BatchValue) → IsContent c
         → IsPlainLog log → IsLeaderCopy c log → IsAcceptedStart c start
         → IsLeaderCopy (cut start c) log }

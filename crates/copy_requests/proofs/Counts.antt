@@ -1,6 +1,6 @@
 -- The counts of a cleaning's report are small: a copy has at most one record at each offset, and each batch has an offset.
-use Rattle.std.proofs.Common.{◌≡◌, ℕ, ◌+◌, ◌≤◌, ◌^◌, ℤ, pos, ◌+ℤ◌, Bool, true, false, cond, List, [], ◌∷◌, length, Result, Ok, Err, sym, ap, subst, ◌∙◌, arith}
-use Rattle.std.specs.Prelude.{◌≤ℤ◌, ◌<ℤ◌, ◌&&◌, not, IfOk, OnOk, OnErr, map, count_by}
+use Rattle.std.proofs.Common.{◌≡◌, ℕ, ◌+◌, ◌≤◌, ◌<◌, ◌^◌, ℤ, pos, ◌+ℤ◌, Bool, true, false, cond, List, [], ◌∷◌, length, Result, Ok, Err, sym, ap, subst, ◌∙◌, arith}
+use Rattle.std.specs.Prelude.{◌-◌, ◌≤ℤ◌, ◌<ℤ◌, ◌&&◌, not, IfOk, OnOk, OnErr, map, count_by}
 use Rattle.std.specs.List.{AllByRecursion, filter}
 use Rattle.std.proofs.lemmas.Int.{ints}
 use Rattle.std.proofs.lemmas.List.{length-append, length-map}
@@ -10,12 +10,17 @@ use Rattle.batch_codec.specs.Values.{BatchValue}
 use Rattle.batch_codec.specs.Offsets.{first_offset, last_offset, offset_of, SpansRise}
 use Rattle.batch_codec.proofs.Encoded.{count_le_last}
 use Rattle.content.specs.Records.{LogRecord, log_records, IsKeepable}
+use Rattle.content.specs.declared.part.CleaningPart.{CleaningPart}
 use Rattle.content.specs.declared.report.CleanReport.{CleanReport}
-use Rattle.content.specs.Cleaning.{clean, clean_report, is_cleanable, is_superseded, is_removable_tombstone, cleanable_records}
+use Rattle.content.specs.Cleaning.{clean_report, is_cleanable, is_superseded, is_removable_tombstone}
+use Rattle.content.specs.Parts.{part_report, is_in_part, is_expired_in_part}
 use Rattle.content.specs.Content.{Content, IsContent}
 use Rattle.content_laws.proofs.ByOffset.{all_from_at}
 use Rattle.content_laws.proofs.Slots.{bases_rise}
 use Rattle.copy_deltas.proofs.Below.{kept_in_range}
+use Rattle.copy_requests.specs.declared.clean.Cleaning.{Cleaning}
+use Rattle.copy_requests.specs.declared.clean.Cleaning.TheVariants.{Whole, Part}
+use Rattle.copy_requests.specs.Clean.{cleaned, cleaning_report}
 use Rattle.copy_requests.specs.Outcomes.{CountsFit, Cleans}
 
 count_within : {X : Type 0} (p : X → Bool) (xs : List X) → count_by p xs ≤ length xs
@@ -64,23 +69,45 @@ records_within from (b ∷ bs) rise keep ends le =
 kept_end : (c : Content) → IsContent c → AllByRecursion EndsBelow c.kept
 kept_end c is = all_from_at first_offset EndsBelow c.start c.kept (bases_rise c is) (λ b there. (kept_in_range c (first_offset b) b is there).1)
 
-pub counts_fit : (upto tomb_before : ℤ) (c : Content) → IsContent c → CountsFit (clean_report upto tomb_before c)
-counts_fit upto tomb_before c is =
+-- of the batches in reach no more records can go than the content has
+count_reached : (c : Content) → IsContent c → (reaches : BatchValue → Bool) (goes : LogRecord → Bool) → count_by goes (log_records (filter reaches c.kept)) < 2 ^ 63
+count_reached c is reaches goes =
     let low = is.in_range.0 in
-    let few = records_within c.start c.kept is.disjoint is.keepable (kept_end c is) is.in_range.1 in
-    let all = few.0 in
-    let batches = few.1 in
-    let cleanable : length (cleanable_records c upto) ≤ length (log_records c.kept) = fewer_records (is_cleanable upto) c.kept in
-    record {
-      records = omega (arith, ints, all, low, cleanable, count_within (is_superseded c upto) (cleanable_records c upto));
-      tombstones = omega (arith, ints, all, low, cleanable, count_within (λ x. not (is_superseded c upto x) && is_removable_tombstone c tomb_before x) (cleanable_records c upto));
-      batches = omega (arith, ints, batches, low);
-    }
+    let all = (records_within c.start c.kept is.disjoint is.keepable (kept_end c is) is.in_range.1).0 in
+    let reached : length (log_records (filter reaches c.kept)) ≤ length (log_records c.kept) = fewer_records reaches c.kept in
+    omega (arith, ints, all, low, reached, count_within goes (log_records (filter reaches c.kept)))
+
+count_batches : (c : Content) → IsContent c → length c.kept < 2 ^ 63
+count_batches c is =
+    let low = is.in_range.0 in
+    let batches = (records_within c.start c.kept is.disjoint is.keepable (kept_end c is) is.in_range.1).1 in
+    omega (arith, ints, batches, low)
+
+fewer_batches : (n m : ℕ) → n < 2 ^ 63 → n - m < 2 ^ 63
+fewer_batches n m small = omega (arith, small)
+
+whole_counts_fit : (upto tomb_before : ℤ) (c : Content) → IsContent c → CountsFit (clean_report upto tomb_before c)
+whole_counts_fit upto tomb_before c is = record {
+  records = count_reached c is (is_cleanable upto) (is_superseded c upto);
+  tombstones = count_reached c is (is_cleanable upto) (λ x. not (is_superseded c upto x) && is_removable_tombstone c tomb_before x);
+  batches = fewer_batches (length c.kept) _ (count_batches c is);
+}
+
+part_counts_fit : (part : CleaningPart) (c : Content) → IsContent c → CountsFit (part_report part c)
+part_counts_fit part c is = record {
+  records = count_reached c is (is_in_part part) (is_superseded c part.upto);
+  tombstones = count_reached c is (is_in_part part) (λ x. not (is_superseded c part.upto x) && is_expired_in_part part c x);
+  batches = fewer_batches (length c.kept) _ (count_batches c is);
+}
+
+pub counts_fit : (cleaning : Cleaning) (c : Content) → IsContent c → CountsFit (cleaning_report cleaning c)
+counts_fit (Whole upto tomb_before) c is = whole_counts_fit upto tomb_before c is
+counts_fit (Part part) c is = part_counts_fit part c is
 
 -- what a cleaning comes to, its bounds passed by value
-pub cleans : {E : Type 0} (c after : Content) (upto tomb_before u d : ℤ) (r : Result CleanReport E) → IsContent c → u ≡ upto → d ≡ tomb_before
-    → OnOk r (after ≡ clean u d c) → IfOk r (λ report. report ≡ clean_report u d c) → OnErr r (after ≡ c) → Cleans upto tomb_before r c after
-cleans c after upto tomb_before u d (Ok report) is same_u same_d made told stays =
-    let report_is : report ≡ clean_report upto tomb_before c = told ∙ (λ i. clean_report (same_u i) (same_d i) c) in
-    (report_is, subst CountsFit (sym report_is) (counts_fit upto tomb_before c is), made ∙ (λ i. clean (same_u i) (same_d i) c))
-cleans c after upto tomb_before u d (Err e) is same_u same_d made told stays = stays
+pub cleans : {E : Type 0} (c after : Content) (cleaning passed : Cleaning) (r : Result CleanReport E) → IsContent c → passed ≡ cleaning
+    → OnOk r (after ≡ cleaned passed c) → IfOk r (λ report. report ≡ cleaning_report passed c) → OnErr r (after ≡ c) → Cleans cleaning r c after
+cleans c after cleaning passed (Ok report) is same made told stays =
+    let report_is : report ≡ cleaning_report cleaning c = told ∙ (λ i. cleaning_report (same i) c) in
+    (report_is, subst CountsFit (sym report_is) (counts_fit cleaning c is), made ∙ (λ i. cleaned (same i) c))
+cleans c after cleaning passed (Err e) is same made told stays = stays

@@ -1,7 +1,7 @@
 -- What the work of each request comes to, from what was done in its partition.
 use Rattle.std.proofs.Common.{◌≡◌, inl, inr, ℕ, ℤ, pos, true, List, [], ◌∷◌, ◌++◌, Option, Some, None, Result, Ok, Err, refl, sym, ap, subst, ◌∙◌}
 use Rattle.std.proofs.Common.{to_z}
-use Rattle.std.specs.Prelude.{not, is_none, is_some}
+use Rattle.std.specs.Prelude.{IfOk, not, is_none, is_some}
 use Rattle.std.specs.Int.{w64}
 use Rattle.std.specs.Borrow.{Bor}
 use Rattle.std.specs.declared.vec.Vec.{Vec}
@@ -12,10 +12,10 @@ use Rattle.std.specs.Option.{option_map, unwrap_or}
 use Rattle.content.specs.Content.{Content, empty}
 use Rattle.content.specs.declared.delivery.Delivered.{Delivered}
 use Rattle.request_frames.specs.Deliver.{DeliverValue}
-use Rattle.request_frames.specs.Clean.{CleanValue}
 use Rattle.request_frames.specs.Import.{ImportValue}
 use Rattle.answering.specs.declared.codes.ErrorCode.{ErrorCode}
 use Rattle.answering.specs.declared.codes.ErrorCode.TheVariants.{UnknownTopicOrPartition, CorruptMessage}
+use Rattle.answering.specs.declared.memory.Memory.{Memory}
 use Rattle.answering.specs.declared.memory.Memory.TheVariants.{Sufficed}
 use Rattle.answering.specs.declared.memory.Refused.{Refused}
 use Rattle.answering.specs.declared.memory.Refused.TheVariants.{Check, OutOfMemory}
@@ -28,11 +28,12 @@ use Rattle.broker_state.proofs.OwnContent.{unchanged_at}
 use Rattle.copy_images.specs.Reading.{image_at}
 use Rattle.copy_requests.specs.Deliver.{deliver_checks, deliver_work}
 use Rattle.copy_requests.specs.Deliver.Entries.{bytes_checks, DeliversBytesAt, delivered_answer}
-use Rattle.copy_requests.specs.Clean.{clean_result, clean_work}
+use Rattle.copy_requests.specs.declared.clean.Cleaning.{Cleaning}
+use Rattle.copy_requests.specs.Clean.{clean_result, clean_sent, cleaning_work}
 use Rattle.copy_requests.specs.Import.{import_role_fault, import_fault, imported, imported_answer, import_work}
 use Rattle.copy_requests.specs.Import.Images.{IsReadAs, place_checks}
 use Rattle.answering.specs.Work.{Work, answer_after, MayAnswer}
-use Rattle.answering.specs.Telling.{AnswersTold}
+use Rattle.answering.specs.Telling.{AnswersTold, WritesTold}
 use Rattle.answering.specs.Once.{WritesOnce}
 use Rattle.answering.specs.Doing.{FailsWork, DoesWork, DoesTold}
 use Rattle.copy_requests.specs.Export.{ExportResult}
@@ -114,8 +115,8 @@ unknown_fails s name p none = has_fault (not (is_known s name p)) UnknownTopicOr
 pub found_passes : (s : State) (name : List ℕ) (p : ℤ) (c : Content) → partition_at s name p ≡ Some c → (unknown s name p ≡ None) × (content_at s name p ≡ c)
 found_passes s name p c there = (known_passes s name p (ap is_some there), ap (λ o. unwrap_or o empty) there)
 
-pub clean_lacks_memory : (s after : State) (q : CleanValue) → is_known s q.topic q.partition ≡ true → after ≡ s → DoesTold (clean_work s q) clean_result (Err OutOfMemory) s after
-clean_lacks_memory s after q known same = (one_passes (unknown s q.topic q.partition) [] (known_passes s q.topic q.partition known), refl, same)
+pub clean_lacks_memory : (s after : State) (name : List ℕ) (p : ℤ) (cleaning : Cleaning) → is_known s name p ≡ true → after ≡ s → DoesTold (cleaning_work s name p cleaning) clean_result (Err OutOfMemory) s after
+clean_lacks_memory s after name p cleaning known same = (one_passes (unknown s name p) [] (known_passes s name p known), refl, same)
 
 -- ---- what is answered
 
@@ -131,14 +132,21 @@ pub written : {R S : Type 0} (sent : ℤ → R → List ℕ) (w : Work R S) (s a
 written sent w s after r n z out out' same may e = record { result = r; answers = may; appends = e ∙ ap (λ m. out ++ sent m r) same }
 
 -- the counts of a report are numbers of 64 bits
-pub clean_answers : (s after : State) (q : CleanValue) (report : CleanReport) → CountsFit report → DoesTold (clean_work s q) clean_result (Ok report) s after
-    → AnswersTold Sufficed (clean_work s q) s (record { code = pos 0; records = to_z w64 report.records; tombstones = to_z w64 report.tombstones; batches = to_z w64 report.batches }) after
-clean_answers s after q report fit did =
+pub clean_answers : (s after : State) (name : List ℕ) (p : ℤ) (cleaning : Cleaning) (report : CleanReport) → CountsFit report → DoesTold (cleaning_work s name p cleaning) clean_result (Ok report) s after
+    → AnswersTold Sufficed (cleaning_work s name p cleaning) s (record { code = pos 0; records = to_z w64 report.records; tombstones = to_z w64 report.tombstones; batches = to_z w64 report.batches }) after
+clean_answers s after name p cleaning report fit did =
     let records = to_z_pos w64 report.records fit.records in
     let tombstones = to_z_pos w64 report.tombstones fit.tombstones in
     let batches = to_z_pos w64 report.batches fit.batches in
-    subst (λ r. AnswersTold Sufficed (clean_work s q) s r after) (λ i. record { code = pos 0; records = sym records i; tombstones = sym tombstones i; batches = sym batches i })
-    (done_told (clean_work s q) clean_result report s after did)
+    subst (λ r. AnswersTold Sufficed (cleaning_work s name p cleaning) s r after) (λ i. record { code = pos 0; records = sym records i; tombstones = sym tombstones i; batches = sym batches i })
+    (done_told (cleaning_work s name p cleaning) clean_result report s after did)
+
+-- what is written for a cleaning whose numbers were passed by value
+pub cleaning_writes : {E : Type 0} (r : Result Memory E) (n z : ℤ) (s after : State) (name : List ℕ) (p p' : ℤ) (cleaning passed : Cleaning) (out out' : List ℕ) → z ≡ n → p' ≡ p → passed ≡ cleaning
+    → IfOk r (λ memory. WritesTold (clean_sent z) (cleaning_work s name p' passed) s out out' memory after) → IfOk r (λ memory. WritesTold (clean_sent n) (cleaning_work s name p cleaning) s out out' memory after)
+cleaning_writes r n z s after name p p' cleaning passed out out' same_n same_p same h =
+    subst (λ (k : ℤ × (ℤ × Cleaning)). IfOk r (λ memory. WritesTold (clean_sent k.0) (cleaning_work s name k.1.0 k.1.1) s out out' memory after))
+    (λ i. (same_n i, (same_p i, same i))) h
 
 -- ---- what requests that only read find
 

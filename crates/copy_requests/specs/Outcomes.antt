@@ -6,13 +6,14 @@ use Rattle.content.specs.declared.delivery.Delivered.TheVariants.{Added, Repeat}
 use Rattle.content.specs.declared.delivery.DeliverError.{DeliverError}
 use Rattle.content.specs.declared.delivery.DeliverError.TheVariants.{OutOfMemory}
 use Rattle.content.specs.declared.report.CleanReport.{CleanReport}
-use Rattle.content.specs.Cleaning.{clean, clean_report}
 use Rattle.content.specs.Content.{Content, has_seen_all, add, cut}
 use Rattle.deltas.specs.Patches.{patch}
 use Rattle.answering.specs.declared.codes.ErrorCode.{ErrorCode}
 use Rattle.answering.specs.declared.memory.Refused.{Refused}
 use Rattle.answering.specs.declared.memory.Refused.TheVariants as refused
 use Rattle.broker_state.specs.declared.config.Role.{Role}
+use Rattle.copy_requests.specs.declared.clean.Cleaning.{Cleaning}
+use Rattle.copy_requests.specs.Clean.{cleaned, cleaning_report}
 use Rattle.copy_requests.specs.Deliver.{deliver_fault}
 use Rattle.answering.specs.Lists.{first_some}
 use Rattle.copy_requests.specs.Import.{import_fault, imported}
@@ -41,10 +42,10 @@ pub record CountsFit (report : CleanReport) : Type 0 where
   pub tombstones : report.tombstones < 2 ^ 63
   pub batches : report.batches < 2 ^ 63
 
-abbrev pub Cleans : {E : Type 0} → (upto tomb_before : ℤ) → Result CleanReport E → Content → Content → Type 0
-Cleans upto tomb_before (Ok report) c after =
-    (report ≡ clean_report upto tomb_before c) × CountsFit report × (after ≡ clean upto tomb_before c)
-Cleans upto tomb_before (Err e) c after = after ≡ c
+abbrev pub Cleans : {E : Type 0} → Cleaning → Result CleanReport E → Content → Content → Type 0
+Cleans cleaning (Ok report) c after =
+    (report ≡ cleaning_report cleaning c) × CountsFit report × (after ≡ cleaned cleaning c)
+Cleans cleaning (Err e) c after = after ≡ c
 
 -- the content that comes is taken, or refused for its fault, or there is no memory
 abbrev pub Imports : Role → (given : Content) → Result (Unit {0}) Refused → Content → Content → Type 0

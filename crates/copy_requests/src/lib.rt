@@ -18,7 +18,7 @@ mod import_delta;
 mod laws;
 mod trim;
 
-pub use clean::reply_to_clean;
+pub use clean::{Cleaning, reply_to_clean, reply_to_clean_part};
 pub use cover::{MAX_COVER_RUNS, reply_to_cover};
 pub use deliver::reply_to_deliver;
 pub use export::{MAX_EXPORT_BYTES, reply_to_export};

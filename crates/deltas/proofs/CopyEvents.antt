@@ -9,11 +9,11 @@ use Rattle.content.specs.ByOffset.{look_up}
 use Rattle.content.specs.Content.{Content, IsContent, IsAcceptedStart, HasSeenNone, has_seen_all, with_batch, add, cut}
 use Rattle.content.specs.Joins.{join, Agree}
 use Rattle.content.specs.Logs.{IsPlainLog}
-use Rattle.content_laws.proofs.ContentSteps.{content_with_batch, content_cut, content_clean, content_join}
+use Rattle.content_laws.proofs.ContentSteps.{content_with_batch, content_cut, content_clean, content_part, content_join}
 use Rattle.content_laws.proofs.PlainLogs.{log_batch}
 use Rattle.content_laws.proofs.CopyFacts.{all_or_none}
 use Rattle.content_laws.proofs.CopyAdd.{copy_with_batch}
-use Rattle.content_laws.proofs.CopyClean.{copy_of_clean}
+use Rattle.content_laws.proofs.CopyClean.{copy_of_clean, copy_of_part}
 use Rattle.content_laws.proofs.CopyCut.{copy_of_cut}
 use Rattle.content_laws.proofs.CopyStarts.{accepted_boundary, accepted_in_range}
 use Rattle.content_laws.proofs.CopyJoin.{copies_agree, copy_of_join}
@@ -22,7 +22,7 @@ use Rattle.deltas.specs.Deltas.{delta_of}
 use Rattle.deltas.specs.Patches.{patch}
 use Rattle.deltas.specs.Accepting.{IsKnown, IsFor, Accepts}
 use Rattle.deltas.specs.Exchanges.{IsContentOf, Event, after, MayHappen, after_all, MayAllHappen}
-use Rattle.deltas.specs.Exchanges.Event.{Delivered, Cleaned, Trimmed, Merged, MergedInto, Patched}
+use Rattle.deltas.specs.Exchanges.Event.{Delivered, Cleaned, CleanedPart, Trimmed, Merged, MergedInto, Patched}
 use Rattle.deltas.proofs.DeltaMerges.{patch_is_join_agree}
 use Rattle.deltas.proofs.Accepted.{delta_accepted}
 use Rattle.deltas.proofs.Known.{add_knows, cut_knows, join_knows_left, join_knows_right, patch_knows}
@@ -69,6 +69,7 @@ copy_patched log x y asked plain is_x is_y canonical knows = subst (IsContentOf 
 event_keeps : (log : Log) (c : Content) (event : Event) → IsPlainLog log → IsContentOf log c → MayHappen log c event → IsContentOf log (after c event)
 event_keeps log c (Delivered b) plain is may = added log c b plain is may
 event_keeps log c (Cleaned upto tomb_before) plain is may = (content_clean upto tomb_before c is.0, copy_of_clean upto tomb_before c log is.0 plain is.1)
+event_keeps log c (CleanedPart p) plain is may = (content_part p c is.0, copy_of_part p c log is.0 plain is.1)
 event_keeps log c (Trimmed start) plain is may = trimmed log c start plain is may
 event_keeps log c (Merged other) plain is may = joined log c other plain is may
 event_keeps log c (MergedInto other) plain is may = joined log other c plain may is
@@ -77,6 +78,7 @@ event_keeps log c (Patched other asked) plain is may = copy_patched log other c 
 event_knows : (log : Log) (c : Content) (event : Event) (o : ℤ) → MayHappen log c event → IsKnown c o → IsKnown (after c event) o
 event_knows log c (Delivered b) o may knows = add_knows c b o knows
 event_knows log c (Cleaned upto tomb_before) o may knows = knows
+event_knows log c (CleanedPart p) o may knows = knows
 event_knows log c (Trimmed start) o may knows = cut_knows c start o may.from_start knows
 event_knows log c (Merged other) o may knows = join_knows_left c other o knows
 event_knows log c (MergedInto other) o may knows = join_knows_right other c o knows

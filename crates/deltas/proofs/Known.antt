@@ -8,7 +8,9 @@ use Rattle.batch_codec.specs.Offsets.{first_offset, last_offset}
 use Rattle.cover_ranges.specs.Runs.{covers, is_within}
 use Rattle.cover_ranges.proofs.RunSets.{range_covers, cut_covers}
 use Rattle.content.specs.Content.{Content, has_seen_all, with_batch, add, cut}
+use Rattle.content.specs.declared.part.CleaningPart.{CleaningPart}
 use Rattle.content.specs.Cleaning.{clean}
+use Rattle.content.specs.Parts.{clean_part}
 use Rattle.content.specs.Joins.{greater_start, join}
 use Rattle.content_laws.proofs.Slots.{join_start, join_covers}
 use Rattle.deltas.specs.Deltas.{Delta}
@@ -32,6 +34,9 @@ add_knows c b o knows = by (has_seen_all c b)
 
 pub clean_knows : (upto tomb_before : ℤ) (c : Content) (o : ℤ) → IsKnown c o → IsKnown (clean upto tomb_before c) o
 clean_knows upto tomb_before c o knows = knows
+
+pub part_knows : (p : CleaningPart) (c : Content) (o : ℤ) → IsKnown c o → IsKnown (clean_part p c) o
+part_knows p c o knows = knows
 
 -- from a later start on, what was seen and more; in plain terms
 knows_from : (start o : ℤ) (old new more : Bool) → new ≡ ((old || more) && int_le start o) → old ≡ true → (o <ℤ start) ⊎ (new ≡ true)

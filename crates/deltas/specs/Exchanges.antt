@@ -4,9 +4,11 @@ use Rattle.std.specs.List.{fold}
 use Rattle.batch_codec.specs.Values.{BatchValue}
 use Rattle.batch_codec.specs.Offsets.{first_offset}
 use Rattle.cover_ranges.specs.Runs.{Runs, IsCanonical}
+use Rattle.content.specs.declared.part.CleaningPart.{CleaningPart}
 use Rattle.content.specs.ByOffset.{look_up}
 use Rattle.content.specs.Content.{Content, IsContent, IsAcceptedStart, add, cut}
 use Rattle.content.specs.Cleaning.{clean}
+use Rattle.content.specs.Parts.{clean_part}
 use Rattle.content.specs.Joins.{join}
 use Rattle.content.specs.Copies.{IsCopy}
 use Rattle.deltas.specs.Deltas.{delta_of}
@@ -22,6 +24,8 @@ pub data Event : Type 0 where
   Delivered : BatchValue → Event
   -- a cleaning with these two bounds
   Cleaned : ℤ → ℤ → Event
+  -- a part of a cleaning
+  CleanedPart : CleaningPart → Event
   -- the start moves
   Trimmed : ℤ → Event
   -- another copy is merged into this one
@@ -34,6 +38,7 @@ pub data Event : Type 0 where
 abbrev pub after : Content → Event → Content
 after c (Delivered b) = add c b
 after c (Cleaned upto tomb_before) = clean upto tomb_before c
+after c (CleanedPart p) = clean_part p c
 after c (Trimmed start) = cut start c
 after c (Merged other) = join c other
 after c (MergedInto other) = join other c
@@ -43,6 +48,7 @@ after c (Patched other asked) = patch c (delta_of other asked)
 abbrev pub MayHappen : List BatchValue → Content → Event → Type 0
 MayHappen log c (Delivered b) = look_up first_offset (first_offset b) log ≡ Some b
 MayHappen log c (Cleaned upto tomb_before) = Unit {0}
+MayHappen log c (CleanedPart p) = Unit {0}
 MayHappen log c (Trimmed start) = IsAcceptedStart c start
 MayHappen log c (Merged other) = IsContentOf log other
 MayHappen log c (MergedInto other) = IsContentOf log other

@@ -4,7 +4,9 @@ ghost use Rattle.std.specs.Prelude.{◌≡◌, ◌↔◌, ℤ, ◌≤ℤ◌, fal
 ghost use Rattle.cover_ranges.specs.Runs.{Runs};
 ghost use Rattle.batch_codec.specs.Values.{BatchValue};
 ghost use Rattle.content.specs.Content.{Content, IsContent, add, cut};
+ghost use Rattle.content.specs.declared.part.CleaningPart.{CleaningPart};
 ghost use Rattle.content.specs.Cleaning.{clean};
+ghost use Rattle.content.specs.Parts.{clean_part};
 ghost use Rattle.content.specs.Joins.{join};
 ghost use Rattle.deltas.specs.Deltas.{Delta};
 ghost use Rattle.deltas.specs.Patches.{patch};
@@ -16,6 +18,8 @@ pub fn what_is_known_stays_known()
     ensures adding { (c : Content) (b : BatchValue) (o : ℤ) → IsKnown c o → IsKnown (add c b) o }
     ensures cleaning { (upto tomb_before : ℤ) (c : Content) (o : ℤ) → IsKnown c o
         → IsKnown (clean upto tomb_before c) o }
+    ensures cleaning_a_part { (p : CleaningPart) (c : Content) (o : ℤ) → IsKnown c o
+        → IsKnown (clean_part p c) o }
     ensures cutting { (c : Content) (start o : ℤ) → c.start ≤ℤ start → IsKnown c o
         → IsKnown (cut start c) o }
     ensures merging { (a b : Content) (o : ℤ) → IsKnown a o → IsKnown (join a b) o }

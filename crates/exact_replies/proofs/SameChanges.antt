@@ -6,19 +6,17 @@ use Rattle.std.specs.Option.{option_map, unwrap_or}
 use Rattle.std.specs.Ordering.{int_eq}
 use Rattle.batch_codec.specs.Reading.{batch_of}
 use Rattle.content.specs.Content.{empty, add, cut, has_seen_all}
-use Rattle.content.specs.Cleaning.{clean, clean_report}
 use Rattle.deltas.specs.Patches.{patch}
 use Rattle.copy_images.specs.Reading.{image_at}
 use Rattle.frame_fields.specs.Types.{TopicOf, or_empty}
 use Rattle.request_frames.specs.Produce.{ProduceValue, ProducePartitionValue}
 use Rattle.request_frames.specs.OffsetCommit.{OffsetCommitValue, OffsetCommitPartitionValue}
 use Rattle.request_frames.specs.Deliver.{DeliverValue}
-use Rattle.request_frames.specs.Clean.{CleanValue}
 use Rattle.request_frames.specs.Import.{ImportValue}
 use Rattle.request_frames.specs.ImportDelta.{ImportDeltaValue}
 use Rattle.request_frames.specs.Trim.{TrimValue}
 use Rattle.request_frames.specs.Requests.{BodyValue, RequestValue}
-use Rattle.request_frames.specs.Requests.BodyValue.{produce, fetch, list_offsets, metadata, offset_commit, offset_fetch, find_coordinator, api_versions, init_producer_id, deliver, clean as cleaning, export, export_delta, import as importing, import_delta, get, cover, forget_group, trim}
+use Rattle.request_frames.specs.Requests.BodyValue.{produce, fetch, list_offsets, metadata, offset_commit, offset_fetch, find_coordinator, api_versions, init_producer_id, deliver, clean, clean_part, export, export_delta, import as importing, import_delta, get, cover, forget_group, trim}
 use Rattle.answering.specs.declared.codes.ErrorCode.{ErrorCode}
 use Rattle.answering.specs.declared.codes.ErrorCode.TheVariants.{UnknownTopicOrPartition, UnknownServerError, InvalidTransactionState, InvalidRequiredAcks, InvalidTopic, IllegalGeneration, OffsetMetadataTooLarge, InvalidRequest, CorruptMessage}
 use Rattle.answering.specs.Codes.{no_error}
@@ -38,7 +36,7 @@ use Rattle.group_requests.specs.ForgetGroup.{forget_group_checks, forgotten, for
 use Rattle.setup_requests.specs.InitProducerId.{id_answer, init_producer_id_work, init_producer_id_sent}
 use Rattle.broker_node.specs.Below.{deliver_code}
 use Rattle.broker_node.specs.Below.{deliver_fault, deliver_work, deliver_sent}
-use Rattle.broker_node.specs.Below.{clean_result, clean_work, clean_sent}
+use Rattle.broker_node.specs.Below.{Cleaning, Whole, Part, cleaned, cleaning_report, clean_result, asked_part, cleaning_work, clean_work, clean_part_work, clean_sent}
 use Rattle.broker_node.specs.Below.{import_role_fault, import_fault, imported, import_work, import_sent}
 use Rattle.broker_node.specs.Below.{given_delta, delta_faults, import_delta_work}
 use Rattle.broker_node.specs.Below.{trim_faults, trim_work, trim_sent}
@@ -185,15 +183,15 @@ module _ (s t : State) (hold : HoldTheSame s t) where
         failed = λ code. refl;
       }
 
-  clean_same : (q : CleanValue) → SameWork (clean_work s q) (clean_work t q)
-  clean_same q =
-      let c = content q.topic q.partition in
+  cleaning_same : (name : List ℕ) (p : ℤ) (cleaning : Cleaning) → SameWork (cleaning_work s name p cleaning) (cleaning_work t name p cleaning)
+  cleaning_same name p cleaning =
+      let c = content name p in
       record {
-        early = λ i. unknown_same q.topic q.partition i ∷ [];
+        early = λ i. unknown_same name p i ∷ [];
         late = refl;
         done = (
-          (λ i. clean_result (clean_report q.upto q.tomb_before (c i))),
-          with_both s t hold q.topic q.partition (clean q.upto q.tomb_before (content_at s q.topic q.partition)) (clean q.upto q.tomb_before (content_at t q.topic q.partition)) (λ i. clean q.upto q.tomb_before (c i)),
+          (λ i. clean_result (cleaning_report cleaning (c i))),
+          with_both s t hold name p (cleaned cleaning (content_at s name p)) (cleaned cleaning (content_at t name p)) (λ i. cleaned cleaning (c i)),
         );
         failed = λ code. refl;
       }
@@ -256,7 +254,8 @@ body_same s t n (produce q) change hold = produce_reply s t n q hold
 body_same s t n (offset_commit q) change hold = commit_reply s t n q hold
 body_same s t n (init_producer_id id) change hold = once_same (init_producer_id_sent n) s t (init_producer_id_work s id) (init_producer_id_work t id) hold (init_same s t hold id)
 body_same s t n (deliver q) change hold = once_same (deliver_sent n) s t (deliver_work s q) (deliver_work t q) hold (deliver_same s t hold q)
-body_same s t n (cleaning q) change hold = once_same (clean_sent n) s t (clean_work s q) (clean_work t q) hold (clean_same s t hold q)
+body_same s t n (clean q) change hold = once_same (clean_sent n) s t (clean_work s q) (clean_work t q) hold (cleaning_same s t hold q.topic q.partition (Whole q.upto q.tomb_before))
+body_same s t n (clean_part q) change hold = once_same (clean_sent n) s t (clean_part_work s q) (clean_part_work t q) hold (cleaning_same s t hold q.topic q.partition (Part (asked_part q)))
 body_same s t n (importing q) change hold = once_same (import_sent n) s t (import_work s q) (import_work t q) hold (import_same s t hold q)
 body_same s t n (import_delta q) change hold = once_same (import_sent n) s t (import_delta_work s q) (import_delta_work t q) hold (import_delta_same s t hold q)
 body_same s t n (forget_group name) change hold = once_same (forget_group_sent n) s t (forget_group_work s name) (forget_group_work t name) hold (forget_same s t hold name)

@@ -1,12 +1,15 @@
 //! Laws about the definitions alone. The functions do nothing: what they ensure is the law.
 
-ghost use Rattle.std.specs.Prelude.{◌≡◌, ℕ, false, true, List, Option};
+ghost use Rattle.std.specs.Prelude.{◌≡◌, ◌⊎◌, ℕ, false, true, List, Option};
 ghost use Rattle.request_frames.specs.Requests.{RequestValue};
+ghost use Rattle.request_frames.specs.Requests.BodyValue.{produce, offset_commit};
+ghost use Rattle.request_frames.specs.Produce.{ProduceValue};
+ghost use Rattle.request_frames.specs.OffsetCommit.{OffsetCommitValue};
 ghost use Rattle.broker_state.specs.State.{ConfigValue, State, new_state};
 ghost use Rattle.answering.specs.declared.memory.Memory.TheVariants.{Sufficed};
 ghost use Rattle.broker_node.specs.Effects.{may_change};
 ghost use Rattle.broker_node.specs.Replies.{IsReply, MayReply};
-ghost use Rattle.broker_node.specs.Exactly.{HandlesExactly};
+ghost use Rattle.broker_node.specs.Exactly.{HandlesExactly, LacksMemoryInPart};
 ghost use Rattle.exact_replies.specs.SameHeld.{AskForTheSame, HoldTheSame};
 
 /// In one state a request has one exact reply, and one state comes of it.
@@ -26,6 +29,15 @@ pub fn handled_again_it_leaves_the_same()
 pub fn reading_changes_nothing()
     ensures unchanged { (s after : State) (q : RequestValue) (out : Option (List ℕ))
         → may_change q.body ≡ false → MayReply s q out after → after ≡ s }
+{}
+
+/// For want of memory a Produce or an OffsetCommit may be done in part, and no other request: a cleaning, say, is done, or
+/// nothing is.
+pub fn only_entries_are_done_in_part()
+    ensures is_of_entries { (s after : State) (q : RequestValue) (out : Option (List ℕ))
+        → may_change q.body ≡ true → LacksMemoryInPart s q out after
+        → ((v : ProduceValue) × (q.body ≡ produce v))
+        ⊎ ((v : OffsetCommitValue) × (q.body ≡ offset_commit v)) }
 {}
 
 /// Two brokers that hold the same, wherever clients reach them and in whatever order they have their topics, answer a

@@ -20,6 +20,7 @@ use Rattle.partition_log.specs.Appends.{at_end, kept_verdict}
 use Rattle.partition_log.proofs.Behind.{below_end}
 use Rattle.broker_state.specs.Batches.{appended, appended_by}
 use Rattle.fetch_waits.specs.Sleeping.{GrowsBy}
+use Rattle.fetch_waits.proofs.Left.{all_left}
 use Rattle.fetch_waits.proofs.Sleeping.{grows_nothing, grows_twice}
 
 -- ---- runs, and batches, below an offset
@@ -92,7 +93,7 @@ pub record Grown (old new : Content) : Type 0 where
 pub grown_same : (c : Content) → Ends c → Grown c c
 grown_same c ends = record { more = 0; grows = grows_nothing c c refl; ends = ends }
 
-grown_twice : (a b c : Content) → Grown a b → Grown b c → Grown a c
+pub grown_twice : (a b c : Content) → Grown a b → Grown b c → Grown a c
 grown_twice a b c first second =
     record { more = first.more + second.more; grows = grows_twice a b c first.more second.more first.grows second.grows; ends = second.ends }
 
@@ -110,12 +111,14 @@ module _ (c : Content) (b : BatchValue) (ends : Ends c) (first : first_offset b 
   with_last some = let end_is : end (with_batch c b) ≡ (last_offset b +ℤ pos 1) = (last some).0 in record {
     more = length (flat_map batch_encoding (b ∷ []));
     grows = record {
+      left = c.kept;
       batches = b ∷ [];
       start = refl;
+      are_left = all_left c.kept;
       kept = put_last b c.kept below;
       behind = (some, tt);
       ends = omega (arith, ints, some, end_is);
-      bytes = refl;
+      bytes = omega arith;
     };
     ends = record {
       runs = subst (λ (o : ℤ). RunsBelow o (with_batch c b).cover) (sym end_is) (last some).1;

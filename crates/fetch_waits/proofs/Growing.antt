@@ -1,4 +1,4 @@
--- A Fetch that waits, waits on where its partitions grow by less than is missing, and no limit leaves out a batch.
+-- A Fetch that waits, waits on where its partitions are cleaned, and grow by less than is missing, and no limit leaves out a batch.
 use Rattle.std.proofs.Common.{◌≡◌, ℕ, ℤ, ◌+◌, ◌-◌, ◌<◌, ◌≤◌, ◌≤ℤ◌, ◌⊎◌, inl, inr, arith, suc, min, not, Bool, true, false, List, [], ◌∷◌, ◌++◌, length, drop, take, Option, Some, None, is_some, sym, ap, subst, refl, ◌∙◌, append-nil}
 use Rattle.std.specs.Prelude.{◌&&◌, ⊤, nat_lt, nat_eq, int_lt, int_le, if◌then◌else◌, pos}
 use Rattle.std.specs.Option.{option_and_then}
@@ -31,64 +31,60 @@ use Rattle.fetch_waits.specs.Waiting.Entries.{left_behind, left_by_entry, left_b
 use Rattle.fetch_waits.specs.Sleeping.{AreBehind, GrowsBy, Growths}
 use Rattle.fetch_waits.proofs.Entry.{is_fault}
 use Rattle.fetch_waits.proofs.Lacking.{lacks_is}
+use Rattle.fetch_waits.proofs.Left.{GivesAll, from_here, from_later, from_left, from_nowhere, from_offset, left_bytes, left_given}
 use Rattle.fetch_waits.proofs.Limits.{all_fetched}
 use Rattle.fetch_waits.proofs.Runs.{some_of}
 
 -- ---- batches at the end of a log
 
-here : (offset : ℤ) (b : BatchValue) (bs : List BatchValue) → int_le offset (last_offset b) ≡ true → first_from offset (b ∷ bs) ≡ 0
-unfolding first_from
-here offset b bs is = ap (λ (t : Bool). if t then 0 else suc (first_from offset bs)) is
-
-later : (offset : ℤ) (b : BatchValue) (bs : List BatchValue) → int_le offset (last_offset b) ≡ false → first_from offset (b ∷ bs) ≡ suc (first_from offset bs)
-unfolding first_from
-later offset b bs is = ap (λ (t : Bool). if t then 0 else suc (first_from offset bs)) is
-
-nowhere : (offset : ℤ) → first_from offset [] ≡ 0
-unfolding first_from
-nowhere offset = refl
-
-all_behind : (offset : ℤ) (bs : List BatchValue) → AreBehind offset bs → drop (first_from offset bs) bs ≡ bs
-all_behind offset [] behind = ap (λ (n : ℕ). drop n []) (nowhere offset)
+all_behind : (offset : ℤ) (bs : List BatchValue) → AreBehind offset bs → from_offset offset bs ≡ bs
+all_behind offset [] behind = from_nowhere offset
 all_behind offset (b ∷ bs) behind =
     let is : int_le offset (last_offset b) ≡ true = grind (arith, ints, behind.0) in
-    ap (λ (n : ℕ). drop n (b ∷ bs)) (here offset b bs is)
+    from_here offset b bs is
 
 from_before : (low high : ℤ) (bs : List BatchValue) → low ≤ℤ high → AreBehind high bs → AreBehind low bs
 from_before low high [] less behind = tt
 from_before low high (b ∷ bs) less behind = (omega (arith, ints, less, behind.0), from_before low high bs less behind.1)
 
-dropped_more : (offset : ℤ) (xs bs : List BatchValue) → AreBehind offset bs → drop (first_from offset (xs ++ bs)) (xs ++ bs) ≡ drop (first_from offset xs) xs ++ bs
-dropped_more offset [] bs behind = all_behind offset bs behind ∙ ap (λ (n : ℕ). drop n [] ++ bs) (sym (nowhere offset))
+dropped_more : (offset : ℤ) (xs bs : List BatchValue) → AreBehind offset bs → from_offset offset (xs ++ bs) ≡ from_offset offset xs ++ bs
+dropped_more offset [] bs behind = all_behind offset bs behind ∙ sym (ap (λ (ys : List BatchValue). ys ++ bs) (from_nowhere offset))
 dropped_more offset (x ∷ xs) bs behind = by (int_le offset (last_offset x)) refl (dropped_more offset xs bs behind) where
-  by : (t : Bool) → int_le offset (last_offset x) ≡ t → drop (first_from offset (xs ++ bs)) (xs ++ bs) ≡ drop (first_from offset xs) xs ++ bs
-      → drop (first_from offset (x ∷ (xs ++ bs))) (x ∷ (xs ++ bs)) ≡ drop (first_from offset (x ∷ xs)) (x ∷ xs) ++ bs
-  by true is rest =
-      ap (λ (n : ℕ). drop n (x ∷ (xs ++ bs))) (here offset x (xs ++ bs) is) ∙ sym (ap (λ (n : ℕ). drop n (x ∷ xs) ++ bs) (here offset x xs is))
-  by false is rest =
-      ap (λ (n : ℕ). drop n (x ∷ (xs ++ bs))) (later offset x (xs ++ bs) is) ∙ rest ∙ sym (ap (λ (n : ℕ). drop n (x ∷ xs) ++ bs) (later offset x xs is))
+  by : (t : Bool) → int_le offset (last_offset x) ≡ t → from_offset offset (xs ++ bs) ≡ from_offset offset xs ++ bs → from_offset offset (x ∷ (xs ++ bs)) ≡ from_offset offset (x ∷ xs) ++ bs
+  by true is rest = from_here offset x (xs ++ bs) is ∙ sym (ap (λ (ys : List BatchValue). ys ++ bs) (from_here offset x xs is))
+  by false is rest = from_later offset x (xs ++ bs) is ∙ rest ∙ sym (ap (λ (ys : List BatchValue). ys ++ bs) (from_later offset x xs is))
 
 -- the batches that a copy keeps from an offset on
 abbrev from : Content → ℤ → List BatchValue
-from c offset = drop (first_from offset c.kept) c.kept
+from c offset = from_offset offset c.kept
 
-from_grown : (c d : Content) (n : ℕ) (offset : ℤ) (grows : GrowsBy c d n) → offset ≤ℤ end c → from d offset ≡ from c offset ++ grows.batches
+from_grown : (c d : Content) (n : ℕ) (offset : ℤ) (grows : GrowsBy c d n) → offset ≤ℤ end c → from d offset ≡ from_offset offset grows.left ++ grows.batches
 from_grown c d n offset grows within =
-    ap (λ (kept : List BatchValue). drop (first_from offset kept) kept) grows.kept
-    ∙ dropped_more offset c.kept grows.batches (from_before offset (end c) grows.batches within grows.behind)
+    ap (from_offset offset) grows.kept ∙ dropped_more offset grows.left grows.batches (from_before offset (end c) grows.batches within grows.behind)
 
-pub bytes_grown : (c d : Content) (n : ℕ) (offset : ℤ) → GrowsBy c d n → offset ≤ℤ end c → length (bytes_from d offset) ≡ length (bytes_from c offset) + n
+parts_grown : (c d : Content) (n : ℕ) (offset : ℤ) (grows : GrowsBy c d n) → offset ≤ℤ end c → length (bytes_from d offset) ≡ bytes_of (from_offset offset grows.left) + bytes_of grows.batches
+parts_grown c d n offset grows within =
+    ap bytes_of (from_grown c d n offset grows within) ∙ ap length (flat_map-append batch_encoding (from_offset offset grows.left) grows.batches)
+    ∙ length-append (flat_map batch_encoding (from_offset offset grows.left)) (flat_map batch_encoding grows.batches)
+
+pub bytes_grown : (c d : Content) (n : ℕ) (offset : ℤ) → GrowsBy c d n → offset ≤ℤ end c → length (bytes_from d offset) ≤ length (bytes_from c offset) + n
 bytes_grown c d n offset grows within =
-    let sum = length-append (flat_map batch_encoding (from c offset)) (flat_map batch_encoding grows.batches) in
-    let parts = ap bytes_of (from_grown c d n offset grows within) ∙ ap length (flat_map-append batch_encoding (from c offset) grows.batches) in
-    omega (arith, sum, parts, grows.bytes)
+    let parts = parts_grown c d n offset grows within in
+    let fewer = left_bytes (from_offset offset grows.left) (from c offset) (from_left offset grows.left c.kept grows.are_left) in
+    omega (arith, parts, fewer, grows.bytes)
 
-none_came : (bs : List BatchValue) → 0 ≡ bytes_of bs → bs ≡ []
+-- it grew by no more than is there from its former end on
+pub grown_behind : (c d : Content) (n : ℕ) → GrowsBy c d n → GrowsBy c d (length (bytes_from d (end c)))
+grown_behind c d n grows =
+    let parts = parts_grown c d n (end c) grows (omega (arith, ints)) in
+    record { left = grows.left; batches = grows.batches; start = grows.start; are_left = grows.are_left; kept = grows.kept; behind = grows.behind; ends = grows.ends; bytes = omega (arith, parts) }
+
+none_came : (bs : List BatchValue) → bytes_of bs ≤ 0 → bs ≡ []
 none_came [] none = refl
 none_came (b ∷ bs) none = absurd (omega (arith, none, some_of (b ∷ bs) (omega arith)))
 
-same_kept : (c d : Content) → GrowsBy c d 0 → d.kept ≡ c.kept
-same_kept c d grows = grows.kept ∙ ap (λ (bs : List BatchValue). c.kept ++ bs) (none_came grows.batches grows.bytes) ∙ append-nil c.kept
+left_kept : (c d : Content) (grows : GrowsBy c d 0) → d.kept ≡ grows.left
+left_kept c d grows = grows.kept ∙ ap (λ (bs : List BatchValue). grows.left ++ bs) (none_came grows.batches grows.bytes) ∙ append-nil grows.left
 
 -- ---- an entry
 
@@ -102,7 +98,7 @@ module _ (name : List ℕ) (e : FetchPartitionValue) where
   abbrev held : State → Content
   held s = content_at s name e.partition
 
-  abbrev there : State → ℕ
+  abbrev pub there : State → ℕ
   there s = length (bytes_from (held s) e.offset)
 
   abbrev fault : State → Option ErrorCode
@@ -132,7 +128,7 @@ module _ (name : List ℕ) (e : FetchPartitionValue) where
       (same, omega (arith, same, less), omega (arith, same, left_is))
   given_left given all missing left false is some = absurd (false≢true (ap is_some some))
 
-  lacks_entry : (s : State) (awaited missing left : ℕ) → left_by_entry s name awaited missing e ≡ Some left → Lacks s awaited missing left
+  pub lacks_entry : (s : State) (awaited missing left : ℕ) → left_by_entry s name awaited missing e ≡ Some left → Lacks s awaited missing left
   lacks_entry s awaited missing left is = by (fault s) refl is where
     by : (x : Option ErrorCode) → fault s ≡ x
         → (let r = (answer_after x (fetch_work s (room_of awaited missing) name e) (room_of awaited missing)).0 in left_behind (int_eq r.partition.code no_error) (length r.records) (there s) missing) ≡ Some left
@@ -166,7 +162,7 @@ module _ (name : List ℕ) (e : FetchPartitionValue) where
         let range : is_out_of_range (held t) e.offset ≡ false = grind (arith, ints, parts.2, grows.start, grows.ends) in
         λ i. first_some (exists i ∷ leads i ∷ fault_if (range i) OffsetOutOfRange ∷ [])
 
-    there_grown : there t ≡ there s + n
+    there_grown : there t ≤ there s + n
     there_grown = bytes_grown (held s) (held t) n e.offset grows within
 
     -- a limit that allows all that is there
@@ -176,32 +172,34 @@ module _ (name : List ℕ) (e : FetchPartitionValue) where
         let fits : bytes_of bs ≤ min (fetch_limit e.max_bytes) missing = grind (arith, allows, less) in
         ap (λ (k : ℕ). bytes_of (take k bs)) (all_fetched (not (nat_lt missing awaited)) (min (fetch_limit e.max_bytes) missing) bs fits) ∙ ap bytes_of (take_all (length bs) bs (omega arith))
 
-  -- where nothing came there, and nothing came before
-  whole_still : (s t : State) (awaited missing : ℕ) → GrowsBy (held s) (held t) 0 → bytes_of (run s awaited missing) ≡ there s → bytes_of (run t awaited missing) ≡ there t
-  whole_still s t awaited missing grows whole =
-      let same = same_kept (held s) (held t) grows in
-      subst (λ (kept : List BatchValue). let bs = drop (first_from e.offset kept) kept in bytes_of (take (fetched (not (nat_lt missing awaited)) (min (fetch_limit e.max_bytes) missing) bs) bs) ≡ bytes_of bs) (sym same) whole
+  -- where nothing came there, and no less is missing
+  whole_still : (s t : State) (awaited missing now : ℕ) → missing ≤ now → now ≤ awaited → GrowsBy (held s) (held t) 0 → bytes_of (run s awaited missing) ≡ there s → bytes_of (run t awaited now) ≡ there t
+  whole_still s t awaited missing now more most grows whole =
+      let left = from_left e.offset grows.left (held s).kept grows.are_left in
+      let forced : not (nat_lt missing awaited) ≡ true → not (nat_lt now awaited) ≡ true = λ is. grind (arith, is, more, most) in
+      let less : min (fetch_limit e.max_bytes) missing ≤ min (fetch_limit e.max_bytes) now = grind (arith, more) in
+      let given = left_given (not (nat_lt missing awaited)) (not (nat_lt now awaited)) (min (fetch_limit e.max_bytes) missing) (min (fetch_limit e.max_bytes) now) (from_offset e.offset grows.left) (from (held s) e.offset) forced less left whole in
+      subst (λ (kept : List BatchValue). GivesAll (not (nat_lt now awaited)) (min (fetch_limit e.max_bytes) now) (from_offset e.offset kept)) (sym (left_kept (held s) (held t) grows)) given
 
-  -- it stands a growth by so much, where so much was missing before, and is now
-  abbrev pub StandsOne : State → (n missing now : ℕ) → Type 0
-  StandsOne s n missing now = ((n ≡ 0) × (now ≡ missing)) ⊎ (there s + n ≤ fetch_limit e.max_bytes)
+  -- it stands a growth by so much, where so much was missing before, and at least so much is now
+  abbrev pub StandsOne : State → (n missing low : ℕ) → Type 0
+  StandsOne s n missing low = ((n ≡ 0) × (missing ≤ low)) ⊎ (there s + n ≤ fetch_limit e.max_bytes)
 
-  entry_grown : (s t : State) (awaited missing now left n : ℕ) → t.config ≡ s.config → is_known t name e.partition ≡ is_known s name e.partition → GrowsBy (held s) (held t) n
-      → Lacks s awaited missing left → StandsOne s n missing now → there s + n < now → left_by_entry t name awaited now e ≡ Some (now - (there s + n))
-  entry_grown s t awaited missing now left n config known grows lacks stands less =
+  entry_grown : (s t : State) (awaited missing low now left n : ℕ) → t.config ≡ s.config → is_known t name e.partition ≡ is_known s name e.partition → GrowsBy (held s) (held t) n
+      → Lacks s awaited missing left → StandsOne s n missing low → low ≤ now → now ≤ awaited → there s + n < low → left_by_entry t name awaited now e ≡ Some (now - there t)
+  entry_grown s t awaited missing low now left n config known grows lacks stands more most less =
       let grown = there_grown s t config known n grows lacks.fine in
-      lacking_entry t awaited now (still_fine s t config known n grows lacks.fine) (by stands) (omega (arith, grown, less)) ∙ ap (λ (k : ℕ). Some (now - k)) grown
+      lacking_entry t awaited now (still_fine s t config known n grows lacks.fine) (by stands) (omega (arith, grown, less, more))
     where
-      by : StandsOne s n missing now → bytes_of (run t awaited now) ≡ there t
+      by : StandsOne s n missing low → bytes_of (run t awaited now) ≡ there t
       by (inr allows) =
           let grown = there_grown s t config known n grows lacks.fine in
-          whole_within s t config known n grows lacks.fine awaited now (omega (arith, grown, allows)) (omega (arith, grown, less))
-      by (inl calm) =
-          subst (λ (m : ℕ). bytes_of (run t awaited m) ≡ there t) (sym calm.1) (whole_still s t awaited missing (subst (GrowsBy (held s) (held t)) calm.0 grows) lacks.whole)
+          whole_within s t config known n grows lacks.fine awaited now (omega (arith, grown, allows)) (omega (arith, grown, less, more))
+      by (inl calm) = whole_still s t awaited missing now (omega (arith, calm.1, more)) most (subst (GrowsBy (held s) (held t)) calm.0 grows) lacks.whole
 
 -- ---- some entries
 
-and_then_some : {X Y : Type 0} (f : X → Option Y) (o : Option X) (y : Y) → option_and_then f o ≡ Some y → (x : X) × (o ≡ Some x) × (f x ≡ Some y)
+pub and_then_some : {X Y : Type 0} (f : X → Option Y) (o : Option X) (y : Y) → option_and_then f o ≡ Some y → (x : X) × (o ≡ Some x) × (f x ≡ Some y)
 and_then_some f None y is = absurd (false≢true (ap is_some is))
 and_then_some f (Some x) y is = (x, refl, is)
 
@@ -221,29 +219,42 @@ GrowFor s t name by [] = ⊤
 GrowFor s t name by (e ∷ es) = GrowsBy (content_at s name e.partition) (content_at t name e.partition) (by name e.partition) × GrowFor s t name by es
 
 -- each of them stands it
-abbrev pub StandFor : State → List ℕ → Growths → List FetchPartitionValue → (missing now : ℕ) → Type 0
-StandFor s name by [] missing now = ⊤
-StandFor s name by (e ∷ es) missing now =
-    StandsOne name e s (by name e.partition) missing now × StandFor s name by es (missing - there name e s) (now - (there name e s + by name e.partition))
+abbrev pub StandFor : State → List ℕ → Growths → List FetchPartitionValue → (missing low : ℕ) → Type 0
+StandFor s name by [] missing low = ⊤
+StandFor s name by (e ∷ es) missing low =
+    StandsOne name e s (by name e.partition) missing low × StandFor s name by es (missing - there name e s) (low - (there name e s + by name e.partition))
+
+-- so many bytes are missing behind some entries: no fewer than these, and no more than before
+pub record IsMissing (x : Option ℕ) (low now : ℕ) : Type 0 where
+  pub rest : ℕ
+  pub is : x ≡ Some rest
+  pub least : low ≤ rest
+  pub most : rest ≤ now
 
 pub entries_grown : (s t : State) (name : List ℕ) (by : Growths) (awaited : ℕ) (config : t.config ≡ s.config) (known : (p : ℤ) → is_known t name p ≡ is_known s name p)
-    (es : List FetchPartitionValue) (missing now left : ℕ) → GrowFor s t name by es → StandFor s name by es missing now → left_by_entries s name awaited missing es ≡ Some left → total s name by es < now
-    → (left_by_entries t name awaited now es ≡ Some (now - total s name by es)) × (left ≡ missing - there_for s name es)
-entries_grown s t name by awaited config known [] missing now left grow stand is less =
-    let same : now ≡ now - 0 = omega arith in
+    (es : List FetchPartitionValue) (missing low now left : ℕ) → GrowFor s t name by es → StandFor s name by es missing low → left_by_entries s name awaited missing es ≡ Some left → total s name by es < low → low ≤ now → now ≤ awaited
+    → IsMissing (left_by_entries t name awaited now es) (low - total s name by es) now × (left ≡ missing - there_for s name es)
+entries_grown s t name by awaited config known [] missing low now left grow stand is less more most =
     let rest : left ≡ missing - 0 = omega (arith, same_Some missing left is) in
-    ((λ i. Some (same i)), rest)
-entries_grown s t name by awaited config known (e ∷ es) missing now left grow stand is less =
+    (record { rest = now; is = refl; least = omega (arith, more); most = omega arith }, rest)
+entries_grown s t name by awaited config known (e ∷ es) missing low now left grow stand is less more most =
     let parts = and_then_some (λ l. left_by_entries s name awaited l es) (left_by_entry s name awaited missing e) left is in
     let lacks = lacks_entry name e s awaited missing parts.0 parts.1 in
     let n = by name e.partition in
     let b = there name e s in
-    let first = entry_grown name e s t awaited missing now parts.0 n config (known e.partition) grow.0 lacks stand.0 (omega (arith, less)) in
+    let grown = there_grown name e s t config (known e.partition) n grow.0 lacks.fine in
+    let first = entry_grown name e s t awaited missing low now parts.0 n config (known e.partition) grow.0 lacks stand.0 more most (omega (arith, less)) in
     let was : left_by_entries s name awaited (missing - b) es ≡ Some left = subst (λ (l : ℕ). left_by_entries s name awaited l es ≡ Some left) lacks.rest parts.2 in
-    let rest = entries_grown s t name by awaited config known es (missing - b) (now - (b + n)) left grow.1 stand.1 was (omega (arith, less)) in
-    let sum : now - (b + n) - total s name by es ≡ now - ((b + n) + total s name by es) = omega arith in
-    let sum' : missing - b - there_for s name es ≡ missing - (b + there_for s name es) = omega arith in
-    (ap (option_and_then (λ l. left_by_entries t name awaited l es)) first ∙ rest.0 ∙ ap (λ (k : ℕ). Some k) sum, rest.1 ∙ sum')
+    let rest = entries_grown s t name by awaited config known es (missing - b) (low - (b + n)) (now - there name e t) left grow.1 stand.1 was (omega (arith, less)) (omega (arith, grown, more)) (omega (arith, most)) in
+    let sum' : missing - b - there_for s name es ≡ missing - (b + there_for s name es) = omega arith in (
+      record {
+        rest = rest.0.rest;
+        is = ap (option_and_then (λ l. left_by_entries t name awaited l es)) first ∙ rest.0.is;
+        least = let least = rest.0.least in omega (arith, least);
+        most = let most = rest.0.most in omega (arith, most);
+      },
+      rest.1 ∙ sum',
+    )
 
 -- ---- the topics
 
@@ -255,23 +266,28 @@ abbrev pub GrowIn : State → State → Growths → List (TopicOf FetchPartition
 GrowIn s t by [] = ⊤
 GrowIn s t by (x ∷ xs) = GrowFor s t x.name by x.entries × GrowIn s t by xs
 
-abbrev pub StandIn : State → Growths → List (TopicOf FetchPartitionValue) → (missing now : ℕ) → Type 0
-StandIn s by [] missing now = ⊤
-StandIn s by (x ∷ xs) missing now =
-    StandFor s x.name by x.entries missing now × StandIn s by xs (missing - there_for s x.name x.entries) (now - total s x.name by x.entries)
+abbrev pub StandIn : State → Growths → List (TopicOf FetchPartitionValue) → (missing low : ℕ) → Type 0
+StandIn s by [] missing low = ⊤
+StandIn s by (x ∷ xs) missing low =
+    StandFor s x.name by x.entries missing low × StandIn s by xs (missing - there_for s x.name x.entries) (low - total s x.name by x.entries)
 
 topics_grown : (s t : State) (by : Growths) (awaited : ℕ) (config : t.config ≡ s.config) (known : (name : List ℕ) (p : ℤ) → is_known t name p ≡ is_known s name p)
-    (ts : List (TopicOf FetchPartitionValue)) (missing now left : ℕ) → GrowIn s t by ts → StandIn s by ts missing now → left_by_topics s awaited missing ts ≡ Some left → total_in s by ts < now
-    → left_by_topics t awaited now ts ≡ Some (now - total_in s by ts)
-topics_grown s t by awaited config known [] missing now left grow stand is less = let same : now ≡ now - 0 = omega arith in λ i. Some (same i)
-topics_grown s t by awaited config known (x ∷ xs) missing now left grow stand is less =
+    (ts : List (TopicOf FetchPartitionValue)) (missing low now left : ℕ) → GrowIn s t by ts → StandIn s by ts missing low → left_by_topics s awaited missing ts ≡ Some left → total_in s by ts < low → low ≤ now → now ≤ awaited
+    → IsMissing (left_by_topics t awaited now ts) (low - total_in s by ts) now
+topics_grown s t by awaited config known [] missing low now left grow stand is less more most = record { rest = now; is = refl; least = omega (arith, more); most = omega arith }
+topics_grown s t by awaited config known (x ∷ xs) missing low now left grow stand is less more most =
     let parts = and_then_some (λ l. left_by_topics s awaited l xs) (left_by_entries s x.name awaited missing x.entries) left is in
     let n = total s x.name by x.entries in
-    let first = entries_grown s t x.name by awaited config (known x.name) x.entries missing now parts.0 grow.0 stand.0 parts.1 (omega (arith, less)) in
+    let first = entries_grown s t x.name by awaited config (known x.name) x.entries missing low now parts.0 grow.0 stand.0 parts.1 (omega (arith, less)) more most in
+    let here = first.0 in
     let was : left_by_topics s awaited (missing - there_for s x.name x.entries) xs ≡ Some left = subst (λ (l : ℕ). left_by_topics s awaited l xs ≡ Some left) first.1 parts.2 in
-    let rest = topics_grown s t by awaited config known xs (missing - there_for s x.name x.entries) (now - n) left grow.1 stand.1 was (omega (arith, less)) in
-    let sum : now - n - total_in s by xs ≡ now - (n + total_in s by xs) = omega arith in
-    ap (option_and_then (λ l. left_by_topics t awaited l xs)) first.0 ∙ rest ∙ ap (λ (k : ℕ). Some k) sum
+    let rest = topics_grown s t by awaited config known xs (missing - there_for s x.name x.entries) (low - n) here.rest left grow.1 stand.1 was (omega (arith, less)) here.least (omega (arith, here.most, most)) in
+    record {
+      rest = rest.rest;
+      is = ap (option_and_then (λ l. left_by_topics t awaited l xs)) here.is ∙ rest.is;
+      least = omega (arith, rest.least);
+      most = omega (arith, rest.most, here.most);
+    }
 
 -- ---- a Fetch
 
@@ -281,7 +297,7 @@ both_true true true false is = absurd (false≢true is)
 both_true true false c is = absurd (false≢true is)
 both_true false b c is = absurd (false≢true is)
 
-waits_parts : (s : State) (q : FetchValue) → fetch_waits s q ≡ true → (int_lt (pos 0) q.max_wait_ms ≡ true) × (asks_for_some q ≡ true) × (lacks_bytes s q ≡ true)
+pub waits_parts : (s : State) (q : FetchValue) → fetch_waits s q ≡ true → (int_lt (pos 0) q.max_wait_ms ≡ true) × (asks_for_some q ≡ true) × (lacks_bytes s q ≡ true)
 unfolding fetch_waits
 waits_parts s q is = both_true (int_lt (pos 0) q.max_wait_ms) (asks_for_some q) (lacks_bytes s q) is
 
@@ -289,7 +305,7 @@ waits_by : (s : State) (q : FetchValue) → int_lt (pos 0) q.max_wait_ms ≡ tru
 unfolding fetch_waits
 waits_by s q time some lacks = λ i. time i && (some i && lacks i)
 
-some_is : {X : Type 0} (o : Option X) → is_some o ≡ true → (x : X) × (o ≡ Some x)
+pub some_is : {X : Type 0} (o : Option X) → is_some o ≡ true → (x : X) × (o ≡ Some x)
 some_is None is = absurd (false≢true is)
 some_is (Some x) is = (x, refl)
 
@@ -300,6 +316,6 @@ waits_on s t q by config known grow stand less waits =
     let parts = waits_parts s q waits in
     let some : 0 < awaited = omega (arith, less) in
     let left = some_is (left_by_topics s awaited awaited q.topics) (lacks_is s q (left_by_topics s awaited awaited q.topics) some refl ∙ parts.2) in
-    let now = topics_grown s t by awaited config known q.topics awaited awaited left.0 grow stand left.1 less in
-    let lacks = sym (lacks_is t q (left_by_topics t awaited awaited q.topics) some refl) ∙ ap is_some now in
+    let now = topics_grown s t by awaited config known q.topics awaited awaited awaited left.0 grow stand left.1 less (omega arith) (omega arith) in
+    let lacks = sym (lacks_is t q (left_by_topics t awaited awaited q.topics) some refl) ∙ ap is_some now.is in
     waits_by t q parts.0 parts.1 lacks

@@ -1,6 +1,7 @@
 mod Counting
 mod Limits
 mod Runs
+pub mod Left
 mod Placed
 mod Rooms
 mod Entry
@@ -9,3 +10,5 @@ pub mod Growing
 pub mod Sleeping
 pub mod Times
 pub mod Appending
+pub mod OneChange
+pub mod Cleaning

@@ -5,7 +5,7 @@ use Rattle.batch_codec.specs.Values.{BatchValue}
 use Rattle.partition_log.specs.Lookups.{size_of, fitting, fetched}
 use Rattle.log_requests.proofs.FetchRuns.{bytes_of, bytes_more}
 
-all_fit : (limit : ℕ) (bs : List BatchValue) → bytes_of bs ≤ limit → fitting limit bs ≡ length bs
+pub all_fit : (limit : ℕ) (bs : List BatchValue) → bytes_of bs ≤ limit → fitting limit bs ≡ length bs
 unfolding fitting
 all_fit limit [] fits = refl
 all_fit limit (b ∷ bs) fits =

@@ -15,7 +15,8 @@ use Rattle.request_frames.specs.Fetch.{FetchValue, FetchPartitionValue}
 use Rattle.broker_state.specs.State.{State, content_at, is_known}
 use Rattle.log_requests.specs.Fetch.{fetch_limit}
 use Rattle.fetch_waits.specs.Waiting.{awaited_bytes, fetch_waits}
-use Rattle.fetch_waits.specs.Sleeping.{Allows, AreBehind, Contents, FitsRoom, GrowsBy, Growths, RoomsIn, RoomsOf, Sleeps, is_asked, more_in, more_of, there_at, there_in, there_of}
+use Rattle.fetch_waits.specs.Sleeping.{Allows, AreBehind, AreLeftOf, Contents, FitsRoom, GrowsBy, Growths, RoomsIn, RoomsOf, Sleeps, is_asked, more_in, more_of, there_at, there_in, there_of}
+use Rattle.fetch_waits.proofs.Left.{LeftOfBoth, all_left, left_all_twice, left_are_behind, left_bytes, left_of_both}
 use Rattle.fetch_waits.proofs.Growing.{GrowFor, GrowIn, StandFor, StandIn, StandsOne, there_for, total, total_in, waits_on}
 
 -- ---- what is asked for
@@ -71,22 +72,22 @@ no_room more room none fits = subst (FitsRoom more) none fits
 
 module _ (s : State) (by : Growths) (room : List ℕ → ℤ → Option ℕ) (forced : ℕ) where
   stands_one : (name : List ℕ) (e : FetchPartitionValue) (before missing now : ℕ) → FitsRoom (by name e.partition) (room name e.partition) → (before < forced → room name e.partition ≡ None)
-      → (forced ≤ before → Allows (fetch_limit e.max_bytes) (there_at s name e) (room name e.partition)) → (before < forced → now ≡ missing) → StandsOne name e s (by name e.partition) missing now
+      → (forced ≤ before → Allows (fetch_limit e.max_bytes) (there_at s name e) (room name e.partition)) → (before < forced → missing ≤ now) → StandsOne name e s (by name e.partition) missing now
   stands_one name e before missing now fits none allows calm = by_test (nat_lt before forced) refl where
     by_test : (t : Bool) → nat_lt before forced ≡ t → StandsOne name e s (by name e.partition) missing now
     by_test true is = let less : before < forced = grind (arith, is) in inl (no_room (by name e.partition) (room name e.partition) (none less) fits, calm less)
     by_test false is = let past : forced ≤ before = grind (arith, is) in inr (room_allows (fetch_limit e.max_bytes) (there_at s name e) (by name e.partition) (room name e.partition) (allows past) fits)
 
-  still_calm : (name : List ℕ) (e : FetchPartitionValue) (before missing now : ℕ) → FitsRoom (by name e.partition) (room name e.partition) → (before < forced → room name e.partition ≡ None) → (before < forced → now ≡ missing)
-      → before + 1 < forced → now - (there_at s name e + by name e.partition) ≡ missing - there_at s name e
+  still_calm : (name : List ℕ) (e : FetchPartitionValue) (before missing now : ℕ) → FitsRoom (by name e.partition) (room name e.partition) → (before < forced → room name e.partition ≡ None) → (before < forced → missing ≤ now)
+      → before + 1 < forced → missing - there_at s name e ≤ now - (there_at s name e + by name e.partition)
   still_calm name e before missing now fits none calm less =
       let quiet : by name e.partition ≡ 0 = no_room (by name e.partition) (room name e.partition) (none (omega (arith, less))) fits in
-      let same : now ≡ missing = calm (omega (arith, less)) in
+      let same : missing ≤ now = calm (omega (arith, less)) in
       omega (arith, quiet, same)
 
-  stand_for : (name : List ℕ) (es : List FetchPartitionValue) (before missing now : ℕ) → ((p : ℤ) → asks es p ≡ true → FitsRoom (by name p) (room name p)) → RoomsOf s room name forced before es → (before < forced → now ≡ missing)
-      → StandFor s name by es missing now × (before + length es < forced → now - total s name by es ≡ missing - there_for s name es)
-  stand_for name [] before missing now fits rooms calm = (tt, λ less. let same : now ≡ missing = calm (omega (arith, less)) in omega (arith, same))
+  stand_for : (name : List ℕ) (es : List FetchPartitionValue) (before missing now : ℕ) → ((p : ℤ) → asks es p ≡ true → FitsRoom (by name p) (room name p)) → RoomsOf s room name forced before es → (before < forced → missing ≤ now)
+      → StandFor s name by es missing now × (before + length es < forced → missing - there_for s name es ≤ now - total s name by es)
+  stand_for name [] before missing now fits rooms calm = (tt, λ less. let same : missing ≤ now = calm (omega (arith, less)) in omega (arith, same))
   stand_for name (e ∷ es) before missing now fits rooms calm =
       let first = fits e.partition (asks_first e es) in
       let rest = stand_for name es (before + 1) (missing - there_at s name e) (now - (there_at s name e + by name e.partition)) (λ p is. fits p (or_right (int_eq e.partition p) (asks es p) is)) rooms.2
@@ -95,7 +96,7 @@ module _ (s : State) (by : Growths) (room : List ℕ → ℤ → Option ℕ) (fo
         λ less. let same = rest.1 (omega (arith, less)) in omega (arith, same),
       )
 
-  stand_in : (ts : List (TopicOf FetchPartitionValue)) (before missing now : ℕ) → ((name : List ℕ) (p : ℤ) → asks_in ts name p ≡ true → FitsRoom (by name p) (room name p)) → RoomsIn s room forced before ts → (before < forced → now ≡ missing)
+  stand_in : (ts : List (TopicOf FetchPartitionValue)) (before missing now : ℕ) → ((name : List ℕ) (p : ℤ) → asks_in ts name p ≡ true → FitsRoom (by name p) (room name p)) → RoomsIn s room forced before ts → (before < forced → missing ≤ now)
       → StandIn s by ts missing now
   stand_in [] before missing now fits rooms calm = tt
   stand_in (x ∷ xs) before missing now fits rooms calm =
@@ -122,9 +123,9 @@ pub begins_to_sleep : (s : State) (q : FetchValue) (missing forced : ℕ) (room 
     → Sleeps s (content_at s) q missing room
 begins_to_sleep s q missing forced room waits rooms is = λ t by grows less fits.
     let sum = total_in_is s by q.topics in
-    waits_on s t q by grows.config grows.known (grow_in s t by q.topics grows.each) (stand_in s by room forced q.topics 0 (awaited_bytes q) (awaited_bytes q) fits rooms (λ _. refl)) (omega (arith, sum, is, less)) waits
+    waits_on s t q by grows.config grows.known (grow_in s t by q.topics grows.each) (stand_in s by room forced q.topics 0 (awaited_bytes q) (awaited_bytes q) fits rooms (λ _. omega arith)) (omega (arith, sum, is, less)) waits
 
-abbrev nothing : Growths
+abbrev pub nothing : Growths
 nothing = λ name p. 0
 
 more_nothing : (name : List ℕ) (es : List FetchPartitionValue) → more_of name nothing es ≡ 0
@@ -137,12 +138,14 @@ more_in_nothing (t ∷ ts) = let first = more_nothing t.name t.entries in let re
 
 pub grows_nothing : (c d : Content) → d ≡ c → GrowsBy c d 0
 grows_nothing c d same = record {
+  left = c.kept;
   batches = [];
   start = ap (λ (x : Content). x.start) same;
+  are_left = all_left c.kept;
   kept = ap (λ (x : Content). x.kept) same ∙ sym (append-nil c.kept);
   behind = tt;
   ends = let ends : end d ≡ end c = ap end same in omega (arith, ints, ends);
-  bytes = refl;
+  bytes = omega arith;
 }
 
 fits_nothing : (room : Option ℕ) → FitsRoom 0 room
@@ -177,15 +180,20 @@ behind_more low high (x ∷ xs) ys less first second = (first.0, behind_more low
 -- one growth, and then another
 pub grows_twice : (a b c : Content) (m n : ℕ) → GrowsBy a b m → GrowsBy b c n → GrowsBy a c (m + n)
 grows_twice a b c m n first second = record {
-  batches = first.batches ++ second.batches;
+  left = both.front;
+  batches = both.back ++ second.batches;
   start = second.start ∙ first.start;
-  kept = second.kept ∙ ap (λ (kept : List BatchValue). kept ++ second.batches) first.kept ∙ append_assoc a.kept first.batches second.batches;
-  behind = behind_more (end a) (end b) first.batches second.batches first.ends first.behind second.behind;
+  are_left = left_all_twice both.front first.left a.kept both.in_front first.are_left;
+  kept = second.kept ∙ ap (λ (kept : List BatchValue). kept ++ second.batches) both.whole ∙ append_assoc both.front both.back second.batches;
+  behind = behind_more (end a) (end b) both.back second.batches first.ends (left_are_behind (end a) both.back first.batches both.in_back first.behind) second.behind;
   ends = omega (arith, ints, first.ends, second.ends);
   bytes =
-      let sum = ap length (flat_map-append batch_encoding first.batches second.batches) ∙ length-append (flat_map batch_encoding first.batches) (flat_map batch_encoding second.batches) in
-      omega (arith, sum, first.bytes, second.bytes);
-}
+      let sum = ap length (flat_map-append batch_encoding both.back second.batches) ∙ length-append (flat_map batch_encoding both.back) (flat_map batch_encoding second.batches) in
+      let fewer = left_bytes both.back first.batches both.in_back in
+      omega (arith, sum, fewer, first.bytes, second.bytes);
+} where
+  both : LeftOfBoth second.left first.left first.batches
+  both = left_of_both second.left first.left first.batches (subst (AreLeftOf second.left) first.kept second.are_left)
 
 -- what is left of a room
 abbrev pub less_room : Option ℕ → ℕ → Option ℕ

@@ -1,6 +1,6 @@
 -- What a Fetch that waits stands without being due: how much its partitions may grow. Kafka's documentation, "Protocol Guide",
 -- section "The Messages" (max_wait_ms, min_bytes and max_bytes of Fetch).
-use Rattle.std.specs.Prelude.{◌≡◌, ⊤, ℕ, ℤ, ◌+◌, ◌<◌, ◌≤◌, ◌≤ℤ◌, bytes_eq, Bool, ◌&&◌, true, List, [], ◌∷◌, ◌++◌, length, Option, Some, None}
+use Rattle.std.specs.Prelude.{◌≡◌, ⊤, ◌⊎◌, ℕ, ℤ, ◌+◌, ◌<◌, ◌≤◌, ◌≤ℤ◌, bytes_eq, Bool, ◌&&◌, true, List, [], ◌∷◌, ◌++◌, length, Option, Some, None}
 use Rattle.std.specs.List.{flat_map, list_any}
 use Rattle.std.specs.Ordering.{int_eq}
 use Rattle.batch_codec.specs.Values.{BatchValue}
@@ -17,7 +17,7 @@ use Rattle.fetch_waits.specs.Waiting.{bytes_from, fetch_waits}
 abbrev pub Contents : Type 0
 Contents = List ℕ → ℤ → Content
 
--- by how many bytes each grew
+-- by how many bytes each grew at most
 abbrev pub Growths : Type 0
 Growths = List ℕ → ℤ → ℕ
 
@@ -26,21 +26,34 @@ abbrev pub AreBehind : ℤ → List BatchValue → Type 0
 AreBehind offset [] = ⊤
 AreBehind offset (b ∷ bs) = (offset ≤ℤ last_offset b) × AreBehind offset bs
 
--- A log grew by so many bytes: batches came at its end.
+-- what is left of a batch: it has its head, and no more bytes
+pub record IsLeftOf (x b : BatchValue) : Type 0 where
+  pub head : x.head ≡ b.head
+  pub bytes : length (batch_encoding x) ≤ length (batch_encoding b)
+
+-- what is left of some batches, in their order: of each one batch, or nothing
+abbrev pub AreLeftOf : (left bs : List BatchValue) → Type 0
+AreLeftOf [] bs = ⊤
+AreLeftOf (x ∷ xs) [] = ⊥
+AreLeftOf (x ∷ xs) (b ∷ bs) = (IsLeftOf x b × AreLeftOf xs bs) ⊎ AreLeftOf (x ∷ xs) bs
+
+-- A log grew by no more than so many bytes: batches came at its end. Of those before records may be gone, as behind a cleaning.
 pub record GrowsBy (old new : Content) (more : ℕ) : Type 0 where
+  pub left : List BatchValue
   pub batches : List BatchValue
   pub start : new.start ≡ old.start
-  pub kept : new.kept ≡ old.kept ++ batches
+  pub are_left : AreLeftOf left old.kept
+  pub kept : new.kept ≡ left ++ batches
   pub behind : AreBehind (end old) batches
   pub ends : end old ≤ℤ end new
-  pub bytes : more ≡ length (flat_map batch_encoding batches)
+  pub bytes : length (flat_map batch_encoding batches) ≤ more
 
 -- a Fetch asks for a partition
 abbrev pub is_asked : FetchValue → (name : List ℕ) → (partition : ℤ) → Bool
 is_asked q name partition =
     list_any (λ t. bytes_eq t.name name && list_any (λ e. int_eq e.partition partition) t.entries) q.topics
 
--- Where the partitions for which a Fetch asks held this, nothing of them changed but that their logs grew.
+-- Where the partitions for which a Fetch asks held this, nothing of them changed but that they were cleaned and their logs grew.
 pub record Grows (q : FetchValue) (s : State) (held : Contents) (t : State) (by : Growths) : Type 0 where
   pub config : t.config ≡ s.config
   pub known : (name : List ℕ) (p : ℤ) → is_known t name p ≡ is_known s name p

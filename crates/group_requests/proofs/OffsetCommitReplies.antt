@@ -1,6 +1,6 @@
 -- The answers to an OffsetCommit request make one of the replies that its plan allows.
 use Rattle.std.proofs.Common.{◌≡◌, ℕ, List, [], ◌++◌, length, Some, ap, sym, subst, ◌∙◌, append_assoc, append-nil}
-use Rattle.std.specs.Prelude.{ℤ, pos}
+use Rattle.std.specs.Prelude.{ℤ, pos, Option}
 use Rattle.std.specs.List.{flat_map}
 use Rattle.std.specs.Option.{option_map}
 use Rattle.request_frames.specs.declared.offset_commit.partition.OffsetCommitPartition.{OffsetCommitPartition}
@@ -18,7 +18,7 @@ use Rattle.answering.specs.Telling.{TellsNext}
 use Rattle.broker_state.specs.State.{State}
 use Rattle.group_requests.specs.OffsetCommit.{offset_commit_work}
 
-pub offset_commit_tells : (q : OffsetCommitValue) (before : State × Memory) (name : List ℕ) (v : Value offset_commit_partition) (r : CommittedPartition) (after : State × Memory)
+pub offset_commit_tells : (q : OffsetCommitValue) (before : State × Option Memory) (name : List ℕ) (v : Value offset_commit_partition) (r : CommittedPartition) (after : State × Option Memory)
     → (e : OffsetCommitPartition) × ((e.partition, (e.offset, (option_map (λ bytes. bytes.now) e.metadata, nothing))) ≡ v)
     × TellsNext (offset_commit_work before.0 q name (offset_commit_partition_value (e.partition, (e.offset, (option_map (λ bytes. bytes.now) e.metadata, nothing))))) before r after
     → TellsNext (offset_commit_work before.0 q name (offset_commit_partition_value v)) before r after

@@ -1,6 +1,6 @@
 -- The answers to an OffsetFetch request make one of the replies that its plan allows.
 use Rattle.std.proofs.Common.{◌≡◌, ℕ, ◌+◌, Bool, List, [], ◌∷◌, ◌++◌, length, Some, ap, sym, subst, ◌∙◌, append_assoc, append-nil}
-use Rattle.std.specs.Prelude.{ℤ, pos, map, nat_lt}
+use Rattle.std.specs.Prelude.{ℤ, pos, map, nat_lt, Option}
 use Rattle.std.specs.List.{flat_map}
 use Rattle.std.proofs.lemmas.List.{length-map}
 use Rattle.request_frames.specs.declared.offset_fetch.partition.OffsetFetchPartition.{OffsetFetchPartition}
@@ -19,7 +19,7 @@ use Rattle.group_requests.specs.declared.offset_fetch.TheConstants.{MAX_FETCHED_
 use Rattle.group_requests.specs.OffsetFetch.{offset_fetch_work, partition_count}
 
 -- that the request names too many partitions is told beforehand, and what one walk found is known
-pub offset_fetch_may : {Known : Type 0} → Known → (s : State) (q : OffsetFetchValue) (too_many : Bool) → too_many ≡ nat_lt MAX_FETCHED_OFFSETS (partition_count q.topics) → (before : Unit {0} × Memory) (name : List ℕ) (v : Value offset_fetch_partition) (r : FetchedOffset) (after : Unit {0} × Memory)
+pub offset_fetch_may : {Known : Type 0} → Known → (s : State) (q : OffsetFetchValue) (too_many : Bool) → too_many ≡ nat_lt MAX_FETCHED_OFFSETS (partition_count q.topics) → (before : Unit {0} × Option Memory) (name : List ℕ) (v : Value offset_fetch_partition) (r : FetchedOffset) (after : Unit {0} × Option Memory)
     → (e : OffsetFetchPartition) × ((e.partition, nothing) ≡ v) × (Known → MayAnswer (offset_fetch_work s q.group too_many name (record { partition = e.partition })) s r s)
     → MayAnswer (offset_fetch_work s q.group (nat_lt MAX_FETCHED_OFFSETS (partition_count q.topics)) name (offset_fetch_partition_value v)) s r s
 offset_fetch_may known s q too_many told before name v r after said =

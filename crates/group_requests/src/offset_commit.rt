@@ -52,13 +52,13 @@ impl<'a, 'q, 'r, S: BatchStore> Answers<OffsetCommitPartition<'a>, BrokerState<S
     fn put<A: Allocator + Copy>(
         &self,
         state: &mut BrokerState<S>,
-        memory: &mut Memory,
+        memory: &mut Option<Memory>,
         topic: &[u8],
         entry: OffsetCommitPartition<'a>,
         out: &mut Vec<u8, A>,
     ) -> Result<(), AllocError> {
         let (answer, told) = commit_entry(state, self.request, topic, &entry);
-        memory.note(told);
+        Memory::note(memory, told);
         append_fixed(out, &committed_partition_bytes(answer))
     }
 }
@@ -93,11 +93,11 @@ pub fn reply_to_offset_commit<S: BatchStore, A: Allocator + Copy>(
     };
     out.reserve(room)?;
     let asked = Committing { request };
-    let mut memory = Memory::Sufficed;
+    let mut noted = None;
     let Ok(()) = respond(
         &asked,
         state,
-        &mut memory,
+        &mut noted,
         correlation,
         &[],
         topics,
@@ -106,5 +106,5 @@ pub fn reply_to_offset_commit<S: BatchStore, A: Allocator + Copy>(
     ) else {
         unreachable!()
     };
-    Ok(memory)
+    Ok(Memory::of_all(noted))
 }

@@ -55,7 +55,7 @@ impl<'n, 'q, S: BatchStore> Answers<OffsetFetchPartition, ()> for Fetching<'n, '
     fn put<A: Allocator + Copy>(
         &self,
         _shared: &mut (),
-        _memory: &mut Memory,
+        _memory: &mut Option<Memory>,
         topic: &[u8],
         entry: OffsetFetchPartition,
         out: &mut Vec<u8, A>,
@@ -207,7 +207,7 @@ pub fn reply_to_offset_fetch<S: BatchStore, A: Allocator + Copy>(
     respond(
         &asked,
         &mut (),
-        &mut Memory::Sufficed,
+        &mut None,
         correlation,
         &[],
         &request.topics,

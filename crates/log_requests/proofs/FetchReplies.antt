@@ -1,6 +1,6 @@
 -- The answers to a Fetch request make one of the replies that its plan allows.
 use Rattle.std.proofs.Common.{◌≡◌, ℕ, List, [], ◌++◌, length, Some, inl, ap, sym, ◌∙◌, append_assoc, append-nil}
-use Rattle.std.specs.Prelude.{ℤ, pos}
+use Rattle.std.specs.Prelude.{ℤ, pos, Option}
 use Rattle.std.specs.List.{flat_map}
 use Rattle.request_frames.specs.declared.fetch.partition.FetchPartition.{FetchPartition}
 use Rattle.frame_fields.specs.Fields.{Value, size32, be, elements, encoded}
@@ -17,7 +17,7 @@ use Rattle.broker_state.specs.State.{State}
 use Rattle.log_requests.specs.Fetch.{FetchRoom, fetch_work}
 use Rattle.log_requests.specs.Fetch.Entries.{fetch_entry_value, fetch_answer}
 
-pub fetch_may : (s : State) (before : FetchRoom × Memory) (name : List ℕ) (v : Value fetch_partition) (r : Fetched) (after : FetchRoom × Memory)
+pub fetch_may : (s : State) (before : FetchRoom × Option Memory) (name : List ℕ) (v : Value fetch_partition) (r : Fetched) (after : FetchRoom × Option Memory)
     → (e : FetchPartition) × ((e.partition, (e.offset, (e.max_bytes, nothing))) ≡ v) × ((r, after.0) ≡ fetch_answer s name before.0 (fetch_entry_value e))
     → MayAnswer (fetch_work s before.0 name (fetch_partition_value v)) before.0 r after.0
 fetch_may s before name v r after said = inl (said.2 ∙ ap (λ w. fetch_answer s name before.0 (fetch_partition_value w)) said.1)

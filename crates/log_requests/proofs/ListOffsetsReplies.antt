@@ -1,6 +1,6 @@
 -- The answers to a ListOffsets request make one of the replies that its plan allows.
 use Rattle.std.proofs.Common.{◌≡◌, ℕ, List, [], ◌++◌, length, Some, inl, ap, sym, ◌∙◌, append_assoc, append-nil}
-use Rattle.std.specs.Prelude.{ℤ, pos}
+use Rattle.std.specs.Prelude.{ℤ, pos, Option}
 use Rattle.std.specs.List.{flat_map}
 use Rattle.request_frames.specs.declared.list_offsets.partition.ListOffsetsPartition.{ListOffsetsPartition}
 use Rattle.responses.specs.declared.list_offsets.partition.ListedPartition.{ListedPartition}
@@ -17,7 +17,7 @@ use Rattle.answering.specs.Work.{answer, IsAnswer, MayAnswer}
 use Rattle.broker_state.specs.State.{State}
 use Rattle.log_requests.specs.ListOffsets.{list_offsets_work}
 
-pub list_offsets_may : (s : State) (before : Unit {0} × Memory) (name : List ℕ) (v : Value list_offsets_partition) (r : ListedPartition) (after : Unit {0} × Memory)
+pub list_offsets_may : (s : State) (before : Unit {0} × Option Memory) (name : List ℕ) (v : Value list_offsets_partition) (r : ListedPartition) (after : Unit {0} × Option Memory)
     → (e : ListOffsetsPartition) × ((e.partition, (e.time, nothing)) ≡ v) × IsAnswer (list_offsets_work s name (record { partition = e.partition; time = e.time })) s r s
     → MayAnswer (list_offsets_work s name (list_offsets_partition_value v)) s r s
 list_offsets_may s before name v r after said = inl (said.2 ∙ ap (λ w. answer (list_offsets_work s name (list_offsets_partition_value w)) s) said.1)

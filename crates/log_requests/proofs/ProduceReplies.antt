@@ -1,6 +1,6 @@
 -- The answers to a Produce request make one of the replies that its plan allows.
 use Rattle.std.proofs.Common.{◌≡◌, ℕ, Bool, true, false, cond, List, [], ◌++◌, length, take, Some, None, of_z, to_z, w16, FitsSigned, refl, ap, sym, subst, ◌∙◌, append_assoc, append-nil, arith}
-use Rattle.std.specs.Prelude.{ℤ, pos}
+use Rattle.std.specs.Prelude.{ℤ, pos, Option}
 use Rattle.std.specs.List.{flat_map}
 use Rattle.std.specs.Option.{option_map}
 use Rattle.std.specs.Ordering.{int_eq}
@@ -21,7 +21,7 @@ use Rattle.answering.specs.Telling.{TellsNext}
 use Rattle.broker_state.specs.State.{State}
 use Rattle.log_requests.specs.Produce.{produce_work, produce_plan}
 
-pub produce_tells : (q : ProduceValue) (before : State × Memory) (name : List ℕ) (v : Value produce_partition) (r : ProducedPartition) (after : State × Memory)
+pub produce_tells : (q : ProduceValue) (before : State × Option Memory) (name : List ℕ) (v : Value produce_partition) (r : ProducedPartition) (after : State × Option Memory)
     → (e : ProducePartition) × ((e.index, (option_map (λ bytes. bytes.now) e.records, nothing)) ≡ v)
     × TellsNext (produce_work before.0 q name (produce_partition_value (e.index, (option_map (λ bytes. bytes.now) e.records, nothing)))) before r after
     → TellsNext (produce_work before.0 q name (produce_partition_value v)) before r after

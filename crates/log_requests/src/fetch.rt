@@ -33,7 +33,7 @@ impl<'n, S: BatchStore> Answers<FetchPartition, FetchRoom> for Reading<'n, S> {
     fn put<A: Allocator + Copy>(
         &self,
         room: &mut FetchRoom,
-        _memory: &mut Memory,
+        _memory: &mut Option<Memory>,
         topic: &[u8],
         entry: FetchPartition,
         out: &mut Vec<u8, A>,
@@ -65,7 +65,7 @@ pub fn reply_to_fetch<S: BatchStore, A: Allocator + Copy>(
     respond(
         &asked,
         &mut room,
-        &mut Memory::Sufficed,
+        &mut None,
         correlation,
         &[0; THROTTLE_BYTES],
         &request.topics,

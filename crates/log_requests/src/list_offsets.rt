@@ -38,7 +38,7 @@ impl<'n, S: BatchStore> Answers<ListOffsetsPartition, ()> for Reading<'n, S> {
     fn put<A: Allocator + Copy>(
         &self,
         _shared: &mut (),
-        _memory: &mut Memory,
+        _memory: &mut Option<Memory>,
         topic: &[u8],
         entry: ListOffsetsPartition,
         out: &mut Vec<u8, A>,
@@ -68,7 +68,7 @@ pub fn reply_to_list_offsets<S: BatchStore, A: Allocator + Copy>(
     respond(
         &asked,
         &mut (),
-        &mut Memory::Sufficed,
+        &mut None,
         correlation,
         &[],
         &request.topics,

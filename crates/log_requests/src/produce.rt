@@ -48,13 +48,13 @@ impl<'a, 'q, 'r, S: BatchStore> Answers<ProducePartition<'a>, BrokerState<S>> fo
     fn put<A: Allocator + Copy>(
         &self,
         state: &mut BrokerState<S>,
-        memory: &mut Memory,
+        memory: &mut Option<Memory>,
         topic: &[u8],
         entry: ProducePartition<'a>,
         out: &mut Vec<u8, A>,
     ) -> Result<(), AllocError> {
         let (answer, told) = produce_entry(state, self.request, topic, &entry);
-        memory.note(told);
+        Memory::note(memory, told);
         append_fixed(out, &produced_bytes(answer))
     }
 }
@@ -90,11 +90,11 @@ pub fn reply_to_produce<S: BatchStore, A: Allocator + Copy>(
     out.reserve(room)?;
     let asked = Storing { request };
     let tail = produce_tail();
-    let mut memory = Memory::Sufficed;
+    let mut noted = None;
     let Ok(()) = respond(
         &asked,
         state,
-        &mut memory,
+        &mut noted,
         correlation,
         &[],
         topics,
@@ -103,6 +103,7 @@ pub fn reply_to_produce<S: BatchStore, A: Allocator + Copy>(
     ) else {
         unreachable!()
     };
+    let memory = Memory::of_all(noted);
     if request.acks == 0 {
         out.truncate(start);
     }

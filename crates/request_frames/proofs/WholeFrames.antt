@@ -6,7 +6,7 @@ use Rattle.std.proofs.lemmas.Bool.{eqb-true}
 use Rattle.std.proofs.lemmas.Int.{to_z-of_z}
 use Rattle.std.proofs.lemmas.List.{nil_from_length}
 use Rattle.request_frames.specs.declared.api.Api.{Api}
-use Rattle.request_frames.specs.declared.api.Api.TheVariants.{Produce, Fetch, ListOffsets, Metadata, OffsetCommit, OffsetFetch, FindCoordinator, ApiVersions, InitProducerId, Deliver, Clean, Export, ExportDelta, Import, ImportDelta, Get, Cover, ForgetGroup, Trim}
+use Rattle.request_frames.specs.declared.api.Api.TheVariants.{Produce, Fetch, ListOffsets, Metadata, OffsetCommit, OffsetFetch, FindCoordinator, ApiVersions, InitProducerId, Deliver, Clean, CleanPart, Export, ExportDelta, Import, ImportDelta, Get, Cover, ForgetGroup, Trim}
 use Rattle.frame_fields.specs.declared.error.FieldFault.{FieldFault}
 use Rattle.frame_fields.specs.declared.error.FrameError.{FrameError}
 use Rattle.frame_fields.specs.declared.error.FrameError.TheVariants as frame
@@ -37,6 +37,7 @@ body_is ApiVersions bytes = map_read_twice _ _ (read_fields (fields_of ApiVersio
 body_is InitProducerId bytes = map_read_twice _ _ (read_fields (fields_of InitProducerId) bytes)
 body_is Deliver bytes = map_read_twice _ _ (read_fields (fields_of Deliver) bytes)
 body_is Clean bytes = map_read_twice _ _ (read_fields (fields_of Clean) bytes)
+body_is CleanPart bytes = map_read_twice _ _ (read_fields (fields_of CleanPart) bytes)
 body_is Export bytes = map_read_twice _ _ (read_fields (fields_of Export) bytes)
 body_is ExportDelta bytes = map_read_twice _ _ (read_fields (fields_of ExportDelta) bytes)
 body_is Import bytes = map_read_twice _ _ (read_fields (fields_of Import) bytes)

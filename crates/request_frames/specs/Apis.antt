@@ -3,7 +3,7 @@
 use Rattle.std.specs.Prelude.{◌≡◌, ◌≢◌, ℤ, pos, Bool, not, ◌&&◌, List, [], ◌∷◌}
 use Rattle.std.specs.Ordering.{int_eq}
 use Rattle.request_frames.specs.declared.api.Api.{Api}
-use Rattle.request_frames.specs.declared.api.Api.TheVariants.{Produce, Fetch, ListOffsets, Metadata, OffsetCommit, OffsetFetch, FindCoordinator, ApiVersions, InitProducerId, Deliver, Clean, Export, ExportDelta, Import, ImportDelta, Get, Cover, ForgetGroup, Trim}
+use Rattle.request_frames.specs.declared.api.Api.TheVariants.{Produce, Fetch, ListOffsets, Metadata, OffsetCommit, OffsetFetch, FindCoordinator, ApiVersions, InitProducerId, Deliver, Clean, CleanPart, Export, ExportDelta, Import, ImportDelta, Get, Cover, ForgetGroup, Trim}
 use Rattle.frame_fields.specs.declared.error.FrameError.{FrameError}
 use Rattle.frame_fields.specs.declared.error.FrameError.TheVariants.{UnknownApi, BadVersion}
 
@@ -19,6 +19,7 @@ api_key ApiVersions = pos 18
 api_key InitProducerId = pos 22
 api_key Deliver = pos 20000
 api_key Clean = pos 20001
+api_key CleanPart = pos 20001
 api_key Export = pos 20002
 api_key ExportDelta = pos 20002
 api_key Import = pos 20003
@@ -40,6 +41,7 @@ api_version ApiVersions = pos 0
 api_version InitProducerId = pos 0
 api_version Deliver = pos 0
 api_version Clean = pos 0
+api_version CleanPart = pos 1
 api_version Export = pos 0
 api_version ExportDelta = pos 1
 api_version Import = pos 0
@@ -51,6 +53,8 @@ api_version Trim = pos 0
 
 -- the request of the same key in its other version; itself, where it has one version alone
 abbrev pub other_version : Api → Api
+other_version Clean = CleanPart
+other_version CleanPart = Clean
 other_version Export = ExportDelta
 other_version ExportDelta = Export
 other_version Import = ImportDelta

@@ -1,10 +1,10 @@
 -- Requests read from left to right, as the code goes; `Requests` says what comes of it.
 use Rattle.std.specs.Prelude.{List, ℕ}
 use Rattle.request_frames.specs.declared.api.Api.{Api}
-use Rattle.request_frames.specs.declared.api.Api.TheVariants.{Produce, Fetch, ListOffsets, Metadata, OffsetCommit, OffsetFetch, FindCoordinator, ApiVersions, InitProducerId, Deliver, Clean, Export, ExportDelta, Import, ImportDelta, Get, Cover, ForgetGroup, Trim}
+use Rattle.request_frames.specs.declared.api.Api.TheVariants.{Produce, Fetch, ListOffsets, Metadata, OffsetCommit, OffsetFetch, FindCoordinator, ApiVersions, InitProducerId, Deliver, Clean, CleanPart, Export, ExportDelta, Import, ImportDelta, Get, Cover, ForgetGroup, Trim}
 use Rattle.frame_fields.specs.Types.{nullable_string}
 use Rattle.frame_fields.specs.Reading.{◌>>=◌, At, map_read, read_field, read_fields}
-use Rattle.request_frames.specs.Requests.BodyValue.{produce, fetch, list_offsets, metadata, offset_commit, offset_fetch, find_coordinator, api_versions, init_producer_id, deliver, clean, export, export_delta, import, import_delta, get, cover, forget_group, trim}
+use Rattle.request_frames.specs.Requests.BodyValue.{produce, fetch, list_offsets, metadata, offset_commit, offset_fetch, find_coordinator, api_versions, init_producer_id, deliver, clean, clean_part, export, export_delta, import, import_delta, get, cover, forget_group, trim}
 use Rattle.request_frames.specs.Requests.{BodyValue}
 use Rattle.request_frames.specs.Produce.{produce_fields, produce_request}
 use Rattle.request_frames.specs.Fetch.{fetch_fields, fetch_request}
@@ -17,6 +17,7 @@ use Rattle.request_frames.specs.ApiVersions.{api_versions_fields, api_versions_r
 use Rattle.request_frames.specs.InitProducerId.{init_producer_id_fields, init_producer_id_request}
 use Rattle.request_frames.specs.Deliver.{deliver_fields, deliver_request}
 use Rattle.request_frames.specs.Clean.{clean_fields, clean_request}
+use Rattle.request_frames.specs.CleanPart.{clean_part_fields, clean_part_request}
 use Rattle.request_frames.specs.Export.{export_fields, export_request}
 use Rattle.request_frames.specs.ExportDelta.{export_delta_fields, export_delta_request}
 use Rattle.request_frames.specs.Import.{import_fields, import_request}
@@ -39,6 +40,7 @@ read_body ApiVersions bytes = map_read api_versions (map_read api_versions_reque
 read_body InitProducerId bytes = map_read init_producer_id (map_read init_producer_id_request (read_fields init_producer_id_fields bytes))
 read_body Deliver bytes = map_read deliver (map_read deliver_request (read_fields deliver_fields bytes))
 read_body Clean bytes = map_read clean (map_read clean_request (read_fields clean_fields bytes))
+read_body CleanPart bytes = map_read clean_part (map_read clean_part_request (read_fields clean_part_fields bytes))
 read_body Export bytes = map_read export (map_read export_request (read_fields export_fields bytes))
 read_body ExportDelta bytes = map_read export_delta (map_read export_delta_request (read_fields export_delta_fields bytes))
 read_body Import bytes = map_read import (map_read import_request (read_fields import_fields bytes))

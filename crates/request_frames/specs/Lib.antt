@@ -10,6 +10,7 @@ pub mod ApiVersions
 pub mod InitProducerId
 pub mod Deliver
 pub mod Clean
+pub mod CleanPart
 pub mod Export
 pub mod ExportDelta
 pub mod Import

@@ -2,7 +2,7 @@
 -- "Protocol Guide", sections "Request Header" and "The Messages".
 use Rattle.std.specs.Prelude.{◌≡◌, ◌⊎◌, true, false, ℕ, ◌<◌, ◌≤◌, ℤ, List, [], length, drop, Option}
 use Rattle.request_frames.specs.declared.api.Api.{Api}
-use Rattle.request_frames.specs.declared.api.Api.TheVariants.{Produce, Fetch, ListOffsets, Metadata, OffsetCommit, OffsetFetch, FindCoordinator, ApiVersions, InitProducerId, Deliver, Clean, Export, ExportDelta, Import, ImportDelta, Get, Cover, ForgetGroup, Trim}
+use Rattle.request_frames.specs.declared.api.Api.TheVariants.{Produce, Fetch, ListOffsets, Metadata, OffsetCommit, OffsetFetch, FindCoordinator, ApiVersions, InitProducerId, Deliver, Clean, CleanPart, Export, ExportDelta, Import, ImportDelta, Get, Cover, ForgetGroup, Trim}
 use Rattle.frame_fields.specs.declared.error.FieldFault.{FieldFault}
 use Rattle.frame_fields.specs.declared.error.FieldFault.TheVariants as field
 use Rattle.frame_fields.specs.declared.error.FrameError.{FrameError}
@@ -21,6 +21,7 @@ use Rattle.request_frames.specs.ApiVersions.{api_versions_fields, api_versions_r
 use Rattle.request_frames.specs.InitProducerId.{init_producer_id_fields, init_producer_id_request}
 use Rattle.request_frames.specs.Deliver.{DeliverValue, deliver_fields, deliver_request}
 use Rattle.request_frames.specs.Clean.{CleanValue, clean_fields, clean_request}
+use Rattle.request_frames.specs.CleanPart.{CleanPartValue, clean_part_fields, clean_part_request}
 use Rattle.request_frames.specs.Export.{ExportValue, export_fields, export_request}
 use Rattle.request_frames.specs.ExportDelta.{ExportDeltaValue, export_delta_fields, export_delta_request}
 use Rattle.request_frames.specs.Import.{ImportValue, import_fields, import_request}
@@ -45,6 +46,7 @@ pub data BodyValue : Type 0 where
   init_producer_id : Option (List ℕ) → BodyValue
   deliver : DeliverValue → BodyValue
   clean : CleanValue → BodyValue
+  clean_part : CleanPartValue → BodyValue
   export : ExportValue → BodyValue
   export_delta : ExportDeltaValue → BodyValue
   import : ImportValue → BodyValue
@@ -77,6 +79,7 @@ said_by ApiVersions = record { fields = api_versions_fields; body = λ v. api_ve
 said_by InitProducerId = record { fields = init_producer_id_fields; body = λ v. init_producer_id (init_producer_id_request v) }
 said_by Deliver = record { fields = deliver_fields; body = λ v. deliver (deliver_request v) }
 said_by Clean = record { fields = clean_fields; body = λ v. clean (clean_request v) }
+said_by CleanPart = record { fields = clean_part_fields; body = λ v. clean_part (clean_part_request v) }
 said_by Export = record { fields = export_fields; body = λ v. export (export_request v) }
 said_by ExportDelta = record { fields = export_delta_fields; body = λ v. export_delta (export_delta_request v) }
 said_by Import = record { fields = import_fields; body = λ v. import (import_request v) }

@@ -15,6 +15,7 @@ use Rattle.request_frames.specs.ApiVersions.{api_versions_view}
 use Rattle.request_frames.specs.InitProducerId.{init_producer_id_view}
 use Rattle.request_frames.specs.Deliver.{deliver_view}
 use Rattle.request_frames.specs.Clean.{clean_view}
+use Rattle.request_frames.specs.CleanPart.{clean_part_view}
 use Rattle.request_frames.specs.Export.{export_view}
 use Rattle.request_frames.specs.ExportDelta.{export_delta_view}
 use Rattle.request_frames.specs.Import.{import_view}
@@ -23,7 +24,7 @@ use Rattle.request_frames.specs.Get.{get_view}
 use Rattle.request_frames.specs.Cover.{cover_view}
 use Rattle.request_frames.specs.ForgetGroup.{forget_group_view}
 use Rattle.request_frames.specs.Trim.{trim_view}
-use Rattle.request_frames.specs.Requests.BodyValue.{produce, fetch, list_offsets, metadata, offset_commit, offset_fetch, find_coordinator, api_versions, init_producer_id, deliver, clean, export, export_delta, import, import_delta, get, cover, forget_group, trim}
+use Rattle.request_frames.specs.Requests.BodyValue.{produce, fetch, list_offsets, metadata, offset_commit, offset_fetch, find_coordinator, api_versions, init_producer_id, deliver, clean, clean_part, export, export_delta, import, import_delta, get, cover, forget_group, trim}
 use Rattle.request_frames.specs.Requests.{BodyValue, RequestValue, key_of, version_of, correlation_of}
 
 abbrev pub request_body : RequestBody → BodyValue
@@ -38,6 +39,7 @@ request_body (variants.ApiVersions r) = api_versions (api_versions_view r)
 request_body (variants.InitProducerId r) = init_producer_id (init_producer_id_view r)
 request_body (variants.Deliver r) = deliver (deliver_view r)
 request_body (variants.Clean r) = clean (clean_view r)
+request_body (variants.CleanPart r) = clean_part (clean_part_view r)
 request_body (variants.Export r) = export (export_view r)
 request_body (variants.ExportDelta r) = export_delta (export_delta_view r)
 request_body (variants.Import r) = import (import_view r)

@@ -30,6 +30,8 @@ pub enum Api {
     Deliver,
     /// Clean, version 0.
     Clean,
+    /// Clean, version 1.
+    CleanPart,
     /// Export, version 0.
     Export,
     /// Export, version 1.
@@ -85,6 +87,7 @@ impl Api {
             Api::InitProducerId => 22,
             Api::Deliver => 20_000,
             Api::Clean => 20_001,
+            Api::CleanPart => 20_001,
             Api::Export => 20_002,
             Api::ExportDelta => 20_002,
             Api::Import => 20_003,
@@ -112,6 +115,7 @@ impl Api {
             Api::InitProducerId => 0,
             Api::Deliver => 0,
             Api::Clean => 0,
+            Api::CleanPart => 1,
             Api::Export => 0,
             Api::ExportDelta => 1,
             Api::Import => 0,
@@ -155,6 +159,8 @@ impl Api {
         ensures { result ≡ other_version self }
     {
         match self {
+            Api::Clean => Api::CleanPart,
+            Api::CleanPart => Api::Clean,
             Api::Export => Api::ExportDelta,
             Api::ExportDelta => Api::Export,
             Api::Import => Api::ImportDelta,

@@ -5,6 +5,7 @@
 mod api;
 mod api_versions;
 mod clean;
+mod clean_part;
 mod cover;
 mod deliver;
 mod export;
@@ -28,6 +29,7 @@ mod trim;
 pub use api::{Api, LISTED_API_COUNT};
 pub use api_versions::ApiVersionsRequest;
 pub use clean::CleanRequest;
+pub use clean_part::CleanPartRequest;
 pub use cover::CoverRequest;
 pub use deliver::DeliverRequest;
 pub use export::ExportRequest;

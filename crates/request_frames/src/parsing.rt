@@ -11,6 +11,7 @@ ghost use Rattle.request_frames.specs.Views.{request_body, request_value, IsHead
 use crate::api::Api;
 use crate::api_versions::{ApiVersionsRequest, api_versions_at};
 use crate::clean::{CleanRequest, clean_at};
+use crate::clean_part::{CleanPartRequest, clean_part_at};
 use crate::cover::{CoverRequest, cover_at};
 use crate::deliver::{DeliverRequest, deliver_at};
 use crate::export::{ExportRequest, export_at};
@@ -65,6 +66,8 @@ pub enum RequestBody<'a> {
     Deliver(DeliverRequest<'a>),
     /// A copy is to be compacted.
     Clean(CleanRequest<'a>),
+    /// A part of a copy is to be compacted.
+    CleanPart(CleanPartRequest<'a>),
     /// The image of a copy is wanted.
     Export(ExportRequest<'a>),
     /// The delta of a copy is wanted.
@@ -139,6 +142,7 @@ fn body_at(api: Api, bytes: &[u8]) -> Result<(RequestBody<'_>, &[u8]), FieldFaul
         Api::InitProducerId => init_producer_id_at(bytes),
         Api::Deliver => deliver_at(bytes),
         Api::Clean => clean_at(bytes),
+        Api::CleanPart => clean_part_at(bytes),
         Api::Export => export_at(bytes),
         Api::ExportDelta => export_delta_at(bytes),
         Api::Import => import_at(bytes),

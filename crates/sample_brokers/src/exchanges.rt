@@ -87,6 +87,15 @@ pub const CLEAN: Exchange = Exchange {
     failed: Some(b"\0\0\0\x1e\0\0\0\x07\08\0\0\0\0\0\0\0\0\0\0\0\0\0\0\0\0\0\0\0\0\0\0\0\0"),
 };
 
+/// A Clean request of version 1 for partition 0 of `t`: for the offsets below 1.
+pub const CLEAN_PART: Exchange = Exchange {
+    name: "Clean of a part",
+    changes: true,
+    request: b"\0\0\01N!\0\x01\0\0\0\x07\xff\xff\0\x01t\0\0\0\0\0\0\0\0\0\0\0\0\0\0\0\0\0\0\0\x01\0\0\0\0\0\0\0\x01\0\0\0\0\0\0\0\0",
+    response: b"\0\0\0\x1e\0\0\0\x07\0\0\0\0\0\0\0\0\0\0\0\0\0\0\0\0\0\0\0\0\0\0\0\0\0\0",
+    failed: Some(b"\0\0\0\x1e\0\0\0\x07\08\0\0\0\0\0\0\0\0\0\0\0\0\0\0\0\0\0\0\0\0\0\0\0\0"),
+};
+
 /// A Trim request for partition 0 of `t`: to offset 1.
 pub const TRIM: Exchange = Exchange {
     name: "Trim",

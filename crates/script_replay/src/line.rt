@@ -2,6 +2,7 @@
 
 use crate::items::Items;
 use crate::words::{Words, has_empty_word, split_word};
+use content::CleaningPart;
 
 /// A line that is none of a script's.
 #[derive(Clone, Copy, PartialEq, Eq)]
@@ -50,6 +51,11 @@ pub enum Line<'a> {
         upto: i64,
         tomb_before: i64,
     },
+    /// A part of a copy is cleaned.
+    CleanPart {
+        copy: usize,
+        part: CleaningPart,
+    },
     /// An image of a copy is kept.
     Send {
         copy: usize,
@@ -86,15 +92,24 @@ fn deliver<'a>(copy: usize, words: &mut Words<'a>) -> Result<Line<'a>, BadLine> 
     Ok(Line::Deliver { copy, batch })
 }
 
-/// A cleaning with the bounds that come next.
+/// A cleaning with the bounds that come next: two numbers of a whole one, four of a part.
 fn clean<'a>(copy: usize, words: &mut Words<'a>) -> Result<Line<'a>, BadLine> {
-    let upto = words.signed()?;
-    let tomb_before = words.signed()?;
-    Ok(Line::Clean {
-        copy,
-        upto,
-        tomb_before,
-    })
+    let first = words.signed()?;
+    let second = words.signed()?;
+    if words.are_over() {
+        return Ok(Line::Clean {
+            copy,
+            upto: first,
+            tomb_before: second,
+        });
+    }
+    let part = CleaningPart {
+        from: first,
+        to: second,
+        upto: words.signed()?,
+        tomb_before: words.signed()?,
+    };
+    Ok(Line::CleanPart { copy, part })
 }
 
 /// A merge of the image whose number comes next.

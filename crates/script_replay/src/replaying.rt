@@ -155,6 +155,7 @@ impl<S: BatchStore> Stage<S> {
                 upto,
                 tomb_before,
             },
+            Line::CleanPart { copy, part } => Event::CleanPart { copy, part },
             Line::Send { copy } => Event::Send { copy },
             Line::Merge { copy, image } => Event::Merge { copy, image },
             Line::Trim { copy, start } => Event::Trim { copy, start },

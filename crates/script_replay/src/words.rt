@@ -72,9 +72,14 @@ impl<'a> Words<'a> {
         })
     }
 
+    /// Whether no word is left.
+    pub(crate) fn are_over(&self) -> bool {
+        self.rest.is_empty()
+    }
+
     /// Sees that no word is left.
     pub(crate) fn end(&self) -> Result<(), BadLine> {
-        if self.rest.is_empty() {
+        if self.are_over() {
             Ok(())
         } else {
             Err(BadLine)

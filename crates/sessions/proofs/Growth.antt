@@ -16,7 +16,6 @@ use Rattle.broker_state.specs.Places.{IsPlaceOf}
 use Rattle.broker_state.specs.State.{State, Topic, content_at, is_known}
 use Rattle.fetch_waits.specs.Waiting.{bytes_from}
 use Rattle.fetch_waits.specs.Sleeping.{Contents, FitsRoom, GrowsBy, Growths, Sleeps, is_asked, more_in, more_of}
-use Rattle.fetch_waits.proofs.Growing.{bytes_grown}
 use Rattle.fetch_waits.proofs.Sleeping.{less_room, sleeps_less, sleeps_on}
 use Rattle.sessions.proofs.Booleans.{and_true, or_left, or_right, or_true}
 use Rattle.sessions.specs.declared.waits.PartitionKey.{PartitionKey}
@@ -119,12 +118,6 @@ module _ (name : List ℕ) (p : ℤ) (more : ℕ) where
       let first = more_of_one t.name t.entries in
       let rest = more_in_one ts in
       omega (arith, first, rest)
-
--- what came is no more than what is there from the old end on
-pub came : (old new : Content) (more : ℕ) → GrowsBy old new more → more ≤ length (bytes_from new (end old))
-came old new more grows =
-    let sum = bytes_grown old new more (end old) grows (omega (arith, ints)) in
-    omega (arith, sum)
 
 -- ---- a Fetch whose partitions hold what they held
 

@@ -1,5 +1,5 @@
 -- What a request leaves: the same partitions at the same places, what stands in those that it isn't about, and where it only
--- appends, logs that grew at their ends.
+-- appends or cleans, logs that grew at their ends.
 use Rattle.std.proofs.Common.{◌≡◌, ◌⊎◌, inl, inr, ℕ, suc, ◌+◌, ℤ, pos, negsuc, Bool, true, false, cond, not, ◌&&◌, ◌||◌, List, map, [], ◌∷◌, ◌++◌, length, Option, Some, None, refl, sym, ap, subst, ◌∙◌, true≢false, arith}
 use Rattle.std.specs.Prelude.{is_some, nat_lt, bytes_eq, position}
 use Rattle.std.specs.List.{AllByRecursion, position_or_len}
@@ -9,12 +9,18 @@ use Rattle.std.proofs.lemmas.Int.{ints}
 use Rattle.std.proofs.lemmas.Slice.Eq.{bytes_eq-Decides}
 use Rattle.batch_codec.specs.Reading.{batch_of}
 use Rattle.batch_codec.specs.Values.{BatchValue}
+use Rattle.content.specs.Cleaning.{clean_batch}
 use Rattle.content.specs.Content.{Content, empty}
+use Rattle.content.specs.Parts.{clean_batch_by_part}
+use Rattle.content_laws.proofs.ContentSteps.{clean_batch_thins, part_batch_thins}
 use Rattle.frame_fields.specs.Types.{TopicOf}
 use Rattle.request_frames.specs.Produce.{ProduceValue, ProducePartitionValue}
 use Rattle.request_frames.specs.Requests.{BodyValue, RequestValue}
-use Rattle.request_frames.specs.Requests.BodyValue.{produce, offset_commit, forget_group}
+use Rattle.request_frames.specs.Requests.BodyValue.{produce, offset_commit, forget_group, clean, clean_part}
 use Rattle.request_frames.specs.OffsetCommit.{OffsetCommitValue}
+use Rattle.request_frames.specs.Clean.{CleanValue}
+use Rattle.request_frames.specs.CleanPart.{CleanPartValue}
+use Rattle.content.specs.declared.part.CleaningPart.{CleaningPart}
 use Rattle.answering.proofs.AnswersOfAll.{in_any_case}
 use Rattle.broker_state.specs.declared.place.Place.{Place}
 use Rattle.broker_state.specs.Batches.{appended}
@@ -28,52 +34,17 @@ use Rattle.group_offsets.specs.Groups.{group_keys}
 use Rattle.group_requests.specs.ForgetGroup.{forgotten}
 use Rattle.group_requests.specs.GroupPartition.{group_content}
 use Rattle.group_requests.specs.OffsetCommit.{offset_commit_batch}
-use Rattle.broker_node.specs.Effects.{TopicPartition, effect, group_partition, is_among, places, produced_to}
+use Rattle.broker_node.specs.Effects.{TopicPartition, effect, group_partition, is_among, only_grows, places, produced_to}
 use Rattle.broker_node.specs.Kinds.{kind}
 use Rattle.broker_node.specs.Replies.{MayReply, RepliesTo}
 use Rattle.broker_node.specs.Streams.{IsAnswered}
 use Rattle.broker_node.proofs.KeptStates.{EachEntry, Keeps, plan_keeps, way_keeps}
 use Rattle.fetch_waits.proofs.Appending.{Ends, Grown, grown_append, grown_same, valid_ends}
+use Rattle.fetch_waits.proofs.Cleaning.{grown_thinned}
+use Rattle.fetch_waits.proofs.OneChange.{other_one, same_known, same_or_changed}
 use Rattle.sessions.specs.declared.waiting.Noted.{Noted}
-use Rattle.sessions.specs.declared.waiting.Noted.TheVariants.{Appends}
-use Rattle.sessions.specs.Asleep.{IsAppend, Leaves}
-
--- ---- another content of one partition
-
-module _ (s : State) (topic : List ℕ) (index : ℤ) (c : Content) (name : List ℕ) (p : ℤ) where
-  other_one : (bytes_eq topic name && int_eq index p) ≡ false → partition_at (with_content s topic index c) name p ≡ partition_at s name p
-  other_one apart = by (bytes_eq topic name) (int_eq index p) refl refl apart
-    where
-      by : (b d : Bool) → bytes_eq topic name ≡ b → int_eq index p ≡ d → (b && d) ≡ false → partition_at (with_content s topic index c) name p ≡ partition_at s name p
-      by false d e f apart = other_name s.topics topic name p index c (λ same. true≢false (sym ((bytes_eq-Decides topic name).1 (sym same)) ∙ e))
-      by true false e f apart = other_index s.topics topic name p index c (λ same. absurd (grind (arith, ints, same, f)))
-      by true true e f apart = absurd (true≢false apart)
-
-  -- The partition has what it had, or it is that one, and has the other content.
-  record IsChanged : Type 0 where
-    new : partition_at (with_content s topic index c) name p ≡ Some c
-    old : partition_at s topic index ≡ partition_at s name p
-    known : is_known s name p ≡ true
-
-  same_or_changed : (partition_at (with_content s topic index c) name p ≡ partition_at s name p) ⊎ IsChanged
-  same_or_changed = by (is_known s topic index) (bytes_eq topic name) (int_eq index p) refl refl refl
-    where
-      by : (k b d : Bool) → is_known s topic index ≡ k → bytes_eq topic name ≡ b → int_eq index p ≡ d → (partition_at (with_content s topic index c) name p ≡ partition_at s name p) ⊎ IsChanged
-      by false b d known e f = inl (ap (λ (m : State). partition_at m name p) (with_unknown s topic index c known))
-      by true false d known e f = inl (other_one (ap (λ (x : Bool). x && int_eq index p) e))
-      by true true false known e f = inl (other_one ((λ i. e i && f i)))
-      by true true true known e f =
-          let same : topic ≡ name = (bytes_eq-Decides topic name).0 e in
-          let number : index ≡ p = grind (arith, ints, f) in
-          let old : partition_at s topic index ≡ partition_at s name p = λ i. partition_at s (same i) (number i) in
-          inr (record {
-            new = sym (λ i. partition_at (with_content s topic index c) (same i) (number i)) ∙ with_same s topic index c known;
-            old = old;
-            known = sym (ap is_some old) ∙ known;
-          })
-
-  same_known : is_known (with_content s topic index c) name p ≡ is_known s name p
-  same_known = elim same_or_changed [ inl same ↦ ap is_some same | inr changed ↦ ap is_some changed.new ∙ sym changed.known ]
+use Rattle.sessions.specs.declared.waiting.Noted.TheVariants.{Grows}
+use Rattle.sessions.specs.Asleep.{Leaves}
 
 -- ---- topics stay where they are
 
@@ -198,9 +169,10 @@ forgotten_grown : (old c : Content) (keys : List (List ℕ)) → Grown old c →
 forgotten_grown old c [] grown = grown
 forgotten_grown old c (key ∷ keys) grown = grown_append old c (forget_batch (key ∷ keys)) grown
 
--- these alone append
-appending : (K : BodyValue → Type 0) → ((q : ProduceValue) → K (produce q)) → ((q : OffsetCommitValue) → K (offset_commit q)) → ((group : List ℕ) → K (forget_group group)) → (body : BodyValue) → IsAppend (effect body) → K body
-appending K of_produce of_commit of_forget body is = grind (arith, is, of_produce, of_commit, of_forget)
+-- these alone append or clean
+growing : (K : BodyValue → Type 0) → ((q : ProduceValue) → K (produce q)) → ((q : OffsetCommitValue) → K (offset_commit q)) → ((group : List ℕ) → K (forget_group group))
+    → ((q : CleanValue) → K (clean q)) → ((q : CleanPartValue) → K (clean_part q)) → (body : BodyValue) → only_grows (effect body) ≡ true → K body
+growing K of_produce of_commit of_forget of_clean of_part body is = grind (arith, is, of_produce, of_commit, of_forget, of_clean, of_part)
 
 module _ (s : State) (name : List ℕ) (p : ℤ) where
   abbrev Grew : State → Type 0
@@ -230,28 +202,43 @@ module _ (s : State) (name : List ℕ) (p : ℤ) where
       λ none. grew_with s group_topic (pos 0) (forgotten (group_content s) (group_keys (group_content s) group)) (λ old grown. forgotten_grown old (group_content s) (group_keys (group_content s) group) grown) (grown_same (content_at s name p) ends),
     )
 
-    append_keeps : (body : BodyValue) → IsAppend (effect body) → Keeps Grew ((kind body).way s n)
-    append_keeps body is = appending (λ b. Keeps Grew ((kind b).way s n)) produce_keeps commit_keeps forget_keeps body is
+    clean_keeps : (q : CleanValue) → Keeps Grew ((kind (clean q)).way s n)
+    clean_keeps q =
+        let held = content_at s q.topic q.partition in (
+          grown_same (content_at s name p) ends,
+          λ none. grew_with s q.topic q.partition _ (λ old grown. grown_thinned (clean_batch held q.upto q.tomb_before) (clean_batch_thins held q.upto q.tomb_before) old held grown) (grown_same (content_at s name p) ends),
+        )
+
+    part_keeps : (q : CleanPartValue) → Keeps Grew ((kind (clean_part q)).way s n)
+    part_keeps q =
+        let held = content_at s q.topic q.partition in
+        let part : CleaningPart = record { from = q.from; to = q.to; upto = q.upto; tomb_before = q.tomb_before } in (
+          grown_same (content_at s name p) ends,
+          λ none. grew_with s q.topic q.partition _ (λ old grown. grown_thinned (clean_batch_by_part part held) (part_batch_thins part held) old held grown) (grown_same (content_at s name p) ends),
+        )
+
+    grow_keeps : (body : BodyValue) → only_grows (effect body) ≡ true → Keeps Grew ((kind body).way s n)
+    grow_keeps body is = growing (λ b. Keeps Grew ((kind b).way s n)) produce_keeps commit_keeps forget_keeps clean_keeps part_keeps body is
 
 -- ---- all
 
-pub leaves : (noted : Noted) (s after : State) (q : RequestValue) (out : Option (List ℕ)) → IsSound s → (noted ≡ Appends → IsAppend (effect q.body)) → MayReply s q out after → Leaves s noted (places (effect q.body)) after
-leaves noted s after q out sound appends replies = record {
+pub leaves : (noted : Noted) (s after : State) (q : RequestValue) (out : Option (List ℕ)) → IsSound s → (noted ≡ Grows → only_grows (effect q.body) ≡ true) → MayReply s q out after → Leaves s noted (places (effect q.body)) after
+leaves noted s after q out sound grows replies = record {
   config = same_config [] (pos 0) after s (same [] (pos 0));
   known = λ name p. known_too name p after s (same name p);
   places = λ name p place is. same_place name p after s place (same name p) is;
   places_too = λ name p place is. same_place name p s after place (sym (same name p)) is;
   others = λ name p apart. ap (λ (o : Option Content). unwrap_or o empty) (stays s name p after q out apart replies);
-  grows = λ noted name p. let grown = grew (appends noted) name p in (grown.more, grown.grows);
+  grows = λ noted name p. let grown = grew (grows noted) name p in (grown.more, grown.grows);
 }
   where
     same : (name : List ℕ) (p : ℤ) → seen after name p ≡ seen s name p
     same name p = seen_stays name p s after q out replies
 
-    grew : IsAppend (effect q.body) → (name : List ℕ) (p : ℤ) → Grown (content_at s name p) (content_at after name p)
+    grew : only_grows (effect q.body) ≡ true → (name : List ℕ) (p : ℤ) → Grown (content_at s name p) (content_at after name p)
     grew is name p =
         let ends = valid_ends (content_at s name p) (content_valid s name p sound) in
-        way_keeps (Grew s name p) ((kind q.body).way s q.correlation) out after (append_keeps s name p q.correlation ends q.body is) replies
+        way_keeps (Grew s name p) ((kind q.body).way s q.correlation) out after (grow_keeps s name p q.correlation ends q.body is) replies
 
-pub answered_leaves : (noted : Noted) (s after : State) (frame reply : List ℕ) (a : IsAnswered s frame reply after) → IsSound s → (noted ≡ Appends → IsAppend (effect a.request.body)) → Leaves s noted (places (effect a.request.body)) after
-answered_leaves noted s after frame reply a sound appends = leaves noted s after a.request a.response sound appends a.replies
+pub answered_leaves : (noted : Noted) (s after : State) (frame reply : List ℕ) (a : IsAnswered s frame reply after) → IsSound s → (noted ≡ Grows → only_grows (effect a.request.body) ≡ true) → Leaves s noted (places (effect a.request.body)) after
+answered_leaves noted s after frame reply a sound grows = leaves noted s after a.request a.response sound grows a.replies

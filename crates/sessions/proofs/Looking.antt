@@ -16,6 +16,7 @@ use Rattle.broker_state.specs.Places.{IsPlaceOf}
 use Rattle.broker_state.specs.State.{State, content_at}
 use Rattle.fetch_waits.specs.Waiting.{bytes_from}
 use Rattle.fetch_waits.specs.Sleeping.{Contents, FitsRoom, GrowsBy, Sleeps, is_asked}
+use Rattle.fetch_waits.proofs.Growing.{grown_behind}
 use Rattle.fetch_waits.proofs.Sleeping.{grows_nothing, less_room, sleeps_less}
 use Rattle.sessions.specs.declared.waits.PartitionKey.{PartitionKey}
 use Rattle.sessions.specs.declared.waits.Share.{Share}
@@ -24,7 +25,7 @@ use Rattle.sessions.specs.Waiting.{GoesOn, StandState, StandersWait, WaitState, 
 use Rattle.sessions.specs.Asleep.{AllWaitOn, EndsAre, Stands, WaitsOn, count_in}
 use Rattle.sessions.specs.Growing.{Looks, LooksAt, Sees, StaysAsleep, is_at}
 use Rattle.sessions.proofs.Standers.{places_kept, same_key, share_of}
-use Rattle.sessions.proofs.Growth.{FindsIn, at_place, by_one, came, find_in, fits_behind, one_at, one_grows, sleeps_by, sleeps_same}
+use Rattle.sessions.proofs.Growth.{FindsIn, at_place, by_one, find_in, fits_behind, one_at, one_grows, sleeps_by, sleeps_same}
 
 other_key : (x y : PartitionKey) → is_same_key x y ≡ false → is_same_key y x ≡ false
 other_key x y isnt = grind (arith, isnt, nat_tests)
@@ -132,14 +133,13 @@ module _ (s after : State) (noted : Noted) (key : PartitionKey) (now next : Cont
           let upto = goes.1 in
           fits more goes.2 (omega (arith, sum, upto))
 
-      -- the growth is no more than what was counted
-      counted : (ends : EndsAre s now old) (name : List ℕ) (p : ℤ) (stands : Stands s old k was.forced q waits.room name p) → Has name p stands → (real : ℕ) → GrowsBy (now name p) (content_at after name p) real → real ≤ more
-      counted ends name p stands its real grows =
+      -- what is there from the former end on is what was counted
+      counted : (ends : EndsAre s now old) (name : List ℕ) (p : ℤ) (stands : Stands s old k was.forced q waits.room name p) → Has name p stands → length (bytes_from (content_at after name p) (end (now name p))) ≤ more
+      counted ends name p stands its =
           let at = subst (IsPlaceOf after name p) (ap place_of its.same_place) (sees.places name p stands.place stands.is_place) in
           let from : looks.stand.end ≡ end (now name p) = ap (λ (x : StandState). x.end) (sym its.same_stand) ∙ ends name p stands.place stands.stand stands.is_place stands.stand_is in
           let bytes : more ≡ length (bytes_from (content_at after name p) (end (now name p))) = stays.grew.bytes name p at ∙ ap (λ (z : ℤ). length (bytes_from (content_at after name p) z)) from in
-          let most = came (now name p) (content_at after name p) real grows in
-          omega (arith, bytes, most)
+          omega (arith, bytes)
 
       module _ (ends : EndsAre s now old) (name : List ℕ) (p : ℤ) (asked : is_asked q name p ≡ true) (at : is_at s key name p ≡ true) where
         abbrev stands : Stands s old k was.forced q waits.room name p
@@ -149,13 +149,13 @@ module _ (s after : State) (noted : Noted) (key : PartitionKey) (now next : Cont
         its = has name p stands at
 
         abbrev grows : (real : ℕ) × GrowsBy (now name p) (content_at after name p) real
-        grows = sees.grows stays.appends name p
+        grows = let grown = sees.grows stays.appends name p in (length (bytes_from (content_at after name p) (end (now name p))), grown_behind (now name p) (content_at after name p) grown.0 grown.1)
 
         abbrev real : ℕ
         real = grows.0
 
         few : real ≤ more
-        few = counted ends name p stands its real grows.1
+        few = counted ends name p stands its
 
         abbrev left : List ℕ → ℤ → Option ℕ
         left other r = less_room (waits.room other r) (one_grows name p real other r)

@@ -24,14 +24,14 @@ use Rattle.request_frames.specs.Requests.{RequestValue}
 use Rattle.broker_state.specs.declared.place.Place.{Place}
 use Rattle.broker_state.specs.Places.{IsPlaceOf}
 use Rattle.broker_state.specs.State.{State}
-use Rattle.broker_node.specs.Effects.{TopicPartition, effect, is_among, places, produced_to}
+use Rattle.broker_node.specs.Effects.{TopicPartition, effect, is_among, only_grows, places, produced_to}
 use Rattle.sessions.proofs.Booleans.{or_left, or_right, or_true}
 use Rattle.sessions.specs.declared.waits.PartitionKey.{PartitionKey}
 use Rattle.sessions.specs.Waiting.{StandState, WaitingState, is_same_key, key_of, stand_at}
-use Rattle.sessions.specs.Asleep.{AreMarked, IsAppend, is_marked}
+use Rattle.sessions.specs.Asleep.{AreMarked, is_marked}
 use Rattle.sessions.specs.Growing.{Marks, produced_in}
 use Rattle.sessions.specs.declared.waiting.Noted.{Noted}
-use Rattle.sessions.specs.declared.waiting.Noted.TheVariants.{Appends, Changes}
+use Rattle.sessions.specs.declared.waiting.Noted.TheVariants.{Grows, Changes}
 
 -- ---- the first of a list
 
@@ -205,14 +205,14 @@ nobody_stands key stand [] none at = none-some stand at
 nobody_stands key stand (e ∷ es) none at = omega (arith, none)
 
 appends_to : Noted → Bool
-appends_to Appends = true
+appends_to Grows = true
 appends_to Changes = false
 
-pub changes_not : Changes ≡ Appends → ⊥
+pub changes_not : Changes ≡ Grows → ⊥
 unfolding appends_to
 changes_not same = false≢true (ap appends_to same)
 
-pub request_marked : (s t : State) (old new : WaitingState) (noted : Noted) (q r : RequestValue) → t ≡ s → r ≡ q → Marks t old new (places (effect r.body)) → (noted ≡ Appends → IsAppend (effect r.body))
-    → AreMarked s new (places (effect q.body)) × (noted ≡ Appends → IsAppend (effect q.body))
+pub request_marked : (s t : State) (old new : WaitingState) (noted : Noted) (q r : RequestValue) → t ≡ s → r ≡ q → Marks t old new (places (effect r.body)) → (noted ≡ Grows → only_grows (effect r.body) ≡ true)
+    → AreMarked s new (places (effect q.body)) × (noted ≡ Grows → only_grows (effect q.body) ≡ true)
 request_marked s t old new noted q r state same marks appends =
-    subst (λ (x : RequestValue). AreMarked s new (places (effect x.body)) × (noted ≡ Appends → IsAppend (effect x.body))) same (subst (λ (u : State). AreMarked u new (places (effect r.body))) state marks.these, appends)
+    subst (λ (x : RequestValue). AreMarked s new (places (effect x.body)) × (noted ≡ Grows → only_grows (effect x.body) ≡ true)) same (subst (λ (u : State). AreMarked u new (places (effect r.body))) state marks.these, appends)

@@ -20,7 +20,7 @@ use Rattle.fetch_waits.proofs.Sleeping.{grows_nothing}
 use Rattle.sessions.specs.declared.waits.PartitionKey.{PartitionKey}
 use Rattle.sessions.specs.declared.waits.Share.{Share}
 use Rattle.sessions.specs.declared.waiting.Noted.{Noted}
-use Rattle.sessions.specs.declared.waiting.Noted.TheVariants.{Appends}
+use Rattle.sessions.specs.declared.waiting.Noted.TheVariants.{Grows}
 use Rattle.sessions.specs.Waiting.{StandState, WaitState, WaitsState, WaitingState, asleep_at, is_same_key, kept, key_of, place_of, share_in, stand_at, wait_at}
 use Rattle.sessions.specs.Asleep.{AllWaitOn, AreMarked, Leaves, OthersWait, Stands}
 use Rattle.sessions.specs.Growing.{KeepsDues, Looks, LooksAt, Sees, is_at, seen}
@@ -45,7 +45,7 @@ module _ {X : Type 0} (xs : List X) (i : ℕ) where
 -- ---- what is held then
 
 module _ (s after : State) (noted : Noted) (ps : List TopicPartition) (leaves : Leaves s noted ps after) (keys : List PartitionKey) where
-  grown : noted ≡ Appends → (name : List ℕ) (p : ℤ) (b : Bool) → (more : ℕ) × GrowsBy (if b then content_at after name p else content_at s name p) (content_at after name p) more
+  grown : noted ≡ Grows → (name : List ℕ) (p : ℤ) (b : Bool) → (more : ℕ) × GrowsBy (if b then content_at after name p else content_at s name p) (content_at after name p) more
   grown appends name p true = (0, grows_nothing (content_at after name p) (content_at after name p) refl)
   grown appends name p false = leaves.grows appends name p
 

@@ -14,19 +14,19 @@ use Rattle.request_frames.specs.Requests.BodyValue.{fetch}
 use Rattle.request_frames.proofs.OneOutcome.{one_request}
 use Rattle.broker_state.specs.State.{State, content_at}
 use Rattle.broker_state.specs.Sound.{IsSound}
-use Rattle.broker_node.specs.Effects.{TopicPartition, effect, places}
+use Rattle.broker_node.specs.Effects.{TopicPartition, effect, only_grows, places}
 use Rattle.broker_node.specs.Streams.{IsAnswered}
 use Rattle.fetch_waits.specs.Sleeping.{Contents}
 use Rattle.fetch_waits.specs.Waiting.{fetch_waits}
 use Rattle.sessions.specs.declared.waiting.Noted.{Noted}
-use Rattle.sessions.specs.declared.waiting.Noted.TheVariants.{Appends}
+use Rattle.sessions.specs.declared.waiting.Noted.TheVariants.{Grows}
 use Rattle.sessions.specs.declared.session.Stop.{Stop}
 use Rattle.sessions.specs.declared.session.Stop.TheVariants.{Short, Full, Dear, Waits as Waiting, Over as Stopped}
 use Rattle.sessions.specs.declared.visiting.Seat.{Seat}
 use Rattle.sessions.specs.Turns.{Exchange, SessionState, WaitsFirst}
 use Rattle.sessions.specs.Steps.{AnswersNext, ComesIn, MayIdle, StopsTurn, WaitsNext, waiting_for}
 use Rattle.sessions.specs.Waiting.{WaitState, WaitsState, WaitingState, asleep_at, asleep_if, is_behind, named_at, names_of, unnamed, unnamed_at, wait_at}
-use Rattle.sessions.specs.Asleep.{AllWaitOn, AreMarked, AsksFirst, IsAppend, IsOwn, KeepsWatch, Leaves, OthersWait, Watches, WaitsOn}
+use Rattle.sessions.specs.Asleep.{AllWaitOn, AreMarked, AsksFirst, IsOwn, KeepsWatch, Leaves, OthersWait, Watches, WaitsOn}
 use Rattle.sessions.proofs.Leaving.{answered_leaves}
 
 -- ---- who asks what
@@ -176,7 +176,7 @@ watch_held k s w a b piece held due asked watches = (
 module _ (k : ℕ) (noted : Noted) (s after : State) (w v u : WaitingState) (a b : SessionState) (shown : List ℕ) (is : shown ≡ a.held) where
   -- the first frame that was held was answered
   pub watch_answered : (dear ended over : Bool) → IsSound s → AnswersNext dear ended over s a after b
-      → ((frame rest : List ℕ) (q : RequestValue) → IsFirstFrame frame shown rest → IsRequest frame q → AreMarked s v (places (effect q.body)) × (noted ≡ Appends → IsAppend (effect q.body)))
+      → ((frame rest : List ℕ) (q : RequestValue) → IsFirstFrame frame shown rest → IsRequest frame q → AreMarked s v (places (effect q.body)) × (noted ≡ Grows → only_grows (effect q.body) ≡ true))
       → ((s : State) (now : Contents) (asked : ℕ → FetchValue) → AllWaitOn s now w asked → AllWaitOn s now v asked)
       → ((s : State) (ps : List TopicPartition) (asked : ℕ → FetchValue) → AllWaitOn s (content_at s) v asked → AreMarked s v ps → Leaves s noted ps after → AllWaitOn after (content_at after) u asked)
       → wait_at u.waits k ≡ None → KeepsWatch k s w a after u b
@@ -197,7 +197,7 @@ module _ (k : ℕ) (noted : Noted) (s after : State) (w v u : WaitingState) (a b
       first_of frame cut = record { parts = cut.parts ∙ ap (λ (x : List ℕ). x ++ b.held) (append-nil (framed frame)); within = cut.within.0 }
 
   pub watching_answered : (dear ended over : Bool) → IsSound s → AnswersNext dear ended over s a after b
-      → ((frame rest : List ℕ) (q : RequestValue) → IsFirstFrame frame shown rest → IsRequest frame q → AreMarked s v (places (effect q.body)) × (noted ≡ Appends → IsAppend (effect q.body)))
+      → ((frame rest : List ℕ) (q : RequestValue) → IsFirstFrame frame shown rest → IsRequest frame q → AreMarked s v (places (effect q.body)) × (noted ≡ Grows → only_grows (effect q.body) ≡ true))
       → v.waits ≡ w.waits → ((s : State) (now : Contents) (asked : ℕ → FetchValue) → AllWaitOn s now w asked → AllWaitOn s now v asked)
       → ((s : State) (ps : List TopicPartition) (asked : ℕ → FetchValue) → AllWaitOn s (content_at s) v asked → AreMarked s v ps → Leaves s noted ps after → AllWaitOn after (content_at after) u asked)
       → wait_at u.waits k ≡ None → OthersWait k v.waits u.waits → Watching k s w a after u b

@@ -12,14 +12,13 @@ use Rattle.request_frames.specs.Requests.BodyValue.{fetch}
 use Rattle.broker_state.specs.declared.place.Place.{Place}
 use Rattle.broker_state.specs.Places.{IsPlaceOf}
 use Rattle.broker_state.specs.State.{State, content_at, is_known}
-use Rattle.broker_node.specs.Effects.Effect.{appends}
-use Rattle.broker_node.specs.Effects.{Effect, TopicPartition, is_among}
+use Rattle.broker_node.specs.Effects.{TopicPartition, is_among}
 use Rattle.log_requests.specs.Fetch.{fetch_limit}
 use Rattle.fetch_waits.specs.Sleeping.{Contents, FitsRoom, GrowsBy, Sleeps, is_asked, there_at}
 use Rattle.sessions.specs.declared.waits.PartitionKey.{PartitionKey}
 use Rattle.sessions.specs.declared.waits.Share.{Share}
 use Rattle.sessions.specs.declared.waiting.Noted.{Noted}
-use Rattle.sessions.specs.declared.waiting.Noted.TheVariants.{Appends}
+use Rattle.sessions.specs.declared.waiting.Noted.TheVariants.{Grows}
 use Rattle.sessions.specs.Waiting.{StandState, StandersWait, WaitState, WaitingState, WaitsState, asleep_at, is_same_key, key_of, named_at, share_in, stand_at, wait_at}
 use Rattle.sessions.specs.Turns.{SessionState}
 
@@ -116,19 +115,14 @@ abbrev pub AreMarked : State → WaitingState → List TopicPartition → Type 0
 AreMarked s w ps = (name : List ℕ) (p : ℤ) (place : Place) (stand : StandState)
     → is_among ps name p ≡ true → IsPlaceOf s name p place → stand_at w (key_of place) ≡ Some stand → is_marked w (key_of place) ≡ true
 
--- it only appends to them
-abbrev pub IsAppend : Effect → Type 0
-IsAppend (appends ps) = ⊤
-IsAppend _ = ⊥
-
--- What a request leaves: no other partition is changed, and where it only appends each has grown, by nothing or more.
+-- What a request leaves: no other partition is changed, and where it only appends or cleans each has grown, by nothing or more.
 pub record Leaves (s : State) (noted : Noted) (ps : List TopicPartition) (after : State) : Type 0 where
   pub config : after.config ≡ s.config
   pub known : (name : List ℕ) (p : ℤ) → is_known after name p ≡ is_known s name p
   pub places : (name : List ℕ) (p : ℤ) (place : Place) → IsPlaceOf after name p place → IsPlaceOf s name p place
   pub places_too : (name : List ℕ) (p : ℤ) (place : Place) → IsPlaceOf s name p place → IsPlaceOf after name p place
   pub others : (name : List ℕ) (p : ℤ) → is_among ps name p ≡ false → content_at after name p ≡ content_at s name p
-  pub grows : noted ≡ Appends → (name : List ℕ) (p : ℤ) → (more : ℕ) × GrowsBy (content_at s name p) (content_at after name p) more
+  pub grows : noted ≡ Grows → (name : List ℕ) (p : ℤ) → (more : ℕ) × GrowsBy (content_at s name p) (content_at after name p) more
 
 -- ---- how the shares of a session are counted
 

@@ -14,7 +14,7 @@ use Rattle.sessions.specs.declared.waits.PartitionKey.{PartitionKey}
 use Rattle.sessions.specs.declared.waits.Share.{Share}
 use Rattle.sessions.specs.declared.waits.Growth.{Growth}
 use Rattle.sessions.specs.declared.waiting.Noted.{Noted}
-use Rattle.sessions.specs.declared.waiting.Noted.TheVariants.{Appends}
+use Rattle.sessions.specs.declared.waiting.Noted.TheVariants.{Grows}
 use Rattle.sessions.specs.Asleep.{AreMarked, is_marked}
 use Rattle.sessions.specs.Waiting.{GoesOn, SleepsOn, StandState, WaitState, WaitsState, WaitingState, asleep_at, is_same_key, kept, less_missing, place_of, share_at, share_in, stand_at, wait_at}
 
@@ -40,11 +40,11 @@ pub record KeepsStands (stays : ℕ → Type 0) (old new : WaitingState) : Type 
 
 -- ---- one partition is looked at
 
--- what is held at it then, and that it only grew where the frame only appends
+-- what is held at it then, and that it only grew where the frame only appends or cleans
 pub record Sees (s : State) (noted : Noted) (after : State) (key : PartitionKey) (now next : Contents) : Type 0 where
   pub here : (name : List ℕ) (p : ℤ) → is_at s key name p ≡ true → next name p ≡ content_at after name p
   pub others : (name : List ℕ) (p : ℤ) → is_at s key name p ≡ false → next name p ≡ now name p
-  pub grows : noted ≡ Appends → (name : List ℕ) (p : ℤ) → (more : ℕ) × GrowsBy (now name p) (content_at after name p) more
+  pub grows : noted ≡ Grows → (name : List ℕ) (p : ℤ) → (more : ℕ) × GrowsBy (now name p) (content_at after name p) more
   pub places : (name : List ℕ) (p : ℤ) (place : Place) → IsPlaceOf s name p place → IsPlaceOf after name p place
 
 -- Those that wait for a partition are as many; it grew by so much, where that is known.
@@ -57,10 +57,10 @@ pub record Grew (after : State) (place : Place) (old new : StandState) (growth :
   pub all : growth.grown ≡ new.grown
   pub bytes : (name : List ℕ) (p : ℤ) → IsPlaceOf after name p place → growth.more ≡ length (bytes_from (content_at after name p) old.end)
 
--- One of them sleeps on: the frame only appended, and by so much, which leaves some missing.
+-- One of them sleeps on: the frame only appended or cleaned, and by so much, which leaves some missing.
 pub record StaysAsleep (after : State) (noted : Noted) (place : Place) (old new : StandState) (share : Share) (wait next : WaitState) : Type 0 where
   pub growth : Growth
-  pub appends : noted ≡ Appends
+  pub appends : noted ≡ Grows
   pub grew : Grew after place old new growth
   pub goes : (growth.more ≡ 0) ⊎ GoesOn wait share growth
   pub less : next ≡ less_missing wait share growth

@@ -16,17 +16,17 @@ ghost use Rattle.request_frames.specs.Requests.{RequestValue, IsRequest};
 ghost use Rattle.request_frames.specs.Views.{request_value};
 ghost use Rattle.log_requests.specs.Fetch.Entries.{fetch_entry_value};
 ghost use Rattle.broker_state.specs.State.{State, content_at};
-ghost use Rattle.broker_node.specs.Effects.{TopicPartition, effect, places, produced_to};
+ghost use Rattle.broker_node.specs.Effects.{TopicPartition, effect, only_grows, places, produced_to};
 ghost use Rattle.fetch_waits.specs.Sleeping.{Contents};
 ghost use Rattle.fetch_waits.specs.Waiting.{awaited_bytes, fetch_waits};
 ghost use Rattle.sessions.specs.Waiting.{StandersWait, StandsAtNone, asleep_at, key_of, share_at, share_in, stand_at, unnamed_at, wait_at, waits_for, with_entry};
 ghost use Rattle.sessions.specs.declared.waits.PartitionKey.{PartitionKey};
-ghost use Rattle.sessions.specs.Asleep.{AllWaitOn, AreMarked, AsksFirst, IsAppend, Leaves, OthersWait, has_time};
+ghost use Rattle.sessions.specs.Asleep.{AllWaitOn, AreMarked, AsksFirst, Leaves, OthersWait, has_time};
 ghost use Rattle.sessions.specs.Joining.{AreCounted, CountsMore, EndsAt, HasPut, Joins, KeepsStanders, Knows, PutsAt, SleepsSo, Stays, as_it_was, entries_in, entries_of, new_stand, share_with};
 ghost use Rattle.sessions.specs.Growing.{Counts, Grew, GrowsOn, KeepsDues, KeepsStands, Looks, LooksAt, Marks, produced_in};
 
 use crate::waits::{ByNumber, Growth, PartitionKey, Share, Wait, Waits};
-use broker_node::{MayChange, Node, what_may_change};
+use broker_node::{MayChange, Node, only_grows, what_may_change};
 use broker_state::{BrokerState, Place};
 use fetch_waits::{Counted, awaited_bytes, count_behind, count_entry};
 use frame_fields::{Array, Topic, Topics, first_frame};
@@ -55,8 +55,8 @@ struct Stand<A: Allocator + Copy> {
 /// What a frame that is to be handled may do to the partitions that are marked.
 #[derive(Clone, Copy)]
 pub(crate) enum Noted {
-    /// It may append to them, and nothing else.
-    Appends,
+    /// It may append to them and clean them, and nothing else.
+    Grows,
     /// It may do anything.
     Changes,
 }
@@ -113,15 +113,14 @@ fn first_request(held: &[u8]) -> Option<Request<'_>>
     }
 }
 
-/// What a request may do to the partitions that it may change. Of a kind that isn't named here nothing is known.
+/// What a request may do to the partitions that it may change.
 fn effect_of(body: &RequestBody<'_>) -> Noted
-    ensures { result ≡ Noted.Appends → IsAppend (effect (request_body body.now)) }
+    ensures { result ≡ Noted.Grows → only_grows (effect (request_body body.now)) ≡ true }
 {
-    match body {
-        RequestBody::Produce(_) | RequestBody::OffsetCommit(_) | RequestBody::ForgetGroup(_) => {
-            Noted::Appends
-        }
-        _ => Noted::Changes,
+    if only_grows(body) {
+        Noted::Grows
+    } else {
+        Noted::Changes
     }
 }
 
@@ -224,8 +223,8 @@ fn look<S: BatchStore, A: Allocator + Copy>(
 {
     let growth = stand.count(state, place);
     match (noted, growth) {
-        (Noted::Appends, Some(Growth { more: 0, .. })) => {}
-        (Noted::Appends, growth) => grow_all(waits, stand, growth),
+        (Noted::Grows, Some(Growth { more: 0, .. })) => {}
+        (Noted::Grows, growth) => grow_all(waits, stand, growth),
         (Noted::Changes, _) => grow_all(waits, stand, None),
     }
 }
@@ -567,7 +566,7 @@ impl<A: Allocator + Copy> Waiting<A> {
     pub(crate) fn note<S: BatchStore>(&mut self, node: &Node<S>, held: &[u8]) -> Noted
         ensures marks { (frame rest : List ℕ) (q : RequestValue) → IsFirstFrame frame held.now rest
             → IsRequest frame q → AreMarked node.now self.new (places (effect q.body))
-            × (result ≡ Noted.Appends → IsAppend (effect q.body)) }
+            × (result ≡ Noted.Grows → only_grows (effect q.body) ≡ true) }
         ensures waits { self.new.waits ≡ self.old.waits }
         ensures wait_on { (s : State) (now : Contents) (asked : ℕ → FetchValue)
             → AllWaitOn s now self.old asked → AllWaitOn s now self.new asked }

@@ -8,7 +8,7 @@ use crate::tests::stores::{BOTH, Kept, without};
 use cluster::{Cluster, ClusterError, Event, EventError, Outcome};
 use copy_answers::put_answers;
 use copy_images::write_image;
-use partition_log::{CleanReport, Delivered, PartitionLog};
+use partition_log::{CleanReport, CleaningPart, Delivered, PartitionLog};
 use refusing_alloc::Refusing;
 use sample_batches::{NINE, THREE, nine_at};
 use segment::{BatchStore, SegStore, VecStore};
@@ -24,6 +24,8 @@ pub(crate) enum Told {
     Deliver(usize, usize),
     /// A copy is cleaned up to an offset, of tombstones below another.
     Clean(usize, i64, i64),
+    /// A part of a copy is cleaned.
+    CleanPart(usize, CleaningPart),
     /// The image of a copy is kept.
     Send(usize),
     /// An image is merged into a copy.
@@ -88,7 +90,15 @@ static LIST: [(Told, Answer); 5] = [
     ),
     (Told::Merge(3, 0), Ok(Outcome::Merged)),
     (
-        Told::Clean(1, 2, 0),
+        Told::CleanPart(
+            1,
+            CleaningPart {
+                from: 0,
+                to: 2,
+                upto: 2,
+                tomb_before: 0,
+            },
+        ),
         Ok(Outcome::Cleaned(CleanReport {
             records: 1,
             tombstones: 0,
@@ -117,6 +127,7 @@ pub(crate) fn event_of(alloc: Global, told: Told) -> Result<Event<Global>, Alloc
             upto,
             tomb_before,
         },
+        Told::CleanPart(copy, part) => Event::CleanPart { copy, part },
         Told::Send(copy) => Event::Send { copy },
         Told::Merge(copy, image) => Event::Merge { copy, image },
         Told::Trim(copy, start) => Event::Trim { copy, start },

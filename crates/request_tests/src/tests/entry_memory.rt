@@ -30,6 +30,10 @@ const POSITIONS: &[u8] =
 const CLEAN: &[u8] =
     b"\0\0\0!N!\0\0\0\0\0\x07\xff\xff\0\x01t\0\0\0\0\0\0\0\0\0\0\0\x02\0\0\0\0\0\0\0\0";
 
+/// A Clean request of version 1 for partition 0 of `t`: for the offset 1, where records below 3 supersede.
+const CLEAN_PART: &[u8] =
+    b"\0\0\01N!\0\x01\0\0\0\x07\xff\xff\0\x01t\0\0\0\0\0\0\0\0\0\0\0\x01\0\0\0\0\0\0\0\x02\0\0\0\0\0\0\0\x03\0\0\0\0\0\0\0\0";
+
 /// The partitions that the requests name.
 static PLACES: [(&[u8], i32); 3] = [(b"t", 0), (b"t", 1), (GROUP_TOPIC, 0)];
 
@@ -44,7 +48,7 @@ struct Case {
     outcomes: &'static [Outcome],
 }
 
-static CASES: [Case; 4] = [
+static CASES: [Case; 5] = [
     Case {
         before: &[],
         request: STORE_BOTH,
@@ -114,6 +118,21 @@ static CASES: [Case; 4] = [
             (
                 b"\0\0\0\x1e\0\0\0\x07\0\0\0\0\0\0\0\0\0\x01\0\0\0\0\0\0\0\0\0\0\0\0\0\0\0\x01",
                 [1, 0, 0],
+            ),
+        ],
+    },
+    Case {
+        before: &[STORE_REQUEST, STORE_REQUEST, STORE_REQUEST],
+        request: CLEAN_PART,
+        outcomes: &[
+            (b"", [3, 0, 0]),
+            (
+                b"\0\0\0\x1e\0\0\0\x07\08\0\0\0\0\0\0\0\0\0\0\0\0\0\0\0\0\0\0\0\0\0\0\0\0",
+                [3, 0, 0],
+            ),
+            (
+                b"\0\0\0\x1e\0\0\0\x07\0\0\0\0\0\0\0\0\0\x01\0\0\0\0\0\0\0\0\0\0\0\0\0\0\0\x01",
+                [2, 0, 0],
             ),
         ],
     },
@@ -305,11 +324,12 @@ fn all_that_comes<A: Allocator + Copy>(inner: A, kept: Kept, case: &Case) -> Opt
 }
 
 /// The name of each case, and the bits of what comes of it: all of its outcomes.
-static WANTED: [(&str, u32); 4] = [
+static WANTED: [(&str, u32); 5] = [
     ("Produce", 0b1111),
     ("OffsetCommit", 0b1111),
     ("OffsetFetch", 0b1111),
     ("Clean", 0b111),
+    ("Clean of a part", 0b111),
 ];
 
 #[test]

@@ -182,7 +182,7 @@ fn each_request_lacks_memory_once(rt: HostRuntime) {
         // Get, Cover, Trim, and those that clients ask first, whose work takes none
         assert_eq!(rt;
             leads,
-            Ok(0b01_01_01_01_11_11_11_01_11_11_11_01_01_11_11_11)
+            Ok(0b01_01_01_01_11_11_11_01_11_11_11_11_01_01_11_11_11)
         );
         assert_eq!(rt; follows, Ok(0b01_11_11_11));
     }

@@ -3,8 +3,9 @@
 use broker_node::Role;
 use sample_brokers::brokers::CONFIGURED;
 use sample_brokers::exchanges::{
-    CLEAN, COMMIT, COORDINATOR, DELIVER, DELTA, Exchange, FORGET, IMAGE, MERGE, NEXT_PRODUCER_ID,
-    PATCH, POSITION, PRODUCER_ID, SEEN, SILENT, STORE, TAKE, TRIM, VALUE, VERSIONS,
+    CLEAN, CLEAN_PART, COMMIT, COORDINATOR, DELIVER, DELTA, Exchange, FORGET, IMAGE, MERGE,
+    NEXT_PRODUCER_ID, PATCH, POSITION, PRODUCER_ID, SEEN, SILENT, STORE, TAKE, TRIM, VALUE,
+    VERSIONS,
 };
 
 /// What a broker is asked, in this order, and the ends of partition 0 of `t`, of `u` and of the topic of groups then.
@@ -24,6 +25,7 @@ pub(crate) static OF_A_LEADER: Run = Run {
         SEEN,
         IMAGE,
         DELTA,
+        CLEAN_PART,
         CLEAN,
         TRIM,
         SILENT,

@@ -8,8 +8,9 @@ use Rattle.setup_requests.specs.InitProducerId.{init_producer_id_work, init_prod
 use Rattle.request_frames.specs.InitProducerId.{init_producer_id_view}
 use Rattle.copy_requests.specs.Deliver.{deliver_work, deliver_sent}
 use Rattle.request_frames.specs.Deliver.{deliver_view}
-use Rattle.copy_requests.specs.Clean.{clean_work, clean_sent}
+use Rattle.copy_requests.specs.Clean.{clean_work, clean_part_work, clean_sent}
 use Rattle.request_frames.specs.Clean.{clean_view}
+use Rattle.request_frames.specs.CleanPart.{clean_part_view}
 use Rattle.copy_requests.specs.Export.{export_work, export_sent}
 use Rattle.request_frames.specs.Export.{export_view}
 use Rattle.copy_requests.specs.ExportDelta.{export_delta_work}
@@ -74,6 +75,11 @@ pub returns-in-Clean-clause-handles : goal.returns-in-Clean-clause-handles
 returns-in-Clean-clause-handles g c =
     let fits : FitsSigned w32 c.args.request.now.correlation = search rules in
     once_exactly clean_sent (clean_work c.args.state.now (clean_view c.in-Clean.asked)) c.reply_to_clean.result c.args.state.now c.reply_to_clean.new.state c.args.request.now (variants.Clean c.in-Clean.asked) _ c.args.out.now.items c.reply_to_clean.new.out.items (to_z-of_z w32 c.args.request.now.correlation fits) c.in-Clean.is refl (λ memory response told. told) c.reply_to_clean.ensures.responds
+
+pub returns-in-CleanPart-clause-handles : goal.returns-in-CleanPart-clause-handles
+returns-in-CleanPart-clause-handles g c =
+    let fits : FitsSigned w32 c.args.request.now.correlation = search rules in
+    once_exactly clean_sent (clean_part_work c.args.state.now (clean_part_view c.in-CleanPart.asked)) c.reply_to_clean_part.result c.args.state.now c.reply_to_clean_part.new.state c.args.request.now (variants.CleanPart c.in-CleanPart.asked) _ c.args.out.now.items c.reply_to_clean_part.new.out.items (to_z-of_z w32 c.args.request.now.correlation fits) c.in-CleanPart.is refl (λ memory response told. told) c.reply_to_clean_part.ensures.responds
 
 pub returns-in-Export-clause-handles : goal.returns-in-Export-clause-handles
 returns-in-Export-clause-handles g c =
@@ -140,11 +146,11 @@ returns-in-OffsetFetch-clause-handles g c =
 pub returns-in-Produce-clause-handles : goal.returns-in-Produce-clause-handles
 returns-in-Produce-clause-handles g c =
     let fits : FitsSigned w32 c.args.request.now.correlation = search rules in
-    planned_exactly (produce_plan c.args.state.now c.args.request.now.correlation (produce_view c.in-Produce.asked)) c.reply_to_produce.result c.args.state.now c.reply_to_produce.new.state c.args.request.now (variants.Produce c.in-Produce.asked) c.args.out.now.items c.reply_to_produce.new.out.items c.in-Produce.is refl (λ memory response told. told)
+    planned_exactly (produce_plan c.args.state.now c.args.request.now.correlation (produce_view c.in-Produce.asked)) c.reply_to_produce.result c.args.state.now c.reply_to_produce.new.state c.args.request.now (variants.Produce c.in-Produce.asked) c.args.out.now.items c.reply_to_produce.new.out.items c.in-Produce.is refl refl (λ memory response told. told)
     (subst (λ n. IfOk c.reply_to_produce.result (λ memory. RespondsTold (produce_plan c.args.state.now n (produce_view c.in-Produce.asked)) c.args.out.now.items c.reply_to_produce.new.out.items memory c.reply_to_produce.new.state)) (to_z-of_z w32 c.args.request.now.correlation fits) c.reply_to_produce.ensures.responds)
 
 pub returns-in-OffsetCommit-clause-handles : goal.returns-in-OffsetCommit-clause-handles
 returns-in-OffsetCommit-clause-handles g c =
     let fits : FitsSigned w32 c.args.request.now.correlation = search rules in
-    planned_exactly (offset_commit_plan c.args.state.now c.args.request.now.correlation (offset_commit_view c.in-OffsetCommit.asked)) c.reply_to_offset_commit.result c.args.state.now c.reply_to_offset_commit.new.state c.args.request.now (variants.OffsetCommit c.in-OffsetCommit.asked) c.args.out.now.items c.reply_to_offset_commit.new.out.items c.in-OffsetCommit.is refl (λ memory response told. told)
+    planned_exactly (offset_commit_plan c.args.state.now c.args.request.now.correlation (offset_commit_view c.in-OffsetCommit.asked)) c.reply_to_offset_commit.result c.args.state.now c.reply_to_offset_commit.new.state c.args.request.now (variants.OffsetCommit c.in-OffsetCommit.asked) c.args.out.now.items c.reply_to_offset_commit.new.out.items c.in-OffsetCommit.is refl refl (λ memory response told. told)
     (subst (λ n. IfOk c.reply_to_offset_commit.result (λ memory. RespondsTold (offset_commit_plan c.args.state.now n (offset_commit_view c.in-OffsetCommit.asked)) c.args.out.now.items c.reply_to_offset_commit.new.out.items memory c.reply_to_offset_commit.new.state)) (to_z-of_z w32 c.args.request.now.correlation fits) c.reply_to_offset_commit.ensures.responds)

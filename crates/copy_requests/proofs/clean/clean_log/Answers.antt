@@ -1,12 +1,19 @@
-use Rattle.std.proofs.Common.{FitsSigned, w64, rules, subst}
+use Rattle.std.proofs.Common.{FitsSigned, w64, rules, to_z, of_z, sym, ◌∙◌, subst}
 use Rattle.std.proofs.lemmas.Int.{to_z-of_z}
 use Rattle.content.specs.Content.{IsContent}
+use Rattle.copy_requests.specs.declared.clean.Cleaning.TheVariants.{Whole, Part}
 use Rattle.copy_requests.proofs.Counts.{cleans}
 use Rattle.copy_requests.proofs.clean.clean_log.Goals as goal
 
-pub returns : goal.returns
-returns g c =
-    let upto : FitsSigned w64 c.args.bounds.upto = search rules in
-    let tomb_before : FitsSigned w64 c.args.bounds.tomb_before = search rules in
-    cleans c.args.log.now c.clean.new.self c.args.bounds.upto c.args.bounds.tomb_before _ _ c.clean.result (subst IsContent c.copy.ensures.copy c.end.ensures.is_content) (to_z-of_z w64 c.args.bounds.upto upto) (to_z-of_z w64 c.args.bounds.tomb_before tomb_before)
+pub returns-in-Whole : goal.returns-in-Whole
+returns-in-Whole g c =
+    let upto : FitsSigned w64 c.in-Whole.upto = search rules in
+    let tomb_before : FitsSigned w64 c.in-Whole.tomb_before = search rules in
+    cleans c.args.log.now c.clean.new.self c.args.cleaning (Whole (to_z w64 (of_z w64 c.in-Whole.upto)) (to_z w64 (of_z w64 c.in-Whole.tomb_before))) c.clean.result (subst IsContent c.copy.ensures.copy c.end.ensures.is_content)
+    ((λ i. Whole (to_z-of_z w64 c.in-Whole.upto upto i) (to_z-of_z w64 c.in-Whole.tomb_before tomb_before i)) ∙ sym c.in-Whole.is)
     c.clean.ensures.cleans c.clean.ensures.reports c.clean.ensures.unchanged_on_error
+
+pub returns-in-Part : goal.returns-in-Part
+returns-in-Part g c =
+    cleans c.args.log.now c.clean_part.new.self c.args.cleaning (Part c.in-Part.part) c.clean_part.result (subst IsContent c.copy.ensures.copy c.end.ensures.is_content) (sym c.in-Part.is)
+    c.clean_part.ensures.cleans c.clean_part.ensures.reports c.clean_part.ensures.unchanged_on_error

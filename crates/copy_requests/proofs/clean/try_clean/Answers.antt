@@ -10,5 +10,5 @@ pub returns-in-Err-clause-does : goal.returns-in-Err-clause-does
 returns-in-Err-clause-does g c =
     let of = subst (λ p. IsPlaceOf c.args.state.now c.args.topic.now p c.in-Some.place) (to_z-of_z w32 c.args.partition c.ranges.partition) c.in-Some.ensures.found in
     let changed = c.in-Err.ensures c.args.topic.now c.args.partition of in
-    clean_lacks_memory c.args.state.now c.change_at.new.self (record { topic = c.args.topic.now; partition = c.args.partition; upto = c.args.bounds.upto; tomb_before = c.args.bounds.tomb_before }) of.known
+    clean_lacks_memory c.args.state.now c.change_at.new.self c.args.topic.now c.args.partition c.args.cleaning of.known
     (unchanged_at c.args.state.now c.change_at.new.self c.args.topic.now c.args.partition changed.0 changed.1 changed.2)

@@ -14,5 +14,5 @@ returns-clause-responds g c =
     let s = c.args.state.now in
     let q = offset_commit_view c.args.request.now in
     let n = c.args.correlation in
-    plan_responded_told (offset_commit_plan s n q) offset_commit_partition _ offset_commit_partition_value (λ (m : State). m) (offset_commit_tells q) committed_partition_bytes n _ _ _ _ _ _ _ _ _ _ c.respond.new.state
-    refl refl refl (offset_commit_sends n) (to_z-of_z w32 n c.ranges.correlation) c.in_ok-reserve.ensures.items c.in-Ok.ensures.responds
+    plan_responded_told (offset_commit_plan s n q) offset_commit_partition _ offset_commit_partition_value (λ (m : State). m) (offset_commit_tells q) committed_partition_bytes n _ _ _ _ _ _ _ _ _ _ _ c.respond.new.state
+    c.of_all.ensures refl refl refl (offset_commit_sends n) (to_z-of_z w32 n c.ranges.correlation) c.in_ok-reserve.ensures.items c.in-Ok.ensures.responds

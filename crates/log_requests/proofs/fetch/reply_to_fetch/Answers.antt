@@ -1,4 +1,4 @@
-use Rattle.std.proofs.Common.{rules, refl}
+use Rattle.std.proofs.Common.{rules, refl, Option}
 use Rattle.std.specs.Int.{w32}
 use Rattle.std.proofs.lemmas.Int.{to_z-of_z}
 use Rattle.request_frames.specs.Fetch.{fetch_partition, fetch_partition_value, fetch_view}
@@ -15,6 +15,6 @@ returns-clause-responds g c =
     let s = c.args.state.now in
     let n = c.args.correlation in
     on_ok c.respond.result
-    (λ e. plan_responded (fetch_plan s n (fetch_view c.args.request.now)) fetch_partition _ fetch_partition_value (λ (before : FetchRoom × Memory). before.0) (fetch_may s) fetched_bytes n _ _ _ _ _ _ _ _ _ s
+    (λ e. plan_responded (fetch_plan s n (fetch_view c.args.request.now)) fetch_partition _ fetch_partition_value (λ (before : FetchRoom × Option Memory). before.0) (fetch_may s) fetched_bytes n _ _ _ _ _ _ _ _ _ s
     (search rules) refl refl (fetch_sends n) (to_z-of_z w32 n c.ranges.correlation) refl e)
     c.respond.ensures.responds

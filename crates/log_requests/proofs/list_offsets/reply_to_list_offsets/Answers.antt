@@ -1,4 +1,4 @@
-use Rattle.std.proofs.Common.{refl}
+use Rattle.std.proofs.Common.{refl, Option}
 use Rattle.std.specs.Int.{w32}
 use Rattle.std.proofs.lemmas.Int.{to_z-of_z}
 use Rattle.request_frames.specs.ListOffsets.{list_offsets_partition, list_offsets_partition_value, list_offsets_view}
@@ -15,6 +15,6 @@ returns-clause-responds g c =
     let s = c.args.state.now in
     let n = c.args.correlation in
     on_ok c.respond.result
-    (λ e. plan_responded (list_offsets_plan s n (list_offsets_view c.args.request.now)) list_offsets_partition _ list_offsets_partition_value (λ (before : Unit {0} × Memory). s) (list_offsets_may s) list_offsets_answer_bytes n _ _ _ _ _ _ _ _ _ s
+    (λ e. plan_responded (list_offsets_plan s n (list_offsets_view c.args.request.now)) list_offsets_partition _ list_offsets_partition_value (λ (before : Unit {0} × Option Memory). s) (list_offsets_may s) list_offsets_answer_bytes n _ _ _ _ _ _ _ _ _ s
     refl refl refl (list_offsets_sends n) (to_z-of_z w32 n c.ranges.correlation) refl e)
     c.respond.ensures.responds

@@ -16,8 +16,8 @@ returns-then-request-eq0-clause-responds g c =
     let made = c.in-Ok.ensures.responds in
     record {
       response = None;
-      replies = plan_answered_told (produce_plan s c.args.correlation q) produce_partition _ produce_partition_value (λ (m : State). m) (produce_tells q) s c.respond.new.state c.respond.new.memory c.args.request.now.topics made.results None c.respond.new.state
-          refl refl (produce_sends_nothing s q c.args.correlation (search rules) c.if-request-eq0.true made.results) refl made.answers;
+      replies = plan_answered_told (produce_plan s c.args.correlation q) produce_partition _ produce_partition_value (λ (m : State). m) (produce_tells q) s c.respond.new.state c.respond.new.memory _ c.args.request.now.topics made.results None c.respond.new.state
+          c.of_all-memory.ensures refl refl (produce_sends_nothing s q c.args.correlation (search rules) c.if-request-eq0.true made.results) refl made.answers;
       appends = cut_back c.args.out.now.items c.reserve.new.self.items c.respond.new.out.items c.truncate.new.self.items _ c.len-start.result c.in_ok-reserve.ensures.items (search rules) made.appends c.truncate.ensures.items;
     }
 
@@ -26,5 +26,5 @@ returns-else-request-eq0-clause-responds g c =
     let s = c.args.state.now in
     let q = produce_view c.args.request.now in
     let n = c.args.correlation in
-    plan_responded_told (produce_plan s n q) produce_partition _ produce_partition_value (λ (m : State). m) (produce_tells q) produced_bytes n _ _ _ _ _ _ _ _ _ _ c.respond.new.state
-    refl refl refl (produce_sends s q n c.if-request-eq0.false c.produce_tail-tail.result c.produce_tail-tail.ensures) (to_z-of_z w32 n c.ranges.correlation) c.in_ok-reserve.ensures.items c.in-Ok.ensures.responds
+    plan_responded_told (produce_plan s n q) produce_partition _ produce_partition_value (λ (m : State). m) (produce_tells q) produced_bytes n _ _ _ _ _ _ _ _ _ _ _ c.respond.new.state
+    c.of_all-memory.ensures refl refl refl (produce_sends s q n c.if-request-eq0.false c.produce_tail-tail.result c.produce_tail-tail.ensures) (to_z-of_z w32 n c.ranges.correlation) c.in_ok-reserve.ensures.items c.in-Ok.ensures.responds

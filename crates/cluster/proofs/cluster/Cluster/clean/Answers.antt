@@ -1,6 +1,4 @@
 use Rattle.std.proofs.Common.{◌+◌, refl, arith, rules}
-use Rattle.std.specs.Int.{w64}
-use Rattle.std.proofs.lemmas.Int.{to_z-of_z}
 use Rattle.cluster.proofs.CleanSteps.{clean_same, no_copy, zero_is}
 use Rattle.cluster.proofs.cluster.Cluster.clean.Goals as goal
 
@@ -8,9 +6,7 @@ pub returns-then-len-copy : goal.returns-then-len-copy
 returns-then-len-copy g c = (no_copy c.args.self.now c.args.copy c.len.result (search rules) c.if-len-copy.true, refl)
 
 pub returns-in-None : goal.returns-in-None
-returns-in-None g c = clean_same _ _ c.args.copy 0 c.args.upto c.args.tomb_before _ _ _ (zero_is c.args.copy c.in-None.ensures)
-    (to_z-of_z w64 c.args.upto c.ranges.upto) (to_z-of_z w64 c.args.tomb_before c.ranges.tomb_before) c.clean_leader.ensures
+returns-in-None g c = clean_same _ _ c.args.copy 0 c.args.cleaning _ (zero_is c.args.copy c.in-None.ensures) c.clean_leader.ensures
 
 pub returns-in-Some : goal.returns-in-Some
-returns-in-Some g c = clean_same _ _ c.args.copy (c.in-Some.follower + 1) c.args.upto c.args.tomb_before _ _ _ (omega (arith, c.in-Some.ensures))
-    (to_z-of_z w64 c.args.upto c.ranges.upto) (to_z-of_z w64 c.args.tomb_before c.ranges.tomb_before) c.clean_follower.ensures
+returns-in-Some g c = clean_same _ _ c.args.copy (c.in-Some.follower + 1) c.args.cleaning _ (omega (arith, c.in-Some.ensures)) c.clean_follower.ensures

@@ -1,12 +1,10 @@
-use Rattle.std.specs.Int.{w64}
-use Rattle.std.proofs.lemmas.Int.{to_z-of_z}
 use Rattle.cluster.proofs.CleanSteps.{after_follower_clean}
 use Rattle.cluster.proofs.cluster.Cluster.clean_follower.Goals as goal
 
 pub invariant_of-self : goal.invariant_of-self
-invariant_of-self g c = (after_follower_clean _ c.args.self.now c.args.follower c.args.upto c.args.tomb_before _ _ c.index_mut.result.now c.clean.new.self c.clean.result c.outcome.result c.self.view_is c.self.invariant
-    (to_z-of_z w64 c.args.upto c.ranges.upto) (to_z-of_z w64 c.args.tomb_before c.ranges.tomb_before) c.requires c.index_mut.ensures.value c.clean.ensures.cleans c.clean.ensures.reports c.clean.ensures.unchanged_on_error c.outcome.ensures).0
+invariant_of-self g c = (after_follower_clean _ c.args.self.now c.args.follower c.args.cleaning c.index_mut.result.now c.clean_copy.new.copy c.clean_copy.result c.outcome.result c.self.view_is c.self.invariant
+    c.requires c.index_mut.ensures.value c.clean_copy.ensures.cleans c.clean_copy.ensures.reports c.clean_copy.ensures.unchanged_on_error c.outcome.ensures).0
 
 pub returns : goal.returns
-returns g c = (after_follower_clean _ c.args.self.now c.args.follower c.args.upto c.args.tomb_before _ _ c.index_mut.result.now c.clean.new.self c.clean.result c.outcome.result c.self.view_is c.self.invariant
-    (to_z-of_z w64 c.args.upto c.ranges.upto) (to_z-of_z w64 c.args.tomb_before c.ranges.tomb_before) c.requires c.index_mut.ensures.value c.clean.ensures.cleans c.clean.ensures.reports c.clean.ensures.unchanged_on_error c.outcome.ensures).1
+returns g c = (after_follower_clean _ c.args.self.now c.args.follower c.args.cleaning c.index_mut.result.now c.clean_copy.new.copy c.clean_copy.result c.outcome.result c.self.view_is c.self.invariant
+    c.requires c.index_mut.ensures.value c.clean_copy.ensures.cleans c.clean_copy.ensures.reports c.clean_copy.ensures.unchanged_on_error c.outcome.ensures).1

@@ -1,0 +1,9 @@
+use Rattle.cleaner.specs.Older.{may_expire}
+use Rattle.cleaner.proofs.OlderKeys.{PutWhere}
+use Rattle.cleaner.proofs.older.put_expiring.Given as goal
+
+abbrev pub invariant-loop-rec : goal.invariant-loop-rec
+invariant-loop-rec g l =
+    (goal.iterator-loop-rec g).can_next l.rec-iterator ×
+    (goal.iterator-loop-rec g).is_finite l.rec-iterator ×
+    PutWhere (may_expire l.latest l.bound) l.fn.expiring l.expiring l.fn.batch l.rec-iterator

@@ -1,0 +1,2 @@
+-- Read in this order; each module uses only those above it.
+pub mod Swept
