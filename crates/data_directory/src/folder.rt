@@ -191,6 +191,22 @@ impl<'a, R: Files<File = File> + RandomSource + Alloc + Clone + Drop> Folder<'a,
         Ok(format!(in self.alloc; "{}/{name}", self.at)?)
     }
 
+    /// What makes calls of the system.
+    pub(crate) fn runtime(&self) -> &R {
+        self.rt
+    }
+
+    /// Where memory comes from.
+    pub(crate) fn allocator(&self) -> Global {
+        self.alloc
+    }
+
+    /// The path of a file that is neither a snapshot nor a journal, if its directory is the one that was opened.
+    pub(crate) fn path_beside(&self, name: &str) -> io::Result<String> {
+        self.refuse_another()?;
+        Ok(format!(in self.alloc; "{}/{name}", self.at)?)
+    }
+
     /// The path of a file that is to be made, renamed, removed or shortened. Where another directory stands there, this is noted.
     fn path_to_change(&mut self, name: Name) -> io::Result<String>
         ensures { OnOk result (self.new.is_unsure ≡ self.old.is_unsure) }

@@ -8,3 +8,4 @@ pub mod Stepping
 pub mod Folded
 pub mod RoomMade
 pub mod Leading
+pub mod Widths

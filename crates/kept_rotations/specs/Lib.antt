@@ -5,3 +5,4 @@ pub mod Moments
 pub mod Steps
 pub mod Putting
 pub mod Below
+pub mod Due

@@ -1,7 +1,10 @@
-//! The laws of rotations, of what a broker holds, of the frames that change it and of the topics that come to it.
+//! The laws of rotations, of what a broker holds, of the frames that change it and of the topics that come to it; and of when a
+//! snapshot is due.
 
-ghost use Rattle.std.specs.Prelude.{ℕ, List, []};
+ghost use Rattle.std.specs.Prelude.{◌≡◌, ◌≤◌, ◌+◌, ◌*◌, ℕ, List, [], false, Some};
 ghost use Rattle.broker_state.specs.State.{State};
+ghost use Rattle.journal.specs.declared.layout.TheConstants.{HEAD_SIZE};
+ghost use Rattle.kept_rotations.specs.Due.{is_wide};
 ghost use Rattle.kept_rotations.specs.Events.{Event, Leads};
 ghost use Rattle.rotation_laws.specs.Directories.{Files, IsRecovered};
 ghost use Rattle.rotation_laws.specs.Rotations.{IsNew, MayLeave, Runs};
@@ -41,3 +44,10 @@ pub fn rotations_lose_no_event()
     frames_lead_to_one_state();
     rotations_lose_nothing::<Handling>();
 }
+
+/// Right behind a snapshot none is due for the room that files take, however few bytes journals are to have before one is: where the
+/// last one has no more bytes than one would have now, and the journals little beside their heads.
+pub fn none_is_due_for_room_behind_one()
+    ensures { (most last journals now : ℕ) → last ≤ now → journals ≤ now + 2 * HEAD_SIZE
+        → is_wide most last journals (Some now) ≡ false }
+{}

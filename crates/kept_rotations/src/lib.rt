@@ -19,6 +19,7 @@ pub mod laws;
 mod opening;
 mod putting;
 mod rotation;
+mod timing;
 mod whole;
 
 pub use faults::{Done, FoldFault, Missed, RotationFault, Taken};

@@ -101,7 +101,7 @@ pub record Syncs {D : Type 0} (seen : D → Option (List ℕ)) (may_leave : D �
   pub end : new.end ≡ old.end
   pub synced : new.synced ≡ new.end
 
--- why frames aren't put into the journal: memory lacked, and nothing has changed; or the journal's reason
+-- why frames aren't put into the journal: one was done in part, and nothing has changed; or the journal's reason
 abbrev pub StopsCommit : {D : Type 0} (has_failed : D → Bool) (old new : KeptState D) → CommitError → Type 0
 StopsCommit has_failed old new OutOfMemory = (old.notes.has_lacked ≡ true) × (new ≡ old)
 StopsCommit has_failed old new (InJournal why) =

@@ -2,7 +2,8 @@
 //!
 //! What may have changed the broker is noted frame by frame, in the order in which it was handled
 //! ([`FrameNotes`]); frames that are handled again lead to the same state ([`replay`]). So a start reads the journal,
-//! handles its frames again ([`recover`]), and goes on with it ([`resume`]).
+//! handles its frames again ([`recover`]), and goes on with it ([`resume`]). A frame of which for want of memory nothing was
+//! done is noted nowhere. Where one was done in part, nothing goes on, since handling it again may lead to another state.
 //!
 //! While what the broker holds is written elsewhere, partition by partition, the frames go to another journal
 //! ([`Keeper::switch`]), and the partitions that aren't written yet are barred ([`Keeper::raise_barrier`]): a frame that may

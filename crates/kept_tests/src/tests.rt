@@ -6,5 +6,6 @@ mod groups;
 mod journal_bytes;
 mod journal_memory;
 mod keepers;
+mod lacking;
 mod lent;
 mod mending;

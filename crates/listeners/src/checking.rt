@@ -3,6 +3,7 @@
 ghost use Rattle.std.specs.Prelude.{◌≡◌, ◌≤◌, IfErr, IfOk, OnErr};
 
 use crate::keeping::{Store, refuse, say_failed, say_no_memory};
+use crate::marks::line_of;
 use crate::progress::Progress;
 use crate::reports::say;
 use kept_starts::{Checked, FileFound, Folder, Found, Name, Role, StartFault, What, check};
@@ -144,6 +145,7 @@ fn tell_all<W: Write, E: Write>(
     alloc: Global,
     directory: &str,
     checked: Checked<Global>,
+    cleanings: Option<String>,
     out: &mut W,
     err: &mut E,
 ) -> Result<u8, Untold>
@@ -155,6 +157,9 @@ fn tell_all<W: Write, E: Write>(
         return Ok(say_none(alloc, directory, err));
     }
     tell_files(alloc, &files, out)?;
+    if let Some(line) = cleanings {
+        tell(&format!(in alloc; "{line}\n")?, out)?;
+    }
     match verdict {
         Ok(found) => tell(&start_line(alloc, directory, &found)?, out)?,
         Err(why) => {
@@ -186,7 +191,8 @@ fn read<R: Clock + Files<File = File> + RandomSource + Alloc + Clone + Drop, E: 
 }
 
 /// Reads a directory as a start does, and changes nothing, whether or not a broker runs in it. On `out` comes a line of each of its
-/// files, in the order in which a start reads them, and then one of what a start would recover. Answers a status: 0 a start would
+/// files, in the order in which a start reads them, one of the file of passes of cleaning, if there is one, and then one of what a start
+/// would recover. Answers a status: 0 a start would
 /// take it; 1 a file of it is damaged, missing, of a later version, of another directory or not a regular file; 2 it is no data
 /// directory; 3 out of memory; 4 a call of the system failed, or `out` takes no more. Where it isn't 0, the last line on `err` says
 /// why. On `err` come lines on how far it is, too, where it takes long.
@@ -202,7 +208,10 @@ pub fn check_directory<
         Err(status) => return status,
     };
     let checked = read(rt, alloc, &folder, err);
-    match tell_all(alloc, directory, checked, out, err) {
+    let Ok(cleanings) = line_of(alloc, &folder) else {
+        return say_no_memory(alloc, err);
+    };
+    match tell_all(alloc, directory, checked, cleanings, out, err) {
         Ok(status) => status,
         Err(Untold::OutOfMemory) => say_no_memory(alloc, err),
         Err(Untold::Unwritten) => {

@@ -5,6 +5,7 @@ use crate::ending::{Ended, Ending, ending_of};
 use crate::incoming::Incoming;
 use crate::parting::{Dropped, Parting};
 use crate::serving_sessions::{ServedSessions, Unkept};
+use crate::upkeep::{Outcome, Upkeep, topic_at};
 use indexmap::IndexMap;
 use kept_starts::sessions::{Seat, Then, Why};
 use kept_starts::{Done, Missed, Name, Place, Sent};
@@ -24,6 +25,8 @@ const AWAITED_BYTES: u64 = 640;
 /// A connection that is open.
 #[derive(Drop)]
 struct Connection {
+    /// The number by which lines call it: how many clients were accepted before it.
+    shown: u64,
     stream: TcpStream,
     address: SocketAddr,
     /// It is closing where the client has closed its side, or the connection has failed: the end is to be
@@ -49,8 +52,9 @@ struct Connection {
 
 impl Connection {
     /// One that was just accepted. Nothing is read before an event says that something came.
-    fn new(stream: TcpStream, address: SocketAddr, now: Instant) -> Connection {
+    fn new(shown: u64, stream: TcpStream, address: SocketAddr, now: Instant) -> Connection {
         Connection {
+            shown,
             stream,
             address,
             seat: Seat::new(),
@@ -70,6 +74,10 @@ impl Connection {
 #[derive(Drop)]
 pub(crate) struct Connections<B: ServedSessions> {
     sessions: B,
+    /// What the broker does for its partitions by itself.
+    upkeep: Upkeep,
+    /// How many clients were accepted.
+    accepted: u64,
     by_number: IndexMap<u64, Connection>,
     /// The numbers of those to be visited, each once, and of some that have ended.
     ready: VecDeque<u64>,
@@ -111,9 +119,11 @@ fn token_of(number: u64) -> Token {
 
 impl<B: ServedSessions + Drop> Connections<B> {
     /// No connection, of a broker's sessions.
-    pub(crate) fn new(alloc: Global, sessions: B) -> Connections<B> {
+    pub(crate) fn new(alloc: Global, sessions: B, upkeep: Upkeep) -> Connections<B> {
         Connections {
             sessions,
+            upkeep,
+            accepted: 0,
             by_number: IndexMap::new(alloc),
             ready: VecDeque::new(alloc),
             outgoing: VecDeque::new(alloc),
@@ -189,6 +199,69 @@ impl<B: ServedSessions> Connections<B> {
         self.sessions.tend_at()
     }
 
+    /// What the clock says once the broker has something to do for its partitions, if nothing is done until then; 0 where that is now.
+    pub(crate) fn upkeep_at(&self) -> Option<u64> {
+        let write = if self.sessions.keeps_marks() {
+            self.upkeep.write_at(self.sessions.has_marks_elsewhere())
+        } else {
+            None
+        };
+        match (self.upkeep.due_at(), write) {
+            (Some(a), Some(b)) => Some(a.min(b)),
+            (None, time) | (time, None) => time,
+        }
+    }
+
+    /// Does what is to be done for its partitions now, and gives what came of a cleaning that is over, if one is.
+    pub(crate) fn keep_up(&mut self, clock: u64) -> Option<Outcome> {
+        self.upkeep.go_on(&mut self.sessions, clock)
+    }
+
+    /// Whether what is known of passes is to be written now.
+    pub(crate) fn is_to_write_marks(&self, clock: u64) -> bool {
+        if !self.sessions.keeps_marks() {
+            return false;
+        }
+        let at = self.upkeep.write_at(self.sessions.has_marks_elsewhere());
+        matches!(at, Some(at) if at <= clock)
+    }
+
+    /// Writes what is known of passes. `wall` is what a wall clock says in milliseconds; nothing is written where it couldn't be read.
+    ///
+    /// # Errors
+    ///
+    /// It can't be written. It is tried again a while later.
+    pub(crate) fn write_marks(
+        &mut self,
+        alloc: Global,
+        clock: u64,
+        wall: Option<u64>,
+    ) -> Result<()> {
+        let told = match wall {
+            Some(wall) => self.write_known(alloc, clock, wall),
+            None => Ok(false),
+        };
+        self.upkeep.note_written(clock, matches!(told, Ok(true)));
+        told?;
+        Ok(())
+    }
+
+    /// Writes it, with times of that clock.
+    fn write_known(&mut self, alloc: Global, clock: u64, wall: u64) -> Result<bool> {
+        let mut known = Vec::new(alloc);
+        for index in 0..self.upkeep.len() {
+            if let Some(marks) = self.upkeep.known_at(index, clock, wall) {
+                known.push(marks)?;
+            }
+        }
+        self.sessions.write_marks(&known)
+    }
+
+    /// The name of the topic at a place.
+    pub(crate) fn topic_at(&self, place: Place) -> Option<&[u8]> {
+        topic_at(self.sessions.state(), place)
+    }
+
     /// How many are open, with those whose session is over and that aren't closed yet.
     pub(crate) fn count(&self) -> usize {
         self.by_number.len()
@@ -222,11 +295,23 @@ impl<B: ServedSessions> Connections<B> {
         now: Instant,
     ) -> Result<()> {
         let number = self.sessions.open()?;
-        let opened = self.add(registry, number, Connection::new(stream, address, now));
+        let shown = self.next_shown();
+        let opened = self.add(
+            registry,
+            number,
+            Connection::new(shown, stream, address, now),
+        );
         if opened.is_err() {
             self.sessions.close(number);
         }
         opened
+    }
+
+    /// The number by which lines call the client that is accepted next.
+    fn next_shown(&mut self) -> u64 {
+        let shown = self.accepted;
+        self.accepted = shown.saturating_add(1);
+        shown
     }
 
     /// Adds the connection of a session.
@@ -253,7 +338,7 @@ impl<B: ServedSessions> Connections<B> {
         let number = self.sessions.open().ok()?;
         self.sessions.close(number);
         Some(Ended {
-            number,
+            number: self.next_shown(),
             address,
             why: Ending::MostPerAddress,
         })
@@ -289,6 +374,9 @@ impl<B: ServedSessions> Connections<B> {
             let Some(number) = self.sessions.next_woken(clock) else {
                 break;
             };
+            if self.upkeep.wake(number) {
+                continue;
+            }
             if let Some(connection) = self.by_number.get_mut(&number) {
                 make_ready(&mut self.ready, number, connection);
             }
@@ -343,6 +431,7 @@ impl<B: ServedSessions> Connections<B> {
         }
         if visit.answered > 0 {
             self.moving = Some(number);
+            self.upkeep.note_change();
         }
         self.go_on(number, visit.then, is_drained)
     }
@@ -461,21 +550,21 @@ impl<B: ServedSessions> Connections<B> {
     /// Ends a connection.
     fn end(&mut self, number: u64, why: Ending) -> Option<Ended> {
         self.sessions.close(number);
-        let address = self.close(number)?;
+        let (shown, address) = self.close(number)?;
         Some(Ended {
-            number,
+            number: shown,
             address,
             why,
         })
     }
 
-    /// Closes a connection, if it is open, and gives its client's address.
-    fn close(&mut self, number: u64) -> Option<SocketAddr> {
+    /// Closes a connection, if it is open, and gives its number in lines and its client's address.
+    fn close(&mut self, number: u64) -> Option<(u64, SocketAddr)> {
         let connection = self.by_number.swap_remove(&number)?;
         self.kept = self.kept.saturating_sub(connection.kept);
         self.addresses
             .remove(connection.address.ip(), connection.kept);
-        Some(connection.address)
+        Some((connection.shown, connection.address))
     }
 
     /// Ends a session, and sends its client no more. What it still sends is dropped, until the connection is closed.
@@ -485,6 +574,7 @@ impl<B: ServedSessions> Connections<B> {
         let connection = self.by_number.get_mut(&number)?;
         connection.parting = Some(Parting::new());
         let address = connection.address;
+        let shown = connection.shown;
         make_ready(&mut self.ready, number, connection);
         let is_shut = connection.stream.shutdown(Shutdown::Write).is_ok();
         let is_to_be_read = is_shut && connection.is_ready;
@@ -492,7 +582,7 @@ impl<B: ServedSessions> Connections<B> {
             self.close(number);
         }
         Some(Ended {
-            number,
+            number: shown,
             address,
             why,
         })

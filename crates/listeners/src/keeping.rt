@@ -2,6 +2,7 @@
 
 ghost use Rattle.std.specs.Prelude.{◌≡◌, ◌≤◌, None, IfErr, IfOk};
 
+use crate::marks::{KnownMarks, settle};
 use crate::options::KeptOptions;
 use crate::progress::Progress;
 use crate::reports::{Reason, say};
@@ -51,6 +52,27 @@ pub(crate) fn say_failed<E: Write>(
         ),
         None => say(format!(in alloc; "kbroker: {directory}: {reason}\n"), err),
     }
+    FAILED
+}
+
+/// Says why a call on a file of a directory failed that is none of its snapshots and journals, and answers the status.
+pub(crate) fn say_failed_at<E: Write>(
+    alloc: Global,
+    directory: &str,
+    name: &str,
+    why: &Error,
+    err: &mut E,
+) -> u8
+    ensures { (3 ≤ result) × (result ≤ 4) }
+{
+    if matches!(why.kind(), ErrorKind::OutOfMemory) {
+        return say_no_memory(alloc, err);
+    }
+    let reason = Reason(why);
+    say(
+        format!(in alloc; "kbroker: {directory}/{name}: {reason}\n"),
+        err,
+    );
     FAILED
 }
 
@@ -194,8 +216,9 @@ fn opened<'a, R: Files<File = File> + RandomSource + Alloc + Clone + Drop, E: Wr
     }
 }
 
-/// A directory, and the broker that was started with it. The directory stays locked as long as the folder is there.
-type InFolder<'a, R> = (Folder<'a, R>, Started<Store, Folder<'a, R>>);
+/// A directory, the broker that was started with it, and what is known of passes of former runs. The directory stays locked as long as
+/// the folder is there.
+type InFolder<'a, R> = (Folder<'a, R>, Started<Store, Folder<'a, R>>, KnownMarks);
 
 /// Starts a broker with a directory, and says how far it is while that takes long.
 fn begin<'a, R: Clock + Files<File = File> + RandomSource + Alloc + Clone + Drop, E: Write>(
@@ -232,7 +255,8 @@ pub(crate) fn started_in<
     match begin(rt, alloc, &mut folder, config, keeping, err) {
         Ok(started) => {
             say(found_words(alloc, directory, &started.found), err);
-            Ok((folder, started))
+            let (started, known) = settle(alloc, &mut folder, started, directory, err)?;
+            Ok((folder, started, known))
         }
         Err(why) => match refuse(alloc, directory, why, err) {
             Ok(status) => Err(status),
@@ -270,7 +294,14 @@ pub(crate) fn fold<
     ensures is_status { result ≤ 4 }
 {
     let keeping = keeping_of(kept, snapshot_after);
-    let (_folder, started) = match started_in(rt, alloc, config, &kept.directory, keeping, err) {
+    let (_folder, started, _known) = match started_in(
+        rt,
+        alloc,
+        config,
+        &kept.directory,
+        keeping,
+        err,
+    ) {
         Ok(started) => started,
         Err(status) => return status,
     };

@@ -10,7 +10,9 @@ mod connections;
 mod ending;
 mod incoming;
 mod keeping;
+mod marks;
 mod options;
+mod own_session;
 mod parting;
 mod progress;
 mod reports;
@@ -20,6 +22,7 @@ mod serving_sessions;
 mod standard_streams;
 mod starting;
 mod units;
+mod upkeep;
 
 pub use checking::check_directory;
 pub use connection::{Connection, Replies, Requests};

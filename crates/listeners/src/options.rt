@@ -1,5 +1,6 @@
 //! What brokers that listen are asked for.
 
+use cleaning_policy::Settings;
 use std::alloc::Global;
 use std::net::SocketAddr;
 use std::string::String;
@@ -52,6 +53,8 @@ pub struct StartOptions {
     pub idle: u64,
     /// A snapshot is taken once the journals have so many bytes, and more than the last one; from 1.
     pub snapshot_after: u64,
+    /// When partitions are cleaned; they aren't by the broker itself where this is `None`.
+    pub cleaning: Option<Settings>,
     /// Where what it acknowledged is kept; it is kept in memory alone where this is `None`.
     pub kept: Option<KeptOptions>,
 }

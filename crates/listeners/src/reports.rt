@@ -1,8 +1,10 @@
 //! Lines on standard error about connections and files: never many in a second, and never waited for.
 
+use crate::connections::sooner;
 use crate::ending::Ended;
-use crate::units::{Millis, Size};
-use kept_starts::{Missed, Name, Taken};
+use crate::units::{Millis, Now, Size};
+use crate::upkeep::{Cleaned, WhyGivenUp};
+use kept_starts::{Missed, Name, Place, Taken};
 use std::alloc::{AllocError, Global};
 use std::fmt;
 use std::fmt::Display;
@@ -19,6 +21,12 @@ const BETWEEN_FULL: u64 = 10;
 
 /// For how long, in seconds, no two lines say that a sync took long.
 const BETWEEN_SLOW: u64 = 10;
+
+/// For how long, in seconds, no two lines say that a partition was cleaned.
+const BETWEEN_CLEANED: u64 = 60;
+
+/// For how long, in seconds, no two lines say that a cleaning was given up.
+const BETWEEN_GIVEN_UP: u64 = 10;
 
 /// A sync that takes more milliseconds took long.
 const LONG_SYNC: u64 = 1_000;
@@ -86,6 +94,23 @@ pub(crate) struct Reports {
     full_silent_until: Option<Instant>,
     /// Until when it isn't said that a sync took long.
     syncs_silent_until: Option<Instant>,
+    /// Until when it isn't said that a partition was cleaned.
+    cleaned_silent_until: Option<Instant>,
+    /// Until when it isn't said that a cleaning was given up.
+    given_up_silent_until: Option<Instant>,
+    /// What isn't said yet of the partition that was cleaned last.
+    unsaid_cleaned: Option<String>,
+    /// How many partitions were cleaned since that was said last.
+    cleaned_count: u64,
+    /// What the clock said when the partition was cleaned of which that was said.
+    cleaned_until: u64,
+    /// What the clock said when a partition was cleaned last.
+    last_cleaned: u64,
+}
+
+/// The name of a partition's topic, as text.
+fn topic_text(topic: &[u8]) -> &str {
+    std::str::from_utf8(topic).unwrap_or("?")
 }
 
 impl Reports {
@@ -99,15 +124,28 @@ impl Reports {
             accepts_silent_until: None,
             full_silent_until: None,
             syncs_silent_until: None,
+            cleaned_silent_until: None,
+            given_up_silent_until: None,
+            unsaid_cleaned: None,
+            cleaned_count: 0,
+            cleaned_until: 0,
+            last_cleaned: 0,
         }
     }
 
     /// When something is to be said, if nothing happens until then.
     pub(crate) fn due(&self) -> Option<Instant> {
-        if self.unsaid == 0 {
-            return None;
-        }
-        self.second_ends
+        let ends = if self.unsaid == 0 {
+            None
+        } else {
+            self.second_ends
+        };
+        let cleaned = if self.unsaid_cleaned.is_some() {
+            self.cleaned_silent_until
+        } else {
+            None
+        };
+        sooner(ends, cleaned)
     }
 
     /// Says that a connection ended, or counts it.
@@ -119,8 +157,10 @@ impl Reports {
         self.lines = self.lines.saturating_add(1);
     }
 
-    /// Begins a new second where the one before is over, and says how many ends were not said.
+    /// Begins a new second where the one before is over, and says how many ends were not said. Says what wasn't said of partitions
+    /// that were cleaned, where that may be said again.
     pub(crate) fn catch_up<E: Write>(&mut self, now: Instant, err: &mut E) {
+        self.say_cleaned(now, err);
         if !is_over(self.second_ends, now) {
             return;
         }
@@ -210,5 +250,89 @@ impl Reports {
             format!(in self.alloc; "{name}: a sync took {took}\n").ok(),
             err,
         );
+    }
+
+    /// Says that a partition was cleaned, where something was removed; at most once in a minute, and then with how many others were,
+    /// that weren't said.
+    pub(crate) fn cleaned<E: Write>(
+        &mut self,
+        now: Instant,
+        topic: &[u8],
+        cleaned: Cleaned,
+        err: &mut E,
+    ) {
+        if !cleaned.has_removed() {
+            return;
+        }
+        let topic = topic_text(topic);
+        let partition = cleaned.place.partition;
+        let size = Now {
+            before: cleaned.before,
+            after: cleaned.after,
+        };
+        let (records, tombstones) = (cleaned.answer.records, cleaned.answer.tombstones);
+        let batches = cleaned.answer.batches;
+        let took = Millis(cleaned.millis);
+        let line = format!(in self.alloc;
+            "cleaned {topic} {partition}: {size}; {records} records, {tombstones} tombstones, {batches} batches; {took}"
+        );
+        let is_counted = matches!(cleaned.before_at, Some(at) if at > self.cleaned_until);
+        if !is_counted {
+            self.cleaned_count = self.cleaned_count.saturating_add(1);
+        }
+        self.last_cleaned = cleaned.at;
+        self.unsaid_cleaned = line.ok();
+        self.say_cleaned(now, err);
+    }
+
+    /// Says what is to be said of the partition that was cleaned last, where it may be said.
+    fn say_cleaned<E: Write>(&mut self, now: Instant, err: &mut E) {
+        if self.unsaid_cleaned.is_none() || !is_over(self.cleaned_silent_until, now) {
+            return;
+        }
+        let Some(said) = self.unsaid_cleaned.take() else {
+            return;
+        };
+        self.cleaned_silent_until = now.checked_add(Duration::from_secs(BETWEEN_CLEANED));
+        let line = match self.cleaned_count.saturating_sub(1) {
+            0 => format!(in self.alloc; "{said}\n"),
+            1 => format!(in self.alloc; "{said}, and 1 more partition\n"),
+            more => format!(in self.alloc; "{said}, and {more} more partitions\n"),
+        };
+        self.cleaned_count = 0;
+        self.cleaned_until = self.last_cleaned;
+        is_unsaid(line.ok(), err);
+    }
+
+    /// Says that a cleaning was given up, and why, at most once in ten seconds.
+    pub(crate) fn given_up<E: Write>(
+        &mut self,
+        now: Instant,
+        topic: &[u8],
+        place: Place,
+        why: WhyGivenUp,
+        err: &mut E,
+    ) {
+        if !is_over(self.given_up_silent_until, now) {
+            return;
+        }
+        self.given_up_silent_until = now.checked_add(Duration::from_secs(BETWEEN_GIVEN_UP));
+        let topic = topic_text(topic);
+        let partition = place.partition;
+        let line = match why {
+            WhyGivenUp::OutOfMemory => {
+                format!(in self.alloc; "clean {topic} {partition}: given up: out of memory\n")
+            }
+            WhyGivenUp::Code(code) => {
+                format!(in self.alloc; "clean {topic} {partition}: given up: error code {code}\n")
+            }
+        };
+        is_unsaid(line.ok(), err);
+    }
+
+    /// Says why what is known of passes isn't written.
+    pub(crate) fn marks_unwritten<E: Write>(&mut self, why: &Error, err: &mut E) {
+        let why = Reason(why);
+        is_unsaid(format!(in self.alloc; "cleanings: {why}\n").ok(), err);
     }
 }

@@ -5,12 +5,14 @@ use crate::connections::{Connections, sooner};
 use crate::ending::Ended;
 use crate::reports::{Reports, is_over, millis_between};
 use crate::serving_sessions::{ServedSessions, Unkept};
+use crate::upkeep::Outcome;
 use kept_starts::{Missed, Name, Taken};
 use mio::net::TcpStream;
 use mio::{Events, Poll};
+use std::alloc::Global;
 use std::io::{Error, Result, Write};
 use std::net::SocketAddr;
-use std::time::{Clock, Duration, Instant};
+use std::time::{Clock, Duration, Instant, SystemTime, UNIX_EPOCH};
 
 /// The most clients that are accepted in a round.
 const MOST_ACCEPTED: u32 = 64;
@@ -42,6 +44,7 @@ impl Bounds {
 /// A broker that listens, between two rounds.
 #[derive(Drop)]
 pub(crate) struct Rounds<B: ServedSessions> {
+    alloc: Global,
     poll: Poll,
     events: Events,
     acceptor: Acceptor,
@@ -79,9 +82,16 @@ fn time<R: Clock>(rt: &R, before: Instant) -> Instant {
     }
 }
 
+/// What a wall clock says, in milliseconds since 1970, where it can be read.
+pub(crate) fn wall_millis<R: Clock>(rt: &R) -> Option<u64> {
+    let now = SystemTime::now(rt).ok()?;
+    u64::try_from(now.duration_since(UNIX_EPOCH).ok()?.as_millis()).ok()
+}
+
 impl<B: ServedSessions> Rounds<B> {
     /// A broker before its first round.
     pub(crate) fn new(
+        alloc: Global,
         poll: Poll,
         events: Events,
         acceptor: Acceptor,
@@ -91,6 +101,7 @@ impl<B: ServedSessions> Rounds<B> {
         now: Instant,
     ) -> Rounds<B> {
         Rounds {
+            alloc,
             poll,
             events,
             acceptor,
@@ -124,6 +135,7 @@ impl<B: ServedSessions> Rounds<B> {
             self.look_for_idle(err);
             self.connections.close_parted(self.now);
             self.reports.catch_up(self.now, err);
+            self.keep_up(rt, err);
         }
         Ok(())
     }
@@ -138,6 +150,7 @@ impl<B: ServedSessions> Rounds<B> {
         let first = sooner(accept_at, sooner(self.look_at, self.reports.due()));
         let first = sooner(first, self.connections.sync_at());
         let first = sooner(first, self.tend_at());
+        let first = sooner(first, self.upkeep_at());
         let first = sooner(first, self.connections.part_at());
         let first = sooner(first, self.next_due())?;
         Some(first.duration_since(self.now))
@@ -162,6 +175,11 @@ impl<B: ServedSessions> Rounds<B> {
     /// When the next step of a snapshot is to be made.
     fn tend_at(&self) -> Option<Instant> {
         self.time_at(self.connections.tend_at()?)
+    }
+
+    /// When the broker has something to do for its partitions.
+    fn upkeep_at(&self) -> Option<Instant> {
+        self.time_at(self.connections.upkeep_at()?)
     }
 
     /// Waits for events, and notes whom they concern.
@@ -406,6 +424,42 @@ impl<B: ServedSessions> Rounds<B> {
         };
         if self.connections.journal() != Some(name) {
             self.reports.synced(name, began, time(rt, began), err);
+        }
+    }
+
+    /// Does what is to be done for the broker's partitions, and says what came of it. It comes last in a round: the replies of the
+    /// round have left, no step of a snapshot is to be made, and a frame that is noted goes into the journal with the next round.
+    fn keep_up<R: Clock, E: Write>(&mut self, rt: &R, err: &mut E) {
+        let Some(at) = self.connections.upkeep_at() else {
+            return;
+        };
+        let now = time(rt, self.now);
+        let clock = millis_between(self.began, now);
+        if at > clock {
+            return;
+        }
+        match self.connections.keep_up(clock) {
+            Some(Outcome::Cleaned(cleaned)) => {
+                let topic = self.connections.topic_at(cleaned.place).unwrap_or(&[]);
+                self.reports.cleaned(now, topic, cleaned, err);
+            }
+            Some(Outcome::GivenUp(place, why)) => {
+                let topic = self.connections.topic_at(place).unwrap_or(&[]);
+                self.reports.given_up(now, topic, place, why, err);
+            }
+            None => {}
+        }
+        self.write_marks(rt, clock, err);
+    }
+
+    /// Writes what is known of passes, where that is due, and says why it couldn't, if so.
+    fn write_marks<R: Clock, E: Write>(&mut self, rt: &R, clock: u64, err: &mut E) {
+        if !self.connections.is_to_write_marks(clock) {
+            return;
+        }
+        let wall = wall_millis(rt);
+        if let Err(why) = self.connections.write_marks(self.alloc, clock, wall) {
+            self.reports.marks_unwritten(&why, err);
         }
     }
 

@@ -3,17 +3,23 @@
 
 ghost use Rattle.std.specs.Prelude.{◌≡◌, None};
 
+use crate::marks::bytes_behind;
 use crate::options::SyncWay;
 use crate::reports::is_over;
+use broker_state::BrokerState;
+use cleaning_policy::Marks;
+use data_directory::KeepsCleanings;
+use kept_rotations::id_of;
 use kept_starts::sessions::{Plainly, Seat, Session, Sessions, Visit};
 use kept_starts::{
     CommitError, Directory, Done, JournalError, Keeper, Missed, Name, Place, Put, Rotation,
     RotationFault, Sent, Started,
 };
 use segment::BatchStore;
+use snapshot_drafts::snapshot_size;
 use std::alloc::{AllocError, Global};
 use std::collections::VecDeque;
-use std::io::{Error, Read, Write};
+use std::io::{Error, Read, Result as IoResult, Write};
 use std::marker::Model;
 use std::time::{Duration, Instant};
 
@@ -26,7 +32,7 @@ const MOST_UNSYNCED: u64 = 4_194_304;
 /// Why what was done can't be kept.
 #[derive(Drop)]
 pub(crate) enum Unkept {
-    /// An entry that may have changed something lacked memory.
+    /// A request was done in part, for want of memory.
     OutOfMemory,
     /// The journal took no more.
     Journal(Name, JournalError),
@@ -36,6 +42,23 @@ pub(crate) enum Unkept {
 
 /// The sessions of a broker. What the calls do that `Sessions` has too is said there.
 pub(crate) trait ServedSessions {
+    type Store: BatchStore;
+
+    /// What the broker holds.
+    fn state(&self) -> &BrokerState<Self::Store>;
+
+    /// Is told that what partitions have may have changed.
+    fn measure(&mut self);
+
+    /// Whether what is known of passes is kept over restarts.
+    fn keeps_marks(&self) -> bool;
+
+    /// Whether what was written of it last stands behind a journal that isn't the last one.
+    fn has_marks_elsewhere(&self) -> bool;
+
+    /// Writes it, and gives whether it could: not where it isn't known where the last group of the journal begins.
+    fn write_marks(&mut self, known: &[(Place, Marks)]) -> IoResult<bool>;
+
     fn open(&mut self) -> Result<u64, AllocError>;
 
     fn visit<R: Read>(
@@ -105,6 +128,26 @@ fn nothing_done() -> Done {
 }
 
 impl<S: BatchStore> ServedSessions for Sessions<S, Global> {
+    type Store = S;
+
+    fn state(&self) -> &BrokerState<S> {
+        self.node().state()
+    }
+
+    fn measure(&mut self) {}
+
+    fn keeps_marks(&self) -> bool {
+        false
+    }
+
+    fn has_marks_elsewhere(&self) -> bool {
+        false
+    }
+
+    fn write_marks(&mut self, _known: &[(Place, Marks)]) -> IoResult<bool> {
+        Ok(false)
+    }
+
     fn open(&mut self) -> Result<u64, AllocError> {
         self.open()
     }
@@ -211,6 +254,11 @@ pub(crate) struct Kept<S: BatchStore + Drop, D: Directory + Drop> {
     put_off: VecDeque<u64>,
     /// How many of these are to be visited again, from the first on.
     woken: usize,
+    alloc: Global,
+    /// The number of the journal to which a group was put last, and the byte offset at which that begins there.
+    group: Option<(u64, u64)>,
+    /// The number of the journal behind which what is known of passes was written last.
+    marks: Option<u64>,
 }
 
 impl<S: BatchStore + Drop, D: Directory + Drop> Model for Kept<S, D> {
@@ -225,11 +273,13 @@ impl<S: BatchStore + Drop, D: Directory + Drop> Model for Kept<S, D> {
 }
 
 impl<S: BatchStore + Drop, D: Directory + Drop> Kept<S, D> {
-    /// A broker that was started with a directory, and whose journal is synced in this way.
+    /// A broker that was started with a directory, and whose journal is synced in this way. What is known of passes stands there
+    /// behind the journal of this number, if any is known.
     pub(crate) fn new(
         alloc: Global,
         directory: D,
         started: Started<S, D>,
+        marks: Option<u64>,
         sync: SyncWay,
     ) -> Kept<S, D>
     where
@@ -245,6 +295,9 @@ impl<S: BatchStore + Drop, D: Directory + Drop> Kept<S, D> {
             wanted: None,
             put_off: VecDeque::new(alloc),
             woken: 0,
+            alloc,
+            group: None,
+            marks,
         }
     }
 
@@ -261,6 +314,17 @@ impl<S: BatchStore + Drop, D: Directory + Drop> Kept<S, D> {
         self.keeper.unsynced() >= MOST_UNSYNCED || is_over(self.sync_at, now)
     }
 
+    /// The number of the last journal, and the byte offset at which its last group begins; 0 where it has none. None where that isn't
+    /// known: the group was there when the broker was started.
+    fn last_group(&self) -> Option<(u64, u64)> {
+        let last = self.rotation.files().last;
+        match self.group {
+            Some((number, at)) if number == last => Some((last, at)),
+            _ if self.keeper.journal_end() == self.keeper.journal_start() => Some((last, 0)),
+            _ => None,
+        }
+    }
+
     /// Forgets when the journal is to be synced, where it is: a snapshot that begins syncs it.
     fn forget_synced(&mut self) {
         if self.keeper.unsynced() == 0 {
@@ -269,7 +333,48 @@ impl<S: BatchStore + Drop, D: Directory + Drop> Kept<S, D> {
     }
 }
 
-impl<S: BatchStore + Drop, D: Directory + Drop> ServedSessions for Kept<S, D> {
+impl<S: BatchStore + Drop, D: Directory + KeepsCleanings + Drop> ServedSessions for Kept<S, D> {
+    type Store = S;
+
+    fn state(&self) -> &BrokerState<S> {
+        self.keeper.node().state()
+    }
+
+    fn measure(&mut self) {
+        let id = id_of(self.rotation.files().last, &self.keeper.journal_key());
+        let state = self.keeper.node().state();
+        if let Ok(size) = snapshot_size(self.alloc, id, state) {
+            self.rotation.note_size(size);
+        }
+    }
+
+    fn keeps_marks(&self) -> bool {
+        true
+    }
+
+    fn has_marks_elsewhere(&self) -> bool {
+        matches!(self.marks, Some(number) if number != self.rotation.files().last)
+    }
+
+    fn write_marks(&mut self, known: &[(Place, Marks)]) -> IoResult<bool> {
+        let Some((number, at)) = self.last_group() else {
+            return Ok(false);
+        };
+        let bytes = bytes_behind(
+            self.alloc,
+            &self.directory,
+            &self.keeper,
+            (number, at),
+            known,
+        )?;
+        let Some(bytes) = bytes else {
+            return Ok(false);
+        };
+        self.directory.write_cleanings(&bytes)?;
+        self.marks = Some(number);
+        Ok(true)
+    }
+
     fn open(&mut self) -> Result<u64, AllocError> {
         self.keeper.open()
     }
@@ -331,9 +436,13 @@ impl<S: BatchStore + Drop, D: Directory + Drop> ServedSessions for Kept<S, D> {
 
     fn put(&mut self, clock: u64) -> Result<Option<Missed>, Unkept> {
         let journal = self.last_journal();
+        let end = self.keeper.journal_end();
         let put = self
             .rotation
             .put_group(&mut self.keeper, &mut self.directory, clock, Put::Append);
+        if self.keeper.journal_end() > end {
+            self.group = Some((self.rotation.files().last, end));
+        }
         match put {
             Ok(missed) => Ok(missed),
             Err(CommitError::OutOfMemory) => Err(Unkept::OutOfMemory),

@@ -5,10 +5,13 @@ ghost use Rattle.std.specs.Prelude.{◌+◌, ◌<◌, ◌≤◌};
 use crate::accepting::{Acceptor, Entrance};
 use crate::connections::Connections;
 use crate::keeping::{fail_keeping, fold, keeping_of, started_in};
+use crate::marks::put_back_all;
 use crate::options::{KeptOptions, StartOptions};
 use crate::reports::{Reason, Reports, say};
-use crate::rounds::{Bounds, Rounds, Stop};
+use crate::rounds::{Bounds, Rounds, Stop, wall_millis};
 use crate::serving_sessions::{Kept, ServedSessions};
+use crate::upkeep::Upkeep;
+use cleaning_policy::Settings;
 use kept_starts::sessions::Sessions;
 use libc::RLIMIT_NOFILE;
 use libc::types::rlimit;
@@ -110,6 +113,7 @@ fn set_up<R: Net + Clock, B: ServedSessions + Drop>(
     rt: &R,
     alloc: Global,
     sessions: B,
+    upkeep: Upkeep,
     acceptor: Acceptor,
     bounds: Bounds,
 ) -> IoResult<Rounds<B>> {
@@ -118,9 +122,18 @@ fn set_up<R: Net + Clock, B: ServedSessions + Drop>(
     let now = Instant::now(rt)?;
     let mut listening = acceptor;
     listening.register(poll.registry())?;
-    let connections = Connections::new(alloc, sessions);
+    let connections = Connections::new(alloc, sessions, upkeep);
     let reports = Reports::new(alloc);
-    Ok(Rounds::new(poll, events, listening, connections, reports, bounds, now))
+    Ok(Rounds::new(
+        alloc,
+        poll,
+        events,
+        listening,
+        connections,
+        reports,
+        bounds,
+        now,
+    ))
 }
 
 /// Listens for connections and serves them, until it can no longer.
@@ -132,13 +145,14 @@ fn listen<R: Net + Clock, B: ServedSessions + Drop, W: Write, E: Write>(
     rt: &R,
     alloc: Global,
     sessions: B,
+    upkeep: Upkeep,
     acceptor: Acceptor,
     bounds: Bounds,
     out: &mut W,
     err: &mut E,
 ) -> Result<(), Stop> {
     let address = acceptor.address();
-    let mut rounds = set_up(rt, alloc, sessions, acceptor, bounds)?;
+    let mut rounds = set_up(rt, alloc, sessions, upkeep, acceptor, bounds)?;
     say(format!(in alloc; "listening {address}\n"), out);
     rounds.run(rt, err)
 }
@@ -155,11 +169,32 @@ fn say_most<E: Write>(alloc: Global, files: u64, most: u64, asked: u64, err: &mu
     }
 }
 
+/// Says when partitions are cleaned.
+fn say_cleaning<E: Write>(alloc: Global, cleaning: Option<Settings>, err: &mut E) {
+    let line = match cleaning {
+        Some(settings) => {
+            let Settings {
+                percent,
+                lag,
+                within,
+                keep_deletes,
+            } = settings;
+            let (lag, within, keep) = (lag / 1_000, within / 1_000, keep_deletes / 1_000);
+            format!(in alloc;
+                "cleaning at {percent} %, lag {lag} s, within {within} s, deletes kept {keep} s\n"
+            )
+        }
+        None => String::from_str(alloc, "nothing is cleaned by itself\n"),
+    };
+    say(line, err);
+}
+
 /// Serves as a broker that keeps nothing on disk, and answers the status.
 fn start_unkept<R: Net + Clock, W: Write, E: Write>(
     rt: &R,
     alloc: Global,
     config: Config<Global>,
+    cleaning: Option<Settings>,
     entrance: Entrance,
     bounds: Bounds,
     out: &mut W,
@@ -176,6 +211,10 @@ fn start_unkept<R: Net + Clock, W: Write, E: Write>(
         Ok(sessions) => sessions,
         Err(why) => return fail_at(alloc, address, &Error::from(why), err),
     };
+    let upkeep = match Upkeep::new(alloc, cleaning, wall_millis(rt), false, sessions.state()) {
+        Ok(upkeep) => upkeep,
+        Err(why) => return fail_at(alloc, address, &Error::from(why), err),
+    };
     let acceptor = match entrance.open(rt) {
         Ok(acceptor) => acceptor,
         Err(why) => return fail_at(alloc, address, &why, err),
@@ -184,7 +223,8 @@ fn start_unkept<R: Net + Clock, W: Write, E: Write>(
         String::from_str(alloc, "nothing is kept on disk: --data DIR keeps it\n"),
         err,
     );
-    match listen(rt, alloc, sessions, acceptor, bounds, out, err) {
+    say_cleaning(alloc, cleaning, err);
+    match listen(rt, alloc, sessions, upkeep, acceptor, bounds, out, err) {
         Ok(()) | Err(Stop::Keeping(_)) => FAILED,
         Err(Stop::Listening(why)) => fail_at(alloc, address, &why, err),
     }
@@ -202,6 +242,7 @@ fn start_kept<
     config: Config<Global>,
     kept: &'a KeptOptions,
     snapshot_after: u64,
+    cleaning: Option<Settings>,
     entrance: Entrance,
     bounds: Bounds,
     out: &mut W,
@@ -211,16 +252,30 @@ fn start_kept<
 {
     let address = entrance.address();
     let keeping = keeping_of(kept, snapshot_after);
-    let (folder, started) = match started_in(rt, alloc, &config, &kept.directory, keeping, err) {
+    let (folder, started, marks) = match started_in(
+        rt,
+        alloc,
+        &config,
+        &kept.directory,
+        keeping,
+        err,
+    ) {
         Ok(started) => started,
         Err(status) => return status,
     };
-    let sessions = Kept::new(alloc, folder, started, kept.sync);
+    let sessions = Kept::new(alloc, folder, started, marks.journal(), kept.sync);
+    let wall = wall_millis(rt);
+    let mut upkeep = match Upkeep::new(alloc, cleaning, wall, true, sessions.state()) {
+        Ok(upkeep) => upkeep,
+        Err(why) => return fail_at(alloc, address, &Error::from(why), err),
+    };
+    put_back_all(&mut upkeep, sessions.state(), &marks);
     let acceptor = match entrance.open(rt) {
         Ok(acceptor) => acceptor,
         Err(why) => return fail_at(alloc, address, &why, err),
     };
-    match listen(rt, alloc, sessions, acceptor, bounds, out, err) {
+    say_cleaning(alloc, cleaning, err);
+    match listen(rt, alloc, sessions, upkeep, acceptor, bounds, out, err) {
         Ok(()) => FAILED,
         Err(Stop::Listening(why)) => fail_at(alloc, address, &why, err),
         Err(Stop::Keeping(why)) => fail_keeping(alloc, &kept.directory, &why, err),
@@ -276,9 +331,11 @@ pub fn start<
     };
     say_most(alloc, files, most, asked, err);
     let config = config_at(options.config, entrance.address().port());
-    let after = options.snapshot_after;
+    let (after, cleaning) = (options.snapshot_after, options.cleaning);
     match options.kept {
-        Some(kept) => start_kept(rt, alloc, config, &kept, after, entrance, bounds, out, err),
-        None => start_unkept(rt, alloc, config, entrance, bounds, out, err),
+        Some(kept) => start_kept(
+            rt, alloc, config, &kept, after, cleaning, entrance, bounds, out, err,
+        ),
+        None => start_unkept(rt, alloc, config, cleaning, entrance, bounds, out, err),
     }
 }

@@ -68,6 +68,21 @@ impl fmt::Display for Share {
     }
 }
 
+/// So many bytes that became so many, both in the unit of the former.
+#[derive(Clone, Copy)]
+pub(crate) struct Now {
+    pub(crate) before: u64,
+    pub(crate) after: u64,
+}
+
+impl fmt::Display for Now {
+    fn fmt<W: fmt::Write>(&self, f: &mut fmt::Formatter<W>) -> fmt::Result {
+        let unit = unit_of(self.before);
+        let (before, after) = (unit.count(self.before), unit.count(self.after));
+        write!(f, "{before} {unit}, now {after}")
+    }
+}
+
 /// So many milliseconds, in seconds with one digit behind the point, rounded.
 #[derive(Clone, Copy)]
 pub(crate) struct Millis(pub(crate) u64);

@@ -1,7 +1,8 @@
 -- A draft that is begun for what a broker holds, and one that is finished.
-use Rattle.std.proofs.Common.{◌≡◌, ℕ, pos, ◌+◌, ◌<◌, true, List, [], ◌∷◌, ◌++◌, length, Option, Some, refl, ap, ◌∙◌, subst}
+use Rattle.std.proofs.Common.{◌≡◌, ℕ, pos, ◌+◌, ◌<◌, true, List, [], ◌∷◌, ◌++◌, length, Option, Some, refl, sym, ap, ◌∙◌, subst}
 use Rattle.std.specs.Prelude.{IfSome, map, is_some, get_or, slice_get}
-use Rattle.std.specs.List.{concat}
+use Rattle.std.specs.List.{concat, flat_map}
+use Rattle.std.proofs.lemmas.List.{length-append}
 use Rattle.std.specs.Option.{option_map}
 use Rattle.std.proofs.lemmas.Option.{slice_get-map, slice_get_read}
 use Rattle.content.specs.Content.{Content}
@@ -74,3 +75,10 @@ state_missing s new d slots size start head ts made at are placed place =
 -- the whole file is the snapshot
 pub whole_is : (id : SnapshotId) (s : State) → whole_of (state_head id s) (all_images s) ≡ snapshot_bytes id s
 whole_is id s = ap (λ (l : List ℕ). state_head id s ++ l) (whole_images (λ (t : Topic). t.partitions) image_of s.topics)
+
+-- how many bytes it has
+pub size_is : (id : SnapshotId) (s : State) (size start : ℕ) (head : List ℕ) (ts : List TopicParts) → head ≡ state_head id s → start ≡ length head → map topic_contents ts ≡ s.topics
+    → size ≡ start + sum_all (map images ts) → size ≡ length (snapshot_bytes id s)
+size_is id s size start head ts is at are ends =
+    ends ∙ (λ i. at i + sum_all (same_images ts s.topics are i)) ∙ ap (λ (h : List ℕ). length h + sum_all (all_images s)) is
+    ∙ sym (length-append (state_head id s) (flat_map concat (all_images s))) ∙ ap length (whole_is id s)

@@ -5,6 +5,7 @@ ghost use Rattle.std.specs.List.{concat, flat_map};
 ghost use Rattle.broker_state.specs.Parts.{topic_contents};
 ghost use Rattle.broker_state.specs.declared.place.Place.{Place};
 ghost use Rattle.copy_images.specs.Images.{image_of};
+ghost use Rattle.state_snapshots.specs.Snapshots.{snapshot_bytes};
 ghost use Rattle.snapshot_drafts.specs.Slots.{new_slots, new_topics};
 ghost use Rattle.snapshot_drafts.specs.Parts.{is_missing};
 ghost use Rattle.snapshot_drafts.specs.Drafts.{IsDraftOf, content_in, partition_images};
@@ -78,6 +79,24 @@ fn slots_of_all<S: BatchStore, A: Allocator + Copy>(
         at = end;
     }
     Ok((all, at))
+}
+
+/// How many bytes the snapshot of what a broker holds has. All partitions are looked at, and no image is made; memory for a few
+/// numbers of each is taken and given back.
+///
+/// # Errors
+///
+/// Out of memory.
+pub fn snapshot_size<S: BatchStore, A: Allocator + Copy>(
+    alloc: A,
+    id: SnapshotId,
+    state: &BrokerState<S>,
+) -> Result<u64, AllocError>
+    ensures { IfOk result (λ size. size ≡ length (snapshot_bytes id state.now)) }
+{
+    let head = head_of(alloc, id, state)?;
+    let (_slots, size) = slots_of_all(alloc, state.topics(), head.len() as u64)?;
+    Ok(size)
 }
 
 impl<F: DraftFile + Drop, A: Allocator + Copy> Draft<F, A> {

@@ -25,6 +25,7 @@ mod memory;
 mod slots;
 mod writing;
 
+pub use beginning::snapshot_size;
 pub use draft::Draft;
 pub use draft_file::DraftFile;
 pub use error::DraftError;

@@ -12,7 +12,7 @@ use Rattle.clap.specs.declared.error.kind.ErrorKind.{ErrorKind}
 use Rattle.broker_state.specs.ConfigValues.{config_value}
 use Rattle.broker_state.specs.State.{ConfigValue}
 use Rattle.tcp_edge.specs.declared.asked.ArgumentsFault.{ArgumentsFault}
-use Rattle.tcp_edge.specs.declared.asked.ArgumentsFault.TheVariants.{Clap, Address, Kept, Topic}
+use Rattle.tcp_edge.specs.declared.asked.ArgumentsFault.TheVariants.{Clap, Address, Kept, Cleaning, Topic}
 use Rattle.tcp_edge.specs.declared.asked.Asked.{Asked}
 use Rattle.tcp_edge.specs.declared.asked.Asked.TheVariants.{Table, Session, Serve, Start, Check, Replay, Merge}
 use Rattle.tcp_edge.specs.declared.addresses.AddressFault.{AddressFault}
@@ -89,6 +89,15 @@ firsts f g (Some b) = refl
 -- the name under which a subcommand was found
 pub name_found : (m : ArgMatches) (name : Text) (rows : List Row) → subcommand_rows_of m ≡ Some (name, rows) → subcommand_name_of m ≡ Some name
 name_found m name rows is = sym (firsts _ _ _) ∙ ap (option_map (λ (p : Text × List Row). p.0)) is
+
+-- so that what is true of the values that were found under a name is true of the subcommand's
+pub with_rows : (m : ArgMatches) (name given : Text) (found rows : List Row) (P : List Row → Type 0) → subcommand_name_of m ≡ Some name
+    → option_map (λ (p : Text × List Row). p.1) (subcommand_rows_of m) ≡ Some found → P found → subcommand_rows_of m ≡ Some (given, rows)
+    → (given ≡ name) × P rows
+with_rows m name given found rows P named has is there = (
+  same_Some given name (sym (name_found m given rows there) ∙ named),
+  subst P (same_Some found rows (sym has ∙ ap (option_map (λ (p : Text × List Row). p.1)) there)) is,
+)
 
 -- a subcommand that was found under a name has its values
 rows_by_name : (o : Option (Text × List Row)) (name : Text) → option_map (λ (p : Text × List Row). p.0) o ≡ Some name
@@ -194,6 +203,7 @@ pub memory_stops : (kinds : Kinds) (fault : ArgumentsFault) → IsOutOfMemory fa
 memory_stops kinds (Clap error) is = inl is
 memory_stops kinds (Address why) is = is
 memory_stops kinds (Kept why) is = is
+memory_stops kinds (Cleaning why) is = is
 memory_stops kinds (Topic why) is = is
 
 -- what clap stops with is no help where none was asked for
@@ -216,6 +226,7 @@ mistake_stops arguments (Clap error) has stops =
     elim (stops has.kinds has.stops) [ inl memory ↦ no_memory_help error memory | inr among ↦ no_help_among has.kinds _ has.no_help has.no_version among ]
 mistake_stops arguments (Address why) has stops = tt
 mistake_stops arguments (Kept why) has stops = tt
+mistake_stops arguments (Cleaning why) has stops = tt
 mistake_stops arguments (Topic why) has stops = tt
 
 -- where help is asked for, it is help, or memory ran out
@@ -233,7 +244,9 @@ help_stops arguments (Clap error) (inr version) stops =
 help_stops arguments (Address why) (inl help) stops = absurd (stops _ help)
 help_stops arguments (Address why) (inr version) stops = absurd (stops _ version)
 help_stops arguments (Kept why) (inl help) stops = absurd (stops _ help)
+help_stops arguments (Cleaning why) (inl help) stops = absurd (stops _ help)
 help_stops arguments (Kept why) (inr version) stops = absurd (stops _ version)
+help_stops arguments (Cleaning why) (inr version) stops = absurd (stops _ version)
 help_stops arguments (Topic why) (inl help) stops = absurd (stops _ help)
 help_stops arguments (Topic why) (inr version) stops = absurd (stops _ version)
 
@@ -252,6 +265,7 @@ pub session_fault : (name : Text) (rows : List Row) (fault : ArgumentsFault) →
 session_fault name rows (Clap error) is h = h
 session_fault name rows (Address why) is h = absurd h
 session_fault name rows (Kept why) is h = absurd h
+session_fault name rows (Cleaning why) is h = absurd h
 session_fault name rows (Topic why) is h = (
   λ table. let bad : true ≡ false = ap (bytes_eq (codes "session")) (sym is ∙ table) in cc,
   λ merge. let bad : true ≡ false = ap (bytes_eq (codes "session")) (sym is ∙ merge) in cc,
@@ -265,6 +279,7 @@ pub serve_fault : (name : Text) (rows : List Row) (fault : ArgumentsFault) → n
 serve_fault name rows (Clap error) is h = h
 serve_fault name rows (Address why) is h = absurd h
 serve_fault name rows (Kept why) is h = absurd h
+serve_fault name rows (Cleaning why) is h = absurd h
 serve_fault name rows (Topic why) is h = (
   λ table. let bad : true ≡ false = ap (bytes_eq (codes "serve")) (sym is ∙ table) in cc,
   λ merge. let bad : true ≡ false = ap (bytes_eq (codes "serve")) (sym is ∙ merge) in cc,
@@ -278,6 +293,7 @@ pub start_fault : (name : Text) (rows : List Row) (fault : ArgumentsFault) → n
 start_fault name rows (Clap error) is h = h
 start_fault name rows (Address why) is h = (is, h)
 start_fault name rows (Kept why) is h = (is, h.1)
+start_fault name rows (Cleaning why) is h = (is, h.1)
 start_fault name rows (Topic why) is h = (
   λ table. let bad : true ≡ false = ap (bytes_eq (codes "start")) (sym is ∙ table) in cc,
   λ merge. let bad : true ≡ false = ap (bytes_eq (codes "start")) (sym is ∙ merge) in cc,
@@ -290,6 +306,7 @@ pub check_fault : (name : Text) (rows : List Row) (fault : ArgumentsFault) → n
 check_fault name rows (Clap error) is h = h
 check_fault name rows (Address why) is h = absurd h
 check_fault name rows (Kept why) is h = absurd h
+check_fault name rows (Cleaning why) is h = absurd h
 check_fault name rows (Topic why) is h = absurd h
 
 -- ---- what a parse gives, where the table is asked for
@@ -317,6 +334,8 @@ table_fault arguments (Address why) asks is =
     let bad : true ≡ false = ap (bytes_eq (codes "table")) (is (codes "table") [] (finds_table arguments asks)).0 in cc
 table_fault arguments (Kept why) asks is =
     let bad : true ≡ false = ap (bytes_eq (codes "table")) (is (codes "table") [] (finds_table arguments asks)).0 in cc
+table_fault arguments (Cleaning why) asks is =
+    let bad : true ≡ false = ap (bytes_eq (codes "table")) (is (codes "table") [] (finds_table arguments asks)).0 in cc
 table_fault arguments (Topic why) asks is = absurd ((is (codes "table") [] (finds_table arguments asks)).0 refl)
 
 -- ---- and where a merge is
@@ -342,6 +361,8 @@ merge_fault arguments (Clap error) asks is = is (codes "merge") [] (finds_merge 
 merge_fault arguments (Address why) asks is =
     let bad : true ≡ false = ap (bytes_eq (codes "merge")) (is (codes "merge") [] (finds_merge arguments asks)).0 in cc
 merge_fault arguments (Kept why) asks is =
+    let bad : true ≡ false = ap (bytes_eq (codes "merge")) (is (codes "merge") [] (finds_merge arguments asks)).0 in cc
+merge_fault arguments (Cleaning why) asks is =
     let bad : true ≡ false = ap (bytes_eq (codes "merge")) (is (codes "merge") [] (finds_merge arguments asks)).0 in cc
 merge_fault arguments (Topic why) asks is = absurd ((is (codes "merge") [] (finds_merge arguments asks)).1 refl)
 
@@ -411,6 +432,7 @@ pub topic_or_memory : (name : Text) (rows : List Row) (fault : ArgumentsFault) �
 topic_or_memory name rows (Clap error) other is = inl is
 topic_or_memory name rows (Address why) other is = absurd (other is.0)
 topic_or_memory name rows (Kept why) other is = absurd (other is.0)
+topic_or_memory name rows (Cleaning why) other is = absurd (other is.0)
 topic_or_memory name rows (Topic why) other is = inr (tt, is.4)
 
 pub session_is_no_start : codes "session" ≢ codes "start"
@@ -435,7 +457,8 @@ pub unfit_or_memory : (name : Text) (rows : List Row) (fault : ArgumentsFault) �
 unfit_or_memory name rows (Clap error) is = inl is
 unfit_or_memory name rows (Address why) is = inr (tt, unfit_address rows why is.1)
 unfit_or_memory name rows (Kept why) is = inr (tt, unfit_kept rows why is.1)
-unfit_or_memory name rows (Topic why) is = inr (tt, inr (inr (inr (inr (inr is.4)))))
+unfit_or_memory name rows (Cleaning why) is = inr (tt, inr (inr (inr (inr (inr (inl (why, is.1)))))))
+unfit_or_memory name rows (Topic why) is = inr (tt, inr (inr (inr (inr (inr (inr is.4))))))
 
 -- so the status is 3, or it says that a word is none
 pub refused_left : (fault : ArgumentsFault) (status : ℕ) (P H : Type 0) → IsOutOfMemory fault ⊎ (IsBadValue fault × H)
@@ -454,12 +477,14 @@ pub replay_fault : (rows : List Row) (fault : ArgumentsFault) → IsFaulty (code
 replay_fault rows (Clap error) is = is
 replay_fault rows (Address why) is = let bad : true ≡ false = ap (bytes_eq (codes "replay")) is.0 in cc
 replay_fault rows (Kept why) is = let bad : true ≡ false = ap (bytes_eq (codes "replay")) is.0 in cc
+replay_fault rows (Cleaning why) is = let bad : true ≡ false = ap (bytes_eq (codes "replay")) is.0 in cc
 replay_fault rows (Topic why) is = absurd (is.2 refl)
 
 pub check_memory : (rows : List Row) (fault : ArgumentsFault) → IsFaulty (codes "check") rows fault → IsOutOfMemory fault
 check_memory rows (Clap error) is = is
 check_memory rows (Address why) is = let bad : true ≡ false = ap (bytes_eq (codes "check")) is.0 in cc
 check_memory rows (Kept why) is = let bad : true ≡ false = ap (bytes_eq (codes "check")) is.0 in cc
+check_memory rows (Cleaning why) is = let bad : true ≡ false = ap (bytes_eq (codes "check")) is.0 in cc
 check_memory rows (Topic why) is = absurd (is.3 refl)
 
 -- ---- and where something else than a broker that listens is

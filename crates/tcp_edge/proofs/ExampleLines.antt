@@ -1,6 +1,6 @@
 -- What clap finds in the lines of the examples. Each is computed; only that the word for a role is one of the two is a fact of
 -- where these words lie.
-use Rattle.std.proofs.Common.{◌≡◌, rules, arith, inl, inr, true≢false, Bool, true, List, [], ◌∷◌, map, ap, refl, sym, subst, false, ◌∙◌, codes, Some, None}
+use Rattle.std.proofs.Common.{◌≡◌, ◌≢◌, ℕ, rules, arith, inl, inr, true≢false, Bool, true, List, [], ◌∷◌, map, ap, refl, sym, subst, false, ◌∙◌, codes, Some, None}
 use Rattle.std.specs.Prelude.{if◌then◌else◌}
 use Rattle.std.specs.List.{list_any}
 use Rattle.std.specs.Borrow.{Bor}
@@ -17,6 +17,10 @@ use Rattle.clap.specs.declared.parser.matches.ValueSource.TheVariants.{CommandLi
 use Rattle.clap.proofs.OnLiterals.{clap_on_literals}
 use Rattle.tcp_edge.specs.CommandLine.{kbroker, Finds, Roles, IsRoles, HasTopics, IsTextAndNumber, IsTopic, directory_word, topic_words}
 use Rattle.tcp_edge.specs.Addresses.{Advertises, IsInBrackets, IsListen, IsUnfit}
+use Rattle.tcp_edge.specs.declared.cleaning.CleanAt.TheVariants.{Percent, Never}
+use Rattle.tcp_edge.specs.declared.cleaning.CleaningFault.{CleaningFault}
+use Rattle.tcp_edge.specs.declared.cleaning.CleaningFault.TheVariants.{At, Lag, Within, KeepDeletes, Short}
+use Rattle.tcp_edge.specs.Cleaning.{IsCleaningFault}
 use Rattle.tcp_edge.specs.Examples.{session_line, serve_line, start_line, check_line, replay_line}
 
 -- ---- the word for a role, where none is given
@@ -141,6 +145,17 @@ advertises : (listen : SocketAddr) → Advertises start_rows listen (codes "h") 
 unfolding clap_on_literals
 advertises listen = record { front = codes "h"; parts = one_port; some = (λ e. absurd (grind (arith, e)), λ e. absurd (grind (arith, e))); is_host = inr (in_no_brackets, refl) }
 
+never_percent : (n : ℕ) → Percent n ≢ Never
+never_percent n is = absurd cc
+
+nothing_wrong : (why : CleaningFault) → ¬ IsCleaningFault start_rows why
+unfolding clap_on_literals
+nothing_wrong At none = none Never refl
+nothing_wrong Lag alone = alone.1 refl
+nothing_wrong Within alone = alone.1 refl
+nothing_wrong KeepDeletes alone = alone.1 refl
+nothing_wrong Short short = never_percent short.percent short.is_way
+
 is_fit : ¬ IsUnfit start_rows
 unfolding clap_on_literals
 is_fit (inl none) = none loopback listens
@@ -148,7 +163,8 @@ is_fit (inr (inl none)) = none.2 (codes "h") 1 (advertises none.0)
 is_fit (inr (inr (inl alone))) = alone.0 refl
 is_fit (inr (inr (inr (inl alone)))) = true≢false (sym alone.0)
 is_fit (inr (inr (inr (inr (inl no_way))))) = no_way.0 refl
-is_fit (inr (inr (inr (inr (inr none))))) = none (has_one start_rows refl)
+is_fit (inr (inr (inr (inr (inr (inl wrong)))))) = nothing_wrong wrong.0 wrong.1
+is_fit (inr (inr (inr (inr (inr (inr none)))))) = none (has_one start_rows refl)
 
 -- ---- the examples
 

@@ -6,7 +6,7 @@ use Rattle.std.specs.declared.net.socket_addr.SocketAddr.{SocketAddr}
 use Rattle.clap.specs.Words.{Row, Text, first_of}
 use Rattle.tcp_edge.specs.declared.addresses.AddressFault.TheVariants.{Listen, Advertise, Unspecified}
 use Rattle.tcp_edge.specs.declared.asked.ArgumentsFault.{ArgumentsFault}
-use Rattle.tcp_edge.specs.declared.asked.ArgumentsFault.TheVariants.{Clap, Address, Kept, Topic}
+use Rattle.tcp_edge.specs.declared.asked.ArgumentsFault.TheVariants.{Clap, Address, Kept, Cleaning, Topic}
 use Rattle.tcp_edge.specs.Addresses.{AdvertisesBy, HasNoAdvertised, IsHost, IsHostAndPort, IsListen, IsUnspecified}
 use Rattle.tcp_edge.specs.Asked.{IsMemoryOr, IsStartFault}
 use Rattle.tcp_edge.specs.CommandLine.{IsTextAndNumber}
@@ -55,6 +55,7 @@ fault_said rows listen word (Address Listen) given listens is = absurd is
 fault_said rows listen word (Address Advertise) given listens is = none_said rows listen word given listens is
 fault_said rows listen word (Address Unspecified) given listens is = none_said rows listen word given listens is
 fault_said rows listen word (Kept why) given listens is = absurd is
+fault_said rows listen word (Cleaning why) given listens is = absurd is
 fault_said rows listen word (Topic why) given listens is = absurd is
 
 -- none is given, and the address to listen at is no particular one
@@ -65,4 +66,5 @@ fault_unsaid rows listen (Address Listen) given listens is = absurd is
 fault_unsaid rows listen (Address Advertise) given listens is = none_unsaid rows listen given listens is
 fault_unsaid rows listen (Address Unspecified) given listens is = none_unsaid rows listen given listens is
 fault_unsaid rows listen (Kept why) given listens is = absurd is
+fault_unsaid rows listen (Cleaning why) given listens is = absurd is
 fault_unsaid rows listen (Topic why) given listens is = absurd is

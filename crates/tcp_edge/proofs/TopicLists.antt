@@ -10,7 +10,7 @@ use Rattle.broker_state.specs.ConfigValues.{topic_config}
 use Rattle.broker_state.specs.declared.config.TopicConfig as declared
 use Rattle.broker_state.specs.State.{TopicConfig}
 use Rattle.tcp_edge.specs.declared.asked.ArgumentsFault.{ArgumentsFault}
-use Rattle.tcp_edge.specs.declared.asked.ArgumentsFault.TheVariants.{Clap, Address, Kept, Topic}
+use Rattle.tcp_edge.specs.declared.asked.ArgumentsFault.TheVariants.{Clap, Address, Kept, Cleaning, Topic}
 use Rattle.tcp_edge.specs.Asked.{IsConfigFault}
 use Rattle.tcp_edge.specs.CommandLine.{IsTextAndNumber, IsTopic, AddsTopic, AreTopics, HasTopics}
 
@@ -61,6 +61,7 @@ pub bad_word : (words : List (Bor Text)) (i : ℕ) (d : Bor Text) (fault : Argum
 bad_word words i d (Clap error) lt is = is
 bad_word words i d (Address why) lt is = is
 bad_word words i d (Kept why) lt is = is
+bad_word words i d (Cleaning why) lt is = is
 bad_word words i d (Topic why) lt is = λ has. is (topic_of words i d has.0 lt has.1)
 
 -- and none where the word is no text and number

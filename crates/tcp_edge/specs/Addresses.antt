@@ -7,6 +7,7 @@ use Rattle.std.specs.Net.Socket.{socket_ip, socket_port}
 use Rattle.std.specs.Net.Text.{ip_text}
 use Rattle.clap.specs.Words.{Row, Text, first_of, one_of}
 use Rattle.tcp_edge.specs.CommandLine.{HasTopics, IsTextAndNumber, topic_words}
+use Rattle.tcp_edge.specs.Cleaning.{HasCleaningFault}
 use Rattle.tcp_edge.specs.Keeping.{HasFoldAlone, HasNoSyncWay, HasSyncAlone}
 
 -- the address that the value of an argument says
@@ -54,6 +55,7 @@ abbrev pub HasNoAdvertised : List Row → Type 0
 HasNoAdvertised rows = (listen : SocketAddr) × IsListen rows listen × ((host : Text) (port : ℕ) → ¬ Advertises rows listen host port)
 
 -- why `start` doesn't start: in this order, there is no address to listen at, none to advertise, `--sync` stands without `--data` or
--- says no way to sync, or a word in the place of a topic is none
+-- says no way to sync, something is wrong with what is said of cleanings, or a word in the place of a topic is none
 abbrev pub IsUnfit : List Row → Type 0
-IsUnfit rows = HasNoListen rows ⊎ HasNoAdvertised rows ⊎ HasSyncAlone rows ⊎ HasFoldAlone rows ⊎ HasNoSyncWay rows ⊎ ¬ HasTopics (topic_words rows)
+IsUnfit rows = HasNoListen rows ⊎ HasNoAdvertised rows ⊎ HasSyncAlone rows ⊎ HasFoldAlone rows ⊎ HasNoSyncWay rows
+    ⊎ HasCleaningFault rows ⊎ ¬ HasTopics (topic_words rows)

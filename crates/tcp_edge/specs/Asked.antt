@@ -16,8 +16,10 @@ use Rattle.tcp_edge.specs.declared.keeping.KeptFault.TheVariants.{Alone, Fold, S
 use Rattle.tcp_edge.specs.declared.asked.ArgumentsFault.{ArgumentsFault}
 use Rattle.std.specs.declared.net.socket_addr.SocketAddr.{SocketAddr}
 use Rattle.std.specs.declared.alloc.Global.{Global}
-use Rattle.tcp_edge.specs.declared.asked.ArgumentsFault.TheVariants.{Clap, Address, Kept, Topic}
+use Rattle.tcp_edge.specs.declared.asked.ArgumentsFault.TheVariants.{Clap, Address, Kept, Cleaning, Topic}
 use Rattle.tcp_edge.specs.Addresses.{Advertises, HasNoAdvertised, HasNoListen, IsListen}
+use Rattle.cleaning_policy.specs.declared.values.Settings.{Settings}
+use Rattle.tcp_edge.specs.Cleaning.{IsCleaning, IsCleaningFault}
 use Rattle.tcp_edge.specs.Keeping.{HasFoldAlone, HasNoSyncWay, HasSyncAlone, IsKept}
 use Rattle.tcp_edge.specs.CommandLine.{HasTopics, IsConfigAt, IsConfigOf, IsGivenNumber, IsNumberOf, IsPort, IsConnections, Finds, Names, Stops, directory_word, topic_words}
 
@@ -40,6 +42,7 @@ pub record IsStarter (rows : List Row) (options : StartOptions) : Type 0 where
   pub most_held : IsNumberOf 64 (one_of (codes "most-held") rows) options.most_held
   pub idle : IsNumberOf 64 (one_of (codes "idle") rows) options.idle
   pub snapshot_after : IsNumberOf 64 (one_of (codes "snapshot-after") rows) options.snapshot_after
+  pub cleaning : IsCleaning rows options.cleaning
   pub kept : IsKept rows options.kept
 
 -- the directory to look at, as it is given
@@ -98,6 +101,7 @@ abbrev pub IsOutOfMemory : ArgumentsFault → Type 0
 IsOutOfMemory (Clap error) = kind_of error ≡ kind.OutOfMemory
 IsOutOfMemory (Address why) = ⊥
 IsOutOfMemory (Kept why) = ⊥
+IsOutOfMemory (Cleaning why) = ⊥
 IsOutOfMemory (Topic why) = ⊥
 
 -- what clap stopped with: memory ran out, or its error is of one of these kinds
@@ -105,6 +109,7 @@ abbrev pub IsStop : Kinds → ArgumentsFault → Type 0
 IsStop kinds (Clap error) = HasKind kinds error
 IsStop kinds (Address why) = ⊥
 IsStop kinds (Kept why) = ⊥
+IsStop kinds (Cleaning why) = ⊥
 IsStop kinds (Topic why) = ⊥
 
 -- neither help nor the version was asked for
@@ -112,6 +117,7 @@ abbrev pub IsMistake : ArgumentsFault → Type 0
 IsMistake (Clap error) = (kind_of error ≢ kind.DisplayHelp) × (kind_of error ≢ kind.DisplayVersion)
 IsMistake (Address why) = ⊤
 IsMistake (Kept why) = ⊤
+IsMistake (Cleaning why) = ⊤
 IsMistake (Topic why) = ⊤
 
 -- help was asked for, or the version
@@ -119,13 +125,15 @@ abbrev pub IsHelp : ArgumentsFault → Type 0
 IsHelp (Clap error) = (kind_of error ≡ kind.DisplayHelp) ⊎ (kind_of error ≡ kind.DisplayVersion)
 IsHelp (Address why) = ⊥
 IsHelp (Kept why) = ⊥
+IsHelp (Cleaning why) = ⊥
 IsHelp (Topic why) = ⊥
 
--- an address, `--sync` or a topic is not what may stand there
+-- an address, `--sync`, an option of cleanings or a topic is not what may stand there
 abbrev pub IsBadValue : ArgumentsFault → Type 0
 IsBadValue (Clap error) = ⊥
 IsBadValue (Address why) = ⊤
 IsBadValue (Kept why) = ⊤
+IsBadValue (Cleaning why) = ⊤
 IsBadValue (Topic why) = ⊤
 
 -- memory ran out, or one of the words in the place of topics is none
@@ -133,6 +141,7 @@ abbrev pub IsConfigFault : List Text → ArgumentsFault → Type 0
 IsConfigFault words (Clap error) = kind_of error ≡ kind.OutOfMemory
 IsConfigFault words (Address why) = ⊥
 IsConfigFault words (Kept why) = ⊥
+IsConfigFault words (Cleaning why) = ⊥
 IsConfigFault words (Topic why) = ¬ HasTopics words
 
 -- what is wrong with the addresses: that to listen at comes first
@@ -148,6 +157,7 @@ IsMemoryOr P (Address Listen) = ⊥
 IsMemoryOr P (Address Advertise) = P
 IsMemoryOr P (Address Unspecified) = P
 IsMemoryOr P (Kept why) = ⊥
+IsMemoryOr P (Cleaning why) = ⊥
 IsMemoryOr P (Topic why) = ⊥
 
 -- both addresses are right
@@ -165,21 +175,34 @@ abbrev pub IsMemoryOrKept : List Row → ArgumentsFault → Type 0
 IsMemoryOrKept rows (Clap error) = kind_of error ≡ kind.OutOfMemory
 IsMemoryOrKept rows (Address why) = ⊥
 IsMemoryOrKept rows (Kept why) = IsKeptFault rows why
+IsMemoryOrKept rows (Cleaning why) = ⊥
 IsMemoryOrKept rows (Topic why) = ⊥
 
--- Memory ran out, or this is the first fault of what `start` is given: what is kept is looked at where the addresses are right, and the
--- topics where both are.
+-- this is wrong with what is said of cleanings
+abbrev pub IsCleaningRefusal : List Row → ArgumentsFault → Type 0
+IsCleaningRefusal rows (Clap error) = ⊥
+IsCleaningRefusal rows (Address why) = ⊥
+IsCleaningRefusal rows (Kept why) = ⊥
+IsCleaningRefusal rows (Cleaning why) = IsCleaningFault rows why
+IsCleaningRefusal rows (Topic why) = ⊥
+
+-- Memory ran out, or this is the first fault of what `start` is given: what is kept is looked at where the addresses are right, cleanings
+-- where both are, and the topics where all three are.
 abbrev pub IsStartFault : List Row → ArgumentsFault → Type 0
 IsStartFault rows (Clap error) = kind_of error ≡ kind.OutOfMemory
 IsStartFault rows (Address why) = IsAddressFault rows why
 IsStartFault rows (Kept why) = HasAddresses rows × IsKeptFault rows why
-IsStartFault rows (Topic why) = (HasAddresses rows × (kept : Option KeptOptions) × IsKept rows kept) × ¬ HasTopics (topic_words rows)
+IsStartFault rows (Cleaning why) = (HasAddresses rows × (kept : Option KeptOptions) × IsKept rows kept) × IsCleaningFault rows why
+IsStartFault rows (Topic why) =
+    (HasAddresses rows × (kept : Option KeptOptions) × IsKept rows kept × (cleaning : Option Settings) × IsCleaning rows cleaning)
+    × ¬ HasTopics (topic_words rows)
 
--- no fault of clap's: memory ran out, or an address, `--sync` or a topic is not what may stand there
+-- no fault of clap's: memory ran out, or an address, `--sync`, an option of cleanings or a topic is not what may stand there
 abbrev pub IsFaulty : Text → List Row → ArgumentsFault → Type 0
 IsFaulty name rows (Clap error) = kind_of error ≡ kind.OutOfMemory
 IsFaulty name rows (Address why) = (name ≡ codes "start") × IsAddressFault rows why
 IsFaulty name rows (Kept why) = (name ≡ codes "start") × IsKeptFault rows why
+IsFaulty name rows (Cleaning why) = (name ≡ codes "start") × IsCleaningFault rows why
 IsFaulty name rows (Topic why) =
     (name ≢ codes "table") × (name ≢ codes "merge") × (name ≢ codes "replay") × (name ≢ codes "check") × ¬ HasTopics (topic_words rows)
 

@@ -91,6 +91,22 @@ snapshot_after_rule = record (option_rule (codes "snapshot-after") (parsers.Sign
 abbrev pub fold_rule : Rule
 fold_rule = record (new_rule (codes "fold")) { long = Some (codes "fold"); action = Some SetTrue }
 
+-- `--clean-at PERCENT`
+abbrev pub clean_at_rule : Rule
+clean_at_rule = text_rule (codes "clean-at")
+
+-- `--clean-lag SECONDS`, a year at the most
+abbrev pub clean_lag_rule : Rule
+clean_lag_rule = option_rule (codes "clean-lag") (parsers.Signed (pos 0) (pos 31536000))
+
+-- `--clean-within SECONDS`, from 1 to a year
+abbrev pub clean_within_rule : Rule
+clean_within_rule = option_rule (codes "clean-within") (parsers.Signed (pos 1) (pos 31536000))
+
+-- `--keep-deletes SECONDS`, ten years at the most
+abbrev pub keep_deletes_rule : Rule
+keep_deletes_rule = option_rule (codes "keep-deletes") (parsers.Signed (pos 0) (pos 315360000))
+
 -- `DIR`, any text but the empty one
 abbrev pub directory_rule : Rule
 directory_rule = record (new_rule (codes "directory")) { value_names = 1; required = true; parser = Some parsers.NonEmptyString }
@@ -114,9 +130,10 @@ serve_app roles = with_rule (with_rule (with_rule (with_rule (with_rule (new_app
     port_rule) (role_rule roles)) first_producer_rule) connections_rule) topics_rule
 
 abbrev pub start_app : Roles → App
-start_app roles = with_rule (with_rule (with_rule (with_rule (with_rule (with_rule (with_rule (with_rule (with_rule (with_rule (with_rule (with_rule (with_rule
+start_app roles = with_rule (with_rule (with_rule (with_rule (with_rule (with_rule (with_rule (with_rule (with_rule (with_rule (with_rule (with_rule (with_rule (with_rule (with_rule (with_rule (with_rule
     (new_app (codes "start")) listen_rule) advertise_rule) (role_rule roles)) first_producer_rule) most_connections_rule) most_per_address_rule)
-    most_held_rule) idle_rule) data_rule) sync_rule) snapshot_after_rule) fold_rule) topics_rule
+    most_held_rule) idle_rule) data_rule) sync_rule) snapshot_after_rule) fold_rule) clean_at_rule) clean_lag_rule)
+    clean_within_rule) keep_deletes_rule) topics_rule
 
 abbrev pub check_app : App
 check_app = with_rule (new_app (codes "check")) directory_rule

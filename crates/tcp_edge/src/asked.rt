@@ -8,6 +8,7 @@ ghost use Rattle.tcp_edge.specs.Asked.{IfNamed, IsAsked, IsCheckSaid, IsConfigFa
 ghost use Rattle.tcp_edge.specs.CommandLine.{Finds, IsConfigAt, IsFirstProducer, IsGivenNumber, IsNumberOf, IsPort, Names, Stops, role_of, topic_words};
 
 use crate::addresses::{AddressFault, advertised_of, listen_of};
+use crate::cleaning::{CleaningFault, cleaning_of};
 use crate::commands::command;
 use crate::keeping::{KeptFault, kept_of};
 use crate::topics::topics_of;
@@ -56,6 +57,8 @@ pub(crate) enum ArgumentsFault {
     Address(AddressFault),
     /// What it says of when to sync, or that it says so without a directory.
     Kept(KeptFault),
+    /// What it says of cleanings.
+    Cleaning(CleaningFault),
     /// The first argument in the place of a topic that is none.
     Topic(ConfigError),
 }
@@ -135,9 +138,8 @@ impl ArgumentsFault {
     {
         match self {
             ArgumentsFault::Clap(error) => matches!(error.kind(), ErrorKind::OutOfMemory),
-            ArgumentsFault::Address(_) | ArgumentsFault::Kept(_) | ArgumentsFault::Topic(_) => {
-                false
-            }
+            ArgumentsFault::Address(_) | ArgumentsFault::Kept(_) => false,
+            ArgumentsFault::Cleaning(_) | ArgumentsFault::Topic(_) => false,
         }
     }
 }
@@ -205,7 +207,7 @@ fn count_of(matches: &ArgMatches<'_>, name: &str) -> u32
 }
 
 /// A count, if there is one in the matches.
-fn given_count_of(matches: &ArgMatches<'_>, name: &str) -> Option<u32>
+pub(crate) fn given_count_of(matches: &ArgMatches<'_>, name: &str) -> Option<u32>
     ensures { IsGivenNumber 32 (one_of name.now (rows_of (found_of matches.now))) result }
 {
     matches.get_one::<u32>(name)
@@ -236,8 +238,8 @@ fn serve_options_of(alloc: Global, matches: &ArgMatches<'_>) -> Result<ServeOpti
 ///
 /// # Errors
 ///
-/// The first fault, of the address to listen at, that to advertise, what is kept, and the topics, in
-/// this order; out of memory.
+/// The first fault, of the address to listen at, that to advertise, what is kept, cleanings, and the topics,
+/// in this order; out of memory.
 fn start_options_of(alloc: Global, matches: &ArgMatches<'_>) -> Result<StartOptions, ArgumentsFault>
     ensures options { IfOk result (IsStarter (rows_of (found_of matches.now))) }
     ensures fault { IfErr result (IsStartFault (rows_of (found_of matches.now))) }
@@ -250,6 +252,7 @@ fn start_options_of(alloc: Global, matches: &ArgMatches<'_>) -> Result<StartOpti
     let listen = listen_of(matches)?;
     let advertised = advertised_of(alloc, matches, listen)?;
     let kept = kept_of(alloc, matches)?;
+    let cleaning = cleaning_of(matches)?;
     let config = config_of(alloc, matches, &advertised.host, advertised.port)?;
     Ok(StartOptions {
         config,
@@ -259,6 +262,7 @@ fn start_options_of(alloc: Global, matches: &ArgMatches<'_>) -> Result<StartOpti
         most_held,
         idle,
         snapshot_after,
+        cleaning,
         kept,
     })
 }

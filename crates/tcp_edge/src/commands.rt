@@ -2,7 +2,7 @@
 
 ghost use Rattle.std.specs.Prelude.{◌≡◌, [], IfOk, codes, false};
 ghost use Rattle.clap.specs.Words.{App, app_of, new_app, rule_of, with_subcommand};
-ghost use Rattle.tcp_edge.specs.CommandLine.{IsRoles, IsSubcommand, Roles, kbroker, session_app, serve_app, role_rule, first_producer_rule, top, topics_rule, port_rule, connections_rule, start_app, listen_rule, advertise_rule, most_connections_rule, most_per_address_rule, most_held_rule, idle_rule, data_rule, sync_rule, snapshot_after_rule, fold_rule, check_app, directory_rule};
+ghost use Rattle.tcp_edge.specs.CommandLine.{IsRoles, IsSubcommand, Roles, kbroker, session_app, serve_app, role_rule, first_producer_rule, top, topics_rule, port_rule, connections_rule, start_app, listen_rule, advertise_rule, most_connections_rule, most_per_address_rule, most_held_rule, idle_rule, data_rule, sync_rule, snapshot_after_rule, fold_rule, clean_at_rule, clean_lag_rule, clean_within_rule, keep_deletes_rule, check_app, directory_rule};
 
 use clap::builder::ValueParser;
 use clap::{Arg, ArgAction, Command, value_parser};
@@ -108,6 +108,22 @@ const HELP_SNAPSHOT_AFTER: &str =
 and at least as many as that snapshot";
 
 const HELP_FOLD: &str = "Takes a snapshot as a checkpoint of all data, and exits";
+
+const HELP_CLEAN_AT: &str =
+    "Compacts a partition by itself once this percentage of it, 1 to 99, was written since its last \
+compaction (Kafka's min.cleanable.dirty.ratio), or never (the default)";
+
+const HELP_CLEAN_LAG: &str =
+    "The number of seconds, 0 to 31536000, for which records that were written aren't compacted \
+(Kafka's min.compaction.lag.ms); 10 by default";
+
+const HELP_CLEAN_WITHIN: &str =
+    "The number of seconds, 1 to 31536000, after which a partition is compacted at the latest, however \
+little was written (Kafka's max.compaction.lag.ms); 86400 by default";
+
+const HELP_KEEP_DELETES: &str =
+    "The number of seconds, 0 to 315360000, for which a deletion can still be read after what it deletes \
+was compacted away (Kafka's delete.retention.ms); 86400 by default";
 
 const HELP_DIRECTORY: &str =
     "The data directory of a broker, also of one that runs, or a copy of it";
@@ -306,6 +322,53 @@ fn fold_arg<'a>(alloc: Global) -> Arg<'a>
         .action(ArgAction::SetTrue)
 }
 
+/// When a partition is cleaned.
+fn clean_at_arg<'a>(alloc: Global) -> Arg<'a>
+    ensures rule { rule_of result ≡ clean_at_rule }
+    ensures local { result.global ≡ false }
+{
+    Arg::new(alloc, "clean-at")
+        .long("clean-at")
+        .value_name("PERCENT")
+        .help(HELP_CLEAN_AT)
+}
+
+/// The seconds for which records stay whole.
+fn clean_lag_arg<'a>(alloc: Global) -> Arg<'a>
+    ensures rule { rule_of result ≡ clean_lag_rule }
+    ensures local { result.global ≡ false }
+{
+    Arg::new(alloc, "clean-lag")
+        .long("clean-lag")
+        .value_name("SECONDS")
+        .help(HELP_CLEAN_LAG)
+        .value_parser(value_parser!(u32).range(0..=31_536_000))
+}
+
+/// The seconds after which a partition is cleaned at the latest.
+fn clean_within_arg<'a>(alloc: Global) -> Arg<'a>
+    ensures rule { rule_of result ≡ clean_within_rule }
+    ensures local { result.global ≡ false }
+{
+    Arg::new(alloc, "clean-within")
+        .long("clean-within")
+        .value_name("SECONDS")
+        .help(HELP_CLEAN_WITHIN)
+        .value_parser(value_parser!(u32).range(1..=31_536_000))
+}
+
+/// The seconds for which a deletion stays.
+fn keep_deletes_arg<'a>(alloc: Global) -> Arg<'a>
+    ensures rule { rule_of result ≡ keep_deletes_rule }
+    ensures local { result.global ≡ false }
+{
+    Arg::new(alloc, "keep-deletes")
+        .long("keep-deletes")
+        .value_name("SECONDS")
+        .help(HELP_KEEP_DELETES)
+        .value_parser(value_parser!(u32).range(0..=315_360_000))
+}
+
 /// The directory that is looked at.
 fn directory_arg<'a>(alloc: Global) -> Arg<'a>
     ensures rule { rule_of result ≡ directory_rule }
@@ -363,6 +426,10 @@ fn start<'a>(alloc: Global, roles: &'a [&'a str]) -> Result<Command<'a>, AllocEr
         .arg(sync_arg(alloc))?
         .arg(snapshot_after_arg(alloc))?
         .arg(fold_arg(alloc))?
+        .arg(clean_at_arg(alloc))?
+        .arg(clean_lag_arg(alloc))?
+        .arg(clean_within_arg(alloc))?
+        .arg(keep_deletes_arg(alloc))?
         .arg(topics_arg(alloc))
 }
 

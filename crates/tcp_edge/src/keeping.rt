@@ -84,7 +84,7 @@ fn way_of(said: Option<&str>) -> Option<SyncWay>
 
 /// The value of an option, if it is given.
 #[tactic(auto, using(crate::proofs::Arguments::first_row))]
-fn given<'a>(matches: &ArgMatches<'a>, name: &str) -> Option<&'a str>
+pub(crate) fn given<'a>(matches: &ArgMatches<'a>, name: &str) -> Option<&'a str>
     ensures { option_map (λ word. word.now) result
         ≡ first_of name.now (rows_of (found_of matches.now)) }
 {

@@ -5,6 +5,7 @@
 mod addresses;
 mod asked;
 mod calls;
+mod cleaning;
 mod command_line;
 mod commands;
 pub mod examples;
@@ -15,6 +16,7 @@ mod topics;
 pub use calls::{
     checked_directory, run_check, run_line, run_serve, run_start, serve_port, start_options,
 };
+pub use cleaning_policy::Settings;
 pub use command_line::CommandLine;
 pub use listeners::{
     Answer, Config, ConfigError, Connection, DONE, Ended, FAILED, FAULTY, GROUP_TOPIC, ImagesError,

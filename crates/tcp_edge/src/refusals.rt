@@ -6,6 +6,7 @@ ghost use Rattle.tcp_edge.specs.Asked.{IsBadValue, IsHelp, IsMistake, IsOutOfMem
 
 use crate::addresses::AddressFault;
 use crate::asked::ArgumentsFault;
+use crate::cleaning::CleaningFault;
 use crate::keeping::KeptFault;
 use clap::Error;
 use clap::error::ErrorKind;
@@ -77,6 +78,14 @@ fn refuse_kept<E: Write>(why: KeptFault, err: &mut E) -> u8
     FAULTY
 }
 
+/// Says on one line of `err` what is wrong with what is said of cleanings, and answers the status.
+fn refuse_cleaning<E: Write>(why: CleaningFault, err: &mut E) -> u8
+    ensures { result ≡ 2 }
+{
+    let _ = writeln!(err, "error: {why}");
+    FAULTY
+}
+
 /// Says why a command line asks for nothing, and answers the status.
 pub(crate) fn refuse_line<W: Write, E: Write>(
     alloc: Global,
@@ -98,6 +107,7 @@ pub(crate) fn refuse_line<W: Write, E: Write>(
         ArgumentsFault::Clap(error) => explain(alloc, error, sink, err),
         ArgumentsFault::Address(fault) => refuse_address(*fault, err),
         ArgumentsFault::Kept(fault) => refuse_kept(*fault, err),
+        ArgumentsFault::Cleaning(fault) => refuse_cleaning(*fault, err),
         ArgumentsFault::Topic(fault) => refuse_configuration(*fault, err),
     }
 }

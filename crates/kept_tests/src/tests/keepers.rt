@@ -18,7 +18,7 @@ use std::io;
 
 /// A disk in memory that is lent. One append is half done and fails; then one further call fails, perhaps.
 #[derive(Drop)]
-struct Cramped<'a, A: Allocator + Copy> {
+pub(crate) struct Cramped<'a, A: Allocator + Copy> {
     disk: &'a mut MemoryDisk<A>,
     /// How many appends are done before the one that fails; none does where there is no number.
     appends: Option<u64>,
@@ -39,6 +39,16 @@ fn is_it(left: &mut Option<u64>) -> bool {
 }
 
 impl<'a, A: Allocator + Copy> Cramped<'a, A> {
+    /// A disk of which no call fails.
+    pub(crate) fn roomy(disk: &'a mut MemoryDisk<A>) -> Cramped<'a, A> {
+        Cramped {
+            disk,
+            appends: None,
+            calls: None,
+            is_torn: false,
+        }
+    }
+
     /// Counts a call behind the append that failed.
     fn count(&mut self) -> io::Result<()> {
         if self.is_torn && is_it(&mut self.calls) {
@@ -303,12 +313,7 @@ fn told_of<S: BatchStore + Drop, A: Allocator + Copy>(
     alloc: A,
     disk: &mut MemoryDisk<A>,
 ) -> Option<Told> {
-    let cramped = Cramped {
-        disk,
-        appends: None,
-        calls: None,
-        is_torn: false,
-    };
+    let cramped = Cramped::roomy(disk);
     let mut told = Told {
         times: 0,
         at: 0,

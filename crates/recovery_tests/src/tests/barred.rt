@@ -6,8 +6,8 @@ use kept_starts::sessions::{Seat, Then, Visit};
 use kept_starts::{Disk, Keeper, Place, Role, Unwatched, start};
 use memory_directories::{MemoryDirectory, Store};
 use sample_brokers::exchanges::{
-    CLEAN, COMMIT, DELIVER, Exchange, FORGET, MERGE, PATCH, POSITION, PRODUCER_ID, SILENT, STORE,
-    TAKE, TRIM,
+    CLEAN, CLEAN_PART, COMMIT, DELIVER, Exchange, FORGET, MERGE, PATCH, POSITION, PRODUCER_ID,
+    SILENT, STORE, TAKE, TRIM,
 };
 use sample_brokers::small::configured;
 use segment::{BatchStore, VecStore};
@@ -18,11 +18,12 @@ use std::cell::RefCell;
 const PLACES: [(usize, usize); 5] = [(0, 0), (0, 1), (1, 0), (1, 1), (2, 0)];
 
 /// Requests, each with the place of the partition that it may change.
-static ROWS: [(Exchange, Option<(usize, usize)>); 12] = [
+static ROWS: [(Exchange, Option<(usize, usize)>); 13] = [
     (STORE, Some((0, 0))),
     (COMMIT, Some((2, 0))),
     (POSITION, None),
     (CLEAN, Some((0, 0))),
+    (CLEAN_PART, Some((0, 0))),
     (TRIM, Some((0, 0))),
     (FORGET, Some((2, 0))),
     (TAKE, Some((1, 0))),

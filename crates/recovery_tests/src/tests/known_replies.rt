@@ -169,6 +169,7 @@ impl<A: Allocator + Copy> Known<A> {
             bytes: &self.asked,
             count: (IMAGES.len() + OTHERS.len()) as u64,
             changes: ASKED_CHANGES,
+            noted: PRODUCER_ID.request.len(),
             replies,
         })
     }

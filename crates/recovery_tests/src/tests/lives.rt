@@ -39,6 +39,8 @@ pub(crate) enum End {
     Failed,
     /// Memory lacked.
     NoMemory,
+    /// Memory lacked for one of a round's frames, so that nothing of it was done, and it was noted nowhere.
+    TakenBack,
     /// Another reply left than the one that was wanted.
     OtherReply,
     /// This is wrong.
@@ -201,13 +203,14 @@ fn sent<S: BatchStore, A: Allocator + Copy, D: Disk, B: Allocator + Copy>(
     }
 }
 
-/// Frames that a client sends in a round: their bytes, how many they are, how many of them may change the broker, and
-/// the replies.
+/// Frames that a client sends in a round: their bytes, how many they are, how many of them may change the broker, how many
+/// bytes these have, and the replies.
 #[derive(Clone, Copy)]
 pub(crate) struct Frames<'a> {
     pub(crate) bytes: &'a [u8],
     pub(crate) count: u64,
     pub(crate) changes: u64,
+    pub(crate) noted: usize,
     pub(crate) replies: &'a [u8],
 }
 
@@ -243,7 +246,8 @@ fn keep_and_send<'a, S: BatchStore + Drop, B: Allocator + Copy>(
     sent(&mut started.keeper, number, out, frames.replies)
 }
 
-/// A round of a session: what ends the life with it, if it isn't clean.
+/// A round of a session: what ends the life with it, if it isn't clean. Where a frame was taken back, nothing is kept: the
+/// others may have been handled.
 pub(crate) fn play<'a, S: BatchStore + Drop, B: Allocator + Copy>(
     started: &mut Started<S, MemoryDirectory<'a, B>>,
     directory: &mut MemoryDirectory<'a, B>,
@@ -256,6 +260,9 @@ pub(crate) fn play<'a, S: BatchStore + Drop, B: Allocator + Copy>(
         Ok(answered) => answered,
         Err(end) => return end,
     };
+    if answered == frames.count && started.keeper.noted() < frames.noted {
+        return End::TakenBack;
+    }
     life.handled = life.handled.saturating_add(frames.changes);
     if answered == frames.count {
         return keep_and_send(started, directory, (number, keeping), frames, out, life);
@@ -276,6 +283,20 @@ pub(crate) fn changes_of(round: &Round) -> u64 {
     count
 }
 
+/// How many bytes they have.
+fn noted_of(round: &Round) -> usize {
+    let mut bytes = 0_usize;
+    for exchange in round.exchanges {
+        let more = if exchange.changes {
+            exchange.request.len()
+        } else {
+            0
+        };
+        bytes = bytes.saturating_add(more);
+    }
+    bytes
+}
+
 /// The bytes of a round's requests, and of its replies.
 fn bytes_of<B: Allocator + Copy>(
     alloc: B,
@@ -288,6 +309,45 @@ fn bytes_of<B: Allocator + Copy>(
         replies.extend_from_slice(exchange.response)?;
     }
     Ok((requests, replies))
+}
+
+/// Goes on behind a frame that was taken back, of which nothing was done: nothing is to be kept, and the answer leaves.
+fn passed_over<'a, S: BatchStore + Drop, B: Allocator + Copy>(
+    started: &mut Started<S, MemoryDirectory<'a, B>>,
+    directory: &mut MemoryDirectory<'a, B>,
+    (number, keeping): (u64, Keeping),
+    exchange: &Exchange,
+    out: &mut Vec<u8, B>,
+) -> End {
+    if !started.keeper.is_clear() {
+        return End::Wrong("noted");
+    }
+    let end = kept(started, directory, (number, keeping), out);
+    let failed = exchange.failed.unwrap_or(b"none");
+    if end == End::Clean {
+        sent(&mut started.keeper, number, out, failed)
+    } else {
+        end
+    }
+}
+
+/// A round again of which a frame was taken back, if it has no other. Else the life ends: what the others lead to isn't known.
+fn again<'a, S: BatchStore + Drop, B: Allocator + Copy>(
+    started: &mut Started<S, MemoryDirectory<'a, B>>,
+    directory: &mut MemoryDirectory<'a, B>,
+    (number, row): (u64, &Round),
+    frames: Frames<'_>,
+    out: &mut Vec<u8, B>,
+    life: &mut Life,
+) -> End {
+    let how = (number, row.keeping);
+    match row.exchanges {
+        [alone] => match passed_over(started, directory, how, alone, out) {
+            End::Clean => play(started, directory, how, frames, out, life),
+            end => end,
+        },
+        _ => End::NoMemory,
+    }
 }
 
 /// One round of a table.
@@ -306,9 +366,13 @@ fn table_round<'a, S: BatchStore + Drop, B: Allocator + Copy>(
         bytes: &requests,
         count: row.exchanges.len() as u64,
         changes: changes_of(row),
+        noted: noted_of(row),
         replies: &replies,
     };
-    play(started, directory, (number, row.keeping), frames, out, life)
+    match play(started, directory, (number, row.keeping), frames, out, life) {
+        End::TakenBack => again(started, directory, (number, row), frames, out, life),
+        end => end,
+    }
 }
 
 // ---- snapshots

@@ -1,6 +1,7 @@
 //! A broker over a directory in memory, for which each allocation fails in turn: during its first start and rounds, and
 //! during a later one. A start that lacks memory leaves a directory that has files as it was, or with all that it read on the
-//! disk for certain; a round that lacks it isn't kept, or goes on; and the next start has the state behind what was kept.
+//! disk for certain; a round that lacks it isn't kept, or goes on; a frame of which for want of it nothing was done is done
+//! where it comes again; and the next start has the state behind what was kept.
 
 use crate::tests::known_replies::known_of;
 use crate::tests::later_lives::{Bounds, life_of};
@@ -28,6 +29,46 @@ static CHANGING: [Round; 3] = [
     },
     Round {
         exchanges: &[TAKE, PRODUCER_ID, NEXT_PRODUCER_ID],
+        keeping: Keeping::Commit,
+    },
+];
+
+/// The same frames, each in a round of its own.
+static ALONE: [Round; 9] = [
+    Round {
+        exchanges: &[STORE],
+        keeping: Keeping::Commit,
+    },
+    Round {
+        exchanges: &[COMMIT],
+        keeping: Keeping::Commit,
+    },
+    Round {
+        exchanges: &[CLEAN],
+        keeping: Keeping::Commit,
+    },
+    Round {
+        exchanges: &[TRIM],
+        keeping: Keeping::Sync,
+    },
+    Round {
+        exchanges: &[SILENT],
+        keeping: Keeping::Append,
+    },
+    Round {
+        exchanges: &[FORGET],
+        keeping: Keeping::Sync,
+    },
+    Round {
+        exchanges: &[TAKE],
+        keeping: Keeping::Commit,
+    },
+    Round {
+        exchanges: &[PRODUCER_ID],
+        keeping: Keeping::Append,
+    },
+    Round {
+        exchanges: &[NEXT_PRODUCER_ID],
         keeping: Keeping::Commit,
     },
 ];
@@ -224,6 +265,15 @@ fn each_allocation_fails(rt: HostRuntime) {
     let told = told(rt.alloc(), (&CHANGING, 0), false);
     let is_right = matches!(told, Ok(came) if came.is_each());
     assert!(rt; is_right, "{told:?}");
+}
+
+#[test]
+fn each_allocation_fails_where_each_frame_comes_alone(rt: HostRuntime) {
+    for steps in [0, STEPS] {
+        let told = told(rt.alloc(), (&ALONE, steps), false);
+        let is_right = matches!(told, Ok(came) if came.is_each() && came.done > 10);
+        assert!(rt; is_right, "{told:?}");
+    }
 }
 
 #[test]

@@ -11,9 +11,17 @@ pub returns : goal.returns
 returns c =
     let is_new : app_of c.after_help.result ≡ new_app (codes "start") =
     ap app_of_fields c.after_help.ensures ∙ ap app_of_fields c.about.ensures ∙ c.new.ensures.app in
-    IfOk-weaker c.arg-13.result _ _ (λ command h old new adds. adds.shape (rw (
+    IfOk-weaker c.arg-17.result _ _ (λ command h old new adds. adds.shape (rw (
       h.globals,
       c.topics_arg.ensures.local,
+      c.in_ok-arg-16.ensures.globals,
+      c.keep_deletes_arg.ensures.local,
+      c.in_ok-arg-15.ensures.globals,
+      c.clean_within_arg.ensures.local,
+      c.in_ok-arg-14.ensures.globals,
+      c.clean_lag_arg.ensures.local,
+      c.in_ok-arg-13.ensures.globals,
+      c.clean_at_arg.ensures.local,
       c.in_ok-arg-12.ensures.globals,
       c.fold_arg.ensures.local,
       c.in_ok-arg-11.ensures.globals,
@@ -43,6 +51,10 @@ returns c =
       c.new.ensures.local,
     ) refl) ∙ ap (with_subcommand (app_of old)) (ap top_of (
     h.shape c.topics_arg.ensures.local
+    ∙ ap₂ with_rule (c.in_ok-arg-16.ensures.shape c.keep_deletes_arg.ensures.local
+    ∙ ap₂ with_rule (c.in_ok-arg-15.ensures.shape c.clean_within_arg.ensures.local
+    ∙ ap₂ with_rule (c.in_ok-arg-14.ensures.shape c.clean_lag_arg.ensures.local
+    ∙ ap₂ with_rule (c.in_ok-arg-13.ensures.shape c.clean_at_arg.ensures.local
     ∙ ap₂ with_rule (c.in_ok-arg-12.ensures.shape c.fold_arg.ensures.local
     ∙ ap₂ with_rule (c.in_ok-arg-11.ensures.shape c.snapshot_after_arg.ensures.local
     ∙ ap₂ with_rule (c.in_ok-arg-10.ensures.shape c.sync_arg.ensures.local
@@ -55,5 +67,5 @@ returns c =
     ∙ ap₂ with_rule (c.in_ok-arg-3.ensures.shape c.role_arg.ensures.local
     ∙ ap₂ with_rule (c.in_ok-arg-2.ensures.shape c.advertise_arg.ensures.local
     ∙ ap₂ with_rule (c.in_ok-arg.ensures.shape c.listen_arg.ensures.local
-    ∙ ap₂ with_rule is_new c.listen_arg.ensures.rule) c.advertise_arg.ensures.rule) c.role_arg.ensures.rule) c.first_producer_arg.ensures.rule) c.most_connections_arg.ensures.rule) c.most_per_address_arg.ensures.rule) c.most_held_arg.ensures.rule) c.idle_arg.ensures.rule) c.data_arg.ensures.rule) c.sync_arg.ensures.rule) c.snapshot_after_arg.ensures.rule) c.fold_arg.ensures.rule) c.topics_arg.ensures.rule
-    ))) c.arg-13.ensures
+    ∙ ap₂ with_rule is_new c.listen_arg.ensures.rule) c.advertise_arg.ensures.rule) c.role_arg.ensures.rule) c.first_producer_arg.ensures.rule) c.most_connections_arg.ensures.rule) c.most_per_address_arg.ensures.rule) c.most_held_arg.ensures.rule) c.idle_arg.ensures.rule) c.data_arg.ensures.rule) c.sync_arg.ensures.rule) c.snapshot_after_arg.ensures.rule) c.fold_arg.ensures.rule) c.clean_at_arg.ensures.rule) c.clean_lag_arg.ensures.rule) c.clean_within_arg.ensures.rule) c.keep_deletes_arg.ensures.rule) c.topics_arg.ensures.rule
+    ))) c.arg-17.ensures

@@ -1,0 +1,2 @@
+mod AskedFrames
+mod ReadReplies

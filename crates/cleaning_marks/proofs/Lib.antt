@@ -1,0 +1,5 @@
+pub mod Again
+pub mod Judging
+pub mod Meaning
+pub mod Parts
+pub mod Seen
