@@ -1,0 +1,9 @@
+pub mod MemberTable
+pub mod WholeMembers
+pub mod OneMember
+pub mod ReplyParts
+pub mod ReadersApart
+pub mod ToldFrames
+pub mod ReadBack
+pub mod ReadTexts
+pub mod Rows

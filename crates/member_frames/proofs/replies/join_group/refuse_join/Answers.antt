@@ -1,0 +1,19 @@
+use Rattle.std.proofs.Common.{[], ap, ◌∙◌}
+use Rattle.std.specs.Int.{w16, w32}
+use Rattle.std.proofs.lemmas.Int.{to_z-of_z}
+use Rattle.answering.proofs.Begun.{on_ok}
+use Rattle.member_frames.specs.MemberApis.{is_throttled}
+use Rattle.member_frames.specs.MemberReplies.{throttle_bytes, join_group_response, join_group_value, refused_join}
+use Rattle.member_frames.proofs.ReplyParts.{replied, refusal_is}
+use Rattle.member_frames.proofs.replies.join_group.refuse_join.Goals as goal
+
+pub returns-clause-replies : goal.returns-clause-replies
+returns-clause-replies g c =
+    let n = c.args.correlation in
+    let code = c.args.code in
+    on_ok c.respond_once.result
+    (replied (is_throttled c.args.api) join_group_response (join_group_value (refused_join code)) n _ c.throttle_time-before.result.now c.refused_join_bytes.result [] c.args.out.now.items c.respond_once.new.out.items
+    (to_z-of_z w32 n c.ranges.correlation)
+    (c.throttle_time-before.ensures.is_time ∙ ap throttle_bytes c.is_throttled.ensures)
+    (refusal_is code _ c.refused_join_bytes.result (to_z-of_z w16 code c.ranges.code) c.refused_join_bytes.ensures))
+    c.respond_once.ensures.responds

@@ -1,0 +1,12 @@
+pub mod MemberApis
+pub mod JoinGroup
+pub mod SyncGroup
+pub mod Heartbeat
+pub mod LeaveGroup
+pub mod MemberRequests
+pub mod MemberBodies
+pub mod MemberViews
+pub mod MemberReplies
+pub mod ReplyViews
+pub mod ShortTexts
+pub mod ToldRequests
