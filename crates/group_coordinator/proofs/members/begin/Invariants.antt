@@ -1,0 +1,7 @@
+use Rattle.std.proofs.Common.{◌≡◌, ◌++◌, map, take, drop}
+use Rattle.group_coordinator.specs.Groups.{begun_member}
+use Rattle.group_coordinator.proofs.members.begin.Given as goal
+
+-- those before the place are changed
+abbrev pub invariant-loop-member : goal.invariant-loop-member
+invariant-loop-member g l = l.members ≡ map (begun_member l.now) (take l.member-index l.fn.members) ++ drop l.member-index l.fn.members

@@ -1,0 +1,9 @@
+use Rattle.std.proofs.Common.{◌≡◌, ◌++◌, map, take, drop}
+use Rattle.std.specs.Prelude.{if◌then◌else◌}
+use Rattle.group_coordinator.specs.Members.{has_id}
+use Rattle.group_coordinator.specs.Joining.{called}
+use Rattle.group_coordinator.proofs.members.call.Given as goal
+
+-- those before the place are changed
+abbrev pub invariant-loop-member : goal.invariant-loop-member
+invariant-loop-member g l = l.members ≡ map (λ m. if has_id l.id m then called l.now m else m) (take l.member-index l.fn.members) ++ drop l.member-index l.fn.members

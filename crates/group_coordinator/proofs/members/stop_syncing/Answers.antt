@@ -1,0 +1,9 @@
+use Rattle.std.proofs.Common.{rules}
+use Rattle.group_coordinator.specs.Groups.{unsynced}
+use Rattle.group_coordinator.proofs.Places.{changed_more}
+use Rattle.group_coordinator.proofs.members.stop_syncing.Goals as goal
+
+pub loop-member-preserved : goal.loop-member-preserved
+loop-member-preserved g c =
+    changed_more (unsynced c.args.now) c.args.members.now c.loop-member.members c.loop-member.member-index c.member-item.result c.stop_syncing.new.self
+    (search rules) c.loop-member.invariant c.member-item.is c.stop_syncing.ensures
