@@ -63,6 +63,7 @@ from cases.started import (
     ends_by_itself,
     free_port,
     holds,
+    is_notice,
     is_soon,
     reply,
     request,
@@ -312,10 +313,10 @@ def nothing_kept(program):
     """Without a directory it says once at the start that nothing is kept; with one it doesn't."""
     with Started(program) as broker, broker.client() as client:
         client.ask("produce t:0 batch a=1", "produced t:0 0 0")
-        holds(f"the first lines: {broker.notices}", is_soon(lambda: broker.notices == [NOTHING_KEPT]))
+        holds(f"the first lines: {broker.notices}", is_soon(lambda: broker.notices.count(NOTHING_KEPT) == 1))
     with new_folder() as folder, Kept(program, folder) as broker:
         same("the line", broker.said(), new(folder))
-        same("lines that nothing is kept", broker.notices, [])
+        same("lines that nothing is kept", broker.notices.count(NOTHING_KEPT), 0)
 
 
 FAULTY = [["--sync", "0"], ["--sync", "60001"], ["--sync", "sometimes"], ["--sync", "-1"], ["--sync", ""], ["--sync"]]
@@ -691,8 +692,8 @@ def let_in_behind_a_recovery(program):
                 # It stays open while this is read: its end would be a line, too.
                 with first:
                     os.set_blocking(process.stderr.fileno(), False)
-                    said = process.stderr.read() or b""
-                same("what is said when somebody is let in", said, f"{recovered(len(rounds[0]))}\n".encode())
+                    said = (process.stderr.read() or b"").decode("ascii", "replace").splitlines()
+                same("what is said when somebody is let in", [it for it in said if not is_notice(it)], [recovered(len(rounds[0]))])
                 with Client(("127.0.0.1", port)) as client:
                     client.ask("listoffsets t:0 -1", f"listed t:0 0 -1 {len(rounds[0])}")
             finally:

@@ -439,6 +439,11 @@ class Reader:
 class World:
     """What is known of one directory's broker, over all of its lives."""
 
+    kinds = [Producer] * 4 + [Idempotent] * 3 + [Consumer] * 2 + [Identified] + [Committer] * 2 + [Owner] * OWNERS  # of connections
+    broker, options, topics, lives = Kept, (), TOPICS, ([0.002, 0.02, LONGEST_LIFE], LONGEST_WAIT)
+    most_answers = MOST_ANSWERS
+    reading = (FETCH, OFFSETS)  # kinds of requests that leave nothing in the journal
+
     def __init__(self, program, folder, sync, seed, directory, after=None, may_be_full=False):
         self.may_be_full, self.ends = may_be_full, 0  # the ends for which there was no room
         self.program, self.folder, self.sync, self.seed, self.directory = program, folder, sync, f"{seed} {directory}", directory
@@ -446,14 +451,13 @@ class World:
         self.drawn, self.logs, self.ids = random.Random(self.seed), [Log(index) for index in range(PARTITIONS)], set()
         self.least = self.most = self.answered = 0  # frames in the journal; responses
         self.is_new, self.began, self.kills, self.behind = True, None, 0, 0
-        kinds = [Producer] * 4 + [Idempotent] * 3 + [Consumer] * 2 + [Identified] + [Committer] * 2
-        self.askers = [kind(number, self) for number, kind in enumerate(kinds + [Owner] * OWNERS)]
+        self.askers = [kind(number, self) for number, kind in enumerate(self.kinds)]
 
     def count_sent(self, kind):
-        self.most += kind not in (FETCH, OFFSETS)
+        self.most += kind not in self.reading
 
     def count_answered(self, kind):
-        self.least += kind not in (FETCH, OFFSETS)
+        self.least += kind not in self.reading
         self.answered += 1
 
     def new_id(self, values):
@@ -484,16 +488,20 @@ class World:
         self.check_line(started.said())
         self.behind = 0
         reader = Reader(started)
-        for log in self.logs:
-            log.check(*reader.all_of(log.index))
+        self.check_logs(reader)
         for it in self.askers:
             it.check(reader)
         reader.client.close()
 
+    def check_logs(self, reader):
+        """The shared partitions."""
+        for log in self.logs:
+            log.check(*reader.all_of(log.index))
+
     def kept(self, *arguments):
         """Its broker, which may take snapshots while it runs."""
         after = ["--snapshot-after", str(self.after)] if self.after else []
-        return Kept(self.program, self.folder, *after, *arguments, sync=self.sync, topics=TOPICS)
+        return self.broker(self.program, self.folder, *after, *self.options, *arguments, sync=self.sync, topics=self.topics)
 
     def is_full(self, status, lines):
         """Whether it ended since there was no room, which it may on a small disk."""
@@ -516,12 +524,12 @@ class World:
             self.is_new = False
             for it in self.askers:
                 it.begin(started)
-            by_clock = self.drawn.random() < 0.5
-            life = self.drawn.choice([0.002, 0.02, LONGEST_LIFE]) * self.drawn.random() if by_clock else LONGEST_WAIT
+            by_clock, (lives, longest) = self.drawn.random() < 0.5, self.lives
+            life = self.drawn.choice(lives) * self.drawn.random() if by_clock else longest
             killer = threading.Timer(life, started.process.kill)
             started.is_over = True
             killer.start()
-            self.drive(started, float("inf") if by_clock else self.answered + self.drawn.randrange(MOST_ANSWERS))
+            self.drive(started, float("inf") if by_clock else self.answered + self.drawn.randrange(self.most_answers))
             killer.cancel()
             killer.join()
             for it in self.askers:
@@ -569,6 +577,10 @@ class World:
             file.seek(0, os.SEEK_END)
             self.behind += file.write(self.drawn.choice([bytes(700), self.drawn.randbytes(100), old, b"\0"]))
 
+    def said(self):
+        """What else is to be told of all directories."""
+        return ""
+
     def run(self, lives):
         for _ in range(lives):
             if self.drawn.random() < 0.15:
@@ -590,7 +602,7 @@ def folder_of(seed, directory, there):
         yield folder
 
 
-def run(program, kills, seed, seconds, after=None, there=None):
+def run(program, kills, seed, seconds, after=None, there=None, world_of=World):
     """Kills it so often, or for so long, in directories with the ways of syncing by turns, and says what came of it. The directories stand
     in the folder `there`, if one is given, which may be a small disk."""
     late, done, answered, ids, rotations, full = time.monotonic() + seconds, 0, collections.Counter(), 0, 0, 0
@@ -598,7 +610,7 @@ def run(program, kills, seed, seconds, after=None, there=None):
         if done >= kills or time.monotonic() > late:
             break
         with folder_of(seed, directory, there) as folder:
-            world = World(program, folder, WAYS[directory % len(WAYS)], seed, directory, after, there is not None)
+            world = world_of(program, folder, WAYS[directory % len(WAYS)], seed, directory, after, there is not None)
             try:
                 world.run(min(KILLS_OF_ONE, kills - done))
             except Fault as why:
@@ -608,7 +620,8 @@ def run(program, kills, seed, seconds, after=None, there=None):
             full += world.ends
     of_each = ", ".join(f"{count} with {sync}" for sync, count in answered.items())
     without_room = f"; {full} ends without room" if there is not None else ""
-    return f"{done} kills of {directory} directories; answered: {of_each}; {ids} producer ids{without_room}; {rotations} snapshots"
+    ids_and_more = f"{ids} producer ids{world.said()}{without_room}"
+    return f"{done} kills of {directory} directories; answered: {of_each}; {ids_and_more}; {rotations} snapshots"
 
 
 @slow(RANDOM)

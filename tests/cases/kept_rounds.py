@@ -256,7 +256,8 @@ def slow_reader_is_not_idle(program):
     count, metadata = 8_192, "m" * 4_096
     entry = struct.pack(">iqh", 0, 5, len(metadata)) + metadata.encode() + bytes(2)
     told = frames.response(frames.topics([(b"t", entry)] * count))
-    with new_folder() as folder, Kept(program, folder, "--idle", "5") as broker, broker.client() as slow:
+    # (the system takes little for the client, so that the last byte leaves late on a busy machine too)
+    with new_folder() as folder, Kept(program, folder, "--idle", "5") as broker, broker.client(room=1 << 16) as slow:
         slow.ask(f"commit t:0 5 {metadata}", "committed t:0 0")
         slow.send(request(f"offsets each {count} t:0"))
         began, got = time.monotonic(), 0

@@ -78,8 +78,9 @@ def in_use(folder):
 
 OUT_OF_MEMORY = "kbroker: out of memory"
 
-# what may be said at any time, on a slow machine too: how far a start is, a snapshot that was taken or not, and a sync that took long
-MEANWHILE = re.compile(r"recovering .*|snapshot( \d+)?: .*|(journal|snapshot)\.\w+: a sync took .*|a sync took .*")
+# what may be said at any time, on a slow machine too: how far a start is, a snapshot that was taken or not, a sync that took long, and
+# a pass of a broker that cleans itself
+MEANWHILE = re.compile(r"recovering .*|snapshot( \d+)?: .*|(journal|snapshot)\.\w+: a sync took .*|a sync took .*|cleaned .*|clean .*")
 
 
 def plainly(lines):

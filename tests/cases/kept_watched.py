@@ -240,6 +240,7 @@ def lay_files(folder, files):
 # ---- small disks
 
 SMALL = 4_000_000  # bytes of the small disk that a case mounts
+BLOCK = 4096  # bytes of a block of the small device
 LARGEST = 64_000_000  # bytes that the one that is named may have
 
 
@@ -285,6 +286,14 @@ class Device:
 
     def __init__(self, root, there):
         self.disk, self.path, self.there = f"{root}{there}", f"{root}{there}/mounted", there
+        self.writes_block_by_block()
+
+    def writes_block_by_block(self):
+        """Has each block written by a write of its own. Of a write whose first blocks alone are written, since there is no room for the
+        others, some systems tell that it was done, and then a sync says so too."""
+        number = os.stat(self.path).st_dev
+        with open(f"/sys/dev/block/{os.major(number)}:{os.minor(number)}/queue/max_sectors_kb", "w", encoding="ascii") as most:
+            most.write(f"{BLOCK >> 10}")
 
     def sync(self):
         subprocess.run(["sync", "-f", self.path], check=True)
@@ -310,7 +319,7 @@ def small_device():
     """Such a device, of root's alone."""
     with tempfile.TemporaryDirectory() as there:
         words = f"mount -t tmpfs -o size={3 * SMALL} none {there} && cd {there} && mkdir mounted again && truncate -s {2 * SMALL} blocks"
-        words += " && mkfs.ext2 -q -b 4096 -F blocks && mount -o loop blocks mounted && cd /"
+        words += f" && mkfs.ext2 -q -b {BLOCK} -F blocks && mount -o loop blocks mounted && cd /"
         with mounting(words) as root:
             if root is None or shutil.which("nsenter") is None:
                 raise CannotBeTried("no device can be made of a file here")

@@ -27,10 +27,11 @@ QUIET, QUIET_COUNT = b"w", 64  # a topic to which nothing is produced, and its p
 SHARED = [(b"u", 0), (b"u", 1)]
 PRODUCE, FETCH, LISTOFFSETS, METADATA, COMMIT, OFFSETS = (0, 3), (1, 4), (2, 1), (3, 1), (8, 2), (9, 1)
 COORDINATOR, VERSIONS, PRODUCER_ID = (10, 0), (wire.API_VERSIONS, 0), (22, 0)
-CLEAN, EXPORT, EXPORT_DELTA, GET, COVER = (20001, 0), (20002, 0), (20002, 1), (20004, 0), (20005, 0)
+CLEAN, CLEAN_PART, EXPORT, EXPORT_DELTA, GET, COVER = (20001, 0), (20001, 1), (20002, 0), (20002, 1), (20004, 0), (20005, 0)
 FORGET, TRIM = (20006, 0), (20007, 0)
+BOUNDS = {CLEAN: 2, CLEAN_PART: 4, TRIM: 1}  # how many offsets such a request has
 # each as often as it is drawn
-OFTEN = {PRODUCE: 6, FETCH: 4, COMMIT: 3, OFFSETS: 2, CLEAN: 1, EXPORT: 1, EXPORT_DELTA: 1, GET: 2, COVER: 1, TRIM: 1}
+OFTEN = {PRODUCE: 6, FETCH: 4, COMMIT: 3, OFFSETS: 2, CLEAN: 1, CLEAN_PART: 2, EXPORT: 1, EXPORT_DELTA: 1, GET: 2, COVER: 1, TRIM: 1}
 OFTEN |= {FORGET: 1, LISTOFFSETS: 2, METADATA: 1, COORDINATOR: 1, VERSIONS: 1, PRODUCER_ID: 1}
 DRAWN = [kind for kind, often in OFTEN.items() for _ in range(often)]
 LIMITS = [0, 69, 150, 400, 1 << 20, -1]
@@ -122,8 +123,8 @@ class Draws:
             return []
         if kind == PRODUCER_ID:
             return [b"x", 60_000]  # which is refused, and gives out no id
-        if kind in (CLEAN, TRIM):
-            return [name, index, *(self.offset() for _ in range(2 if kind == CLEAN else 1))]
+        if kind in BOUNDS:
+            return [name, index, *(self.offset() for _ in range(BOUNDS[kind]))]
         if kind == EXPORT_DELTA:
             return [name, index, numbers.one_of([[], [[0, 1]], [[1, 0]]])]
         return [name, index] + [numbers.one_of(KEYS)] * (kind == GET)

@@ -3,7 +3,8 @@
 A case is a function of the program. It is bounded in time, and passes on a slow machine too: nothing has to be done at once, but
 for what must not be done before its time.
 """
-from cases import dear_frames, kept_cases, limits, listening, many_clients, random_clients, waiting
+from cases import cleaning_cases, cleaning_kept, cleaning_kills, dear_frames, kept_cases
+from cases import limits, listening, many_clients, random_clients, waiting
 
 CASES = [
     *listening.CASES,
@@ -12,5 +13,8 @@ CASES = [
     *limits.CASES,
     *waiting.CASES,
     *random_clients.CASES,
+    *cleaning_cases.CASES,
+    *cleaning_kept.CASES,
+    *cleaning_kills.CASES,
     *kept_cases.CASES,
 ]

@@ -15,6 +15,7 @@ import subprocess
 import threading
 import time
 
+from cases.cleaning_words import is_of_cleaning, told_of
 from encoders import copies
 from runner.places import ROOT
 
@@ -23,6 +24,11 @@ FILES = 200  # that a program whose open files are limited could have if it rais
 ENDED = re.compile(r"connection (\d+) (\S+): (.*)")
 MORE = re.compile(r"(\d+) more connections? ended")
 NOTHING_KEPT = "nothing is kept on disk: --data DIR keeps it"  # which is said at the start where no directory is given
+
+
+def is_notice(line):
+    """Whether it is a line that each start says of itself: that nothing is kept, or what it cleans."""
+    return line == NOTHING_KEPT or is_of_cleaning(line)
 
 
 class Fault(Exception):
@@ -204,7 +210,7 @@ class Started:
         self.files, self.closed = files, ways.pop("closed", ())
         self.ways = {"stdin": subprocess.DEVNULL, "stdout": subprocess.PIPE, "stderr": subprocess.PIPE, **ways}
         self.program, self.lines, self.reader, self.listening, self.is_over = program, [], None, None, False
-        self.notices = []  # lines that say that nothing is kept
+        self.notices, self.passes = [], []  # lines that say that nothing is kept, and what is cleaned; those of cleanings by itself
 
     def prepare(self):
         """Limits what will be the program, and lets signals end it: a shell may have them passed over in what it doesn't wait for."""
@@ -243,7 +249,7 @@ class Started:
     def read(self):
         for data in self.process.stderr:
             line = data.decode("ascii", "replace").rstrip("\n")
-            (self.notices if line == NOTHING_KEPT else self.lines).append(line)
+            (self.notices if is_notice(line) else self.passes if told_of(line) else self.lines).append(line)
 
     def __exit__(self, kind, *_):
         status = self.process.poll()
@@ -373,7 +379,7 @@ def free_port():
 
 
 def ends_by_itself(program, *arguments):
-    """The status, standard output and standard error, but for the line that nothing is kept, of a `kbroker start` that must end by
+    """The status, standard output and standard error, but for what each start says of itself, of a `kbroker start` that must end by
     itself."""
     started = subprocess.Popen(
         ["kbroker", "start", *arguments],
@@ -388,4 +394,5 @@ def ends_by_itself(program, *arguments):
         started.kill()
         started.communicate()
         raise Fault("it did not end") from None
-    return started.returncode, out.decode("ascii", "replace"), err.decode("ascii", "replace").replace(f"{NOTHING_KEPT}\n", "")
+    lines = err.decode("ascii", "replace").splitlines(keepends=True)
+    return started.returncode, out.decode("ascii", "replace"), "".join(it for it in lines if not is_notice(it.rstrip("\n")))

@@ -126,6 +126,10 @@ def clean(words, root):
     return of_copy(20001, words, lambda it: struct.pack(">qq", *(int(each) for each in it.split())))
 
 
+def clean_part(words, root):
+    return of_copy(20001, words, lambda it: struct.pack(">qqqq", *(int(each) for each in it.split())), 1)
+
+
 def export(words, root):
     return of_copy(20002, words, lambda _: b"")
 
@@ -161,6 +165,7 @@ def forget(words, root):
 REQUESTS = {
     "deliver": deliver,
     "clean": clean,
+    "clean-part": clean_part,
     "export": export,
     "import": import_,
     "export-delta": export_delta,

@@ -19,7 +19,7 @@ from models import broker, logs, wire
 
 PRODUCE, FETCH, LISTOFFSETS, COMMIT, OFFSETS = (0, 3), (1, 4), (2, 1), (8, 2), (9, 1)
 DELIVER, CLEAN, EXPORT, IMPORT, GET, COVER, FORGET, TRIM = [(key, 0) for key in range(20000, 20008)]
-EXPORT_DELTA, IMPORT_DELTA = (20002, 1), (20003, 1)
+CLEAN_PART, EXPORT_DELTA, IMPORT_DELTA = [(key, 1) for key in range(20001, 20004)]
 CHANGING = (PRODUCE, COMMIT, FORGET, TRIM)  # what changes a leader's partitions
 WAYS = ["with its Cleans", "without Cleans", "with other Cleans"]
 KEYS = [b"a", b"b", b"fig tree"]  # so few that most records are soon older than another one of their key
@@ -186,7 +186,7 @@ OFTEN = {
     False: {DELIVER: 16, OFFSETS: 4, LISTOFFSETS: 2, GET: 4, COVER: 3},
 }
 KINDS = {
-    leads: [key for key in DRAWS if key not in (CLEAN, IMPORT, IMPORT_DELTA) for _ in range(often.get(key, 1))]
+    leads: [key for key in DRAWS if key not in (CLEAN, CLEAN_PART, IMPORT, IMPORT_DELTA) for _ in range(often.get(key, 1))]
     for leads, often in OFTEN.items()
 }
 
@@ -198,9 +198,15 @@ def bound(numbers, end):
 
 
 def clean(numbers, ends):
+    """A Clean of a whole partition; of a part of it; or of parts, one behind the other."""
     where = place(numbers)
     end = ends.get(where, 0)
-    return framed(CLEAN, CORRELATION_OF_CLEANS, b"", [*where, bound(numbers, end), bound(numbers, end)])
+    bounds = [bound(numbers, end), bound(numbers, end)]
+    if numbers.below(2):
+        return framed(CLEAN, CORRELATION_OF_CLEANS, b"", [*where, *bounds])
+    places = sorted(bound(numbers, end) for _ in range(2 + numbers.below(4)))
+    parts = [[*where, first, last, *bounds] for first, last in zip(places, places[1:])]
+    return b"".join(framed(CLEAN_PART, CORRELATION_OF_CLEANS, b"", it) for it in parts)
 
 
 def cleaned(requests, numbers):

@@ -208,6 +208,13 @@ class Exchange:
         where = place(self.numbers)
         return [*where, self.offset(node, *where), self.offset(node, *where)]
 
+    def clean_part(self, node):
+        """Mostly the batches from one that is kept on, up to another one; else any."""
+        where = place(self.numbers)
+        kept = sorted(node.copy(*where).kept) if where in PLACES else []
+        first, end = (self.numbers.one_of([*kept, self.offset(node, *where)]) for _ in range(2))
+        return [*where, min(first, end), max(first, end), self.offset(node, *where), self.offset(node, *where)]
+
     def export(self, node):
         where = place(self.numbers)
         if where in PLACES:
@@ -302,6 +309,7 @@ DRAWS = {
     (22, 0): Exchange.producer_id,
     (20000, 0): Exchange.deliver,
     (20001, 0): Exchange.clean,
+    (20001, 1): Exchange.clean_part,
     (20002, 0): Exchange.export,
     (20002, 1): Exchange.export_delta,
     (20003, 0): Exchange.import_,
@@ -314,8 +322,8 @@ DRAWS = {
 
 # of a leader and of a follower, each request as often as it is drawn among the others
 OFTEN = {
-    True: {(0, 3): 5, (1, 4): 3, (8, 2): 4, (9, 1): 3, (20001, 0): 2, (20002, 0): 2},
-    False: {(20000, 0): 8, (20001, 0): 2, (20002, 0): 2, (20003, 0): 4, (20003, 1): 4, (9, 1): 3},
+    True: {(0, 3): 5, (1, 4): 3, (8, 2): 4, (9, 1): 3, (20001, 0): 2, (20001, 1): 2, (20002, 0): 2},
+    False: {(20000, 0): 8, (20001, 0): 2, (20001, 1): 2, (20002, 0): 2, (20003, 0): 4, (20003, 1): 4, (9, 1): 3},
 }
 KINDS = {leads: [key for key in DRAWS for _ in range(often.get(key, 1))] for leads, often in OFTEN.items()}
 

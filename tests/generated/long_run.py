@@ -159,6 +159,7 @@ CODES = {
     (22, 0): ([0, -1, 48], [6, 48]),
     (20000, 0): ([3, 42], [0, 1, 2, 3, 10, 42, 43, 48, 76, 87]),
     (20001, 0): ([0, 3], [0, 3]),
+    (20001, 1): ([0, 3], [0, 3]),
     (20002, 0): ([0, 3], [0, 3]),
     (20002, 1): ([0, 3, 42], [0, 3, 42]),
     (20003, 0): ([0, 2, 3, 42], [0, 2, 3, 42]),
@@ -225,7 +226,7 @@ class Exchange(exchanges.Exchange):
     metadata_texts = [None, b"", b"m", b"read \0"] * 4 + [bytes(broker.METADATA_LIMIT), bytes(broker.METADATA_LIMIT + 1)]
 
     def __init__(self):
-        super().__init__(1, FIRST_PRODUCER)
+        super().__init__(3, FIRST_PRODUCER)
         self.leader, self.follower = self.sides
         self.choices = Choices()
         self.drawn = collections.Counter()  # of each role, key and version how many requests

@@ -13,14 +13,15 @@ TABLE = "broker_node/src/changes.rt", "what_may_change"
 FUNCTIONS = {
     TABLE: "the table itself",
     ("broker_node/src/changes.rt", "is_dear"): "which requests may take long, also of those that only read",
+    ("broker_node/src/changes.rt", "only_grows"): "which only append or clean, so that it is told who waits on",
     ("broker_node/src/handling.rt", "reply_to"): "the dispatch: each kind goes to the function that answers it",
-    ("sessions/src/waiting.rt", "effect_of"): "which only append, so that it is told who waits on; of any other nothing is taken for known",
     ("request_frames/src/api.rt", "listed"): "the table of keys: those that a client is told of",
     ("request_frames/src/api.rt", "key"): "the table of keys",
     ("request_frames/src/api.rt", "version"): "the table of keys: the versions",
     ("request_frames/src/api.rt", "of_key"): "the table of keys, looked up",
     ("request_frames/src/api.rt", "in_other_version"): "the table of keys: those that have two versions",
     ("request_frames/src/parsing.rt", "body_at"): "the readers: each kind goes to the one that reads its fields",
+    ("member_frames/src/told.rt", "told_ranges"): "the requests that a client is told of where groups have members",
 }
 ENUMS = ["RequestBody", "Api"]  # those that have a constructor for each kind
 

@@ -31,6 +31,7 @@ EXCHANGES = {
     "SEEN": ["cover t:0", "reply covered 0 0-0"],
     "IMAGE": ["export t:0", "reply exported 0 image 0-0 batch a=1", "reply exported 56"],
     "CLEAN": ["clean t:0 1 0", "reply cleaned 0 0 0 0", "reply cleaned 56 0 0 0"],
+    "CLEAN_PART": ["clean-part t:0 0 1 1 0", "reply cleaned 0 0 0 0", "reply cleaned 56 0 0 0"],
     "TRIM": ["trim t:0 1", "reply trimmed 0"],
     "FORGET": ["forget g", "reply forgotten 0 1", "reply forgotten 56 0"],
     "TAKE": ["import u:0 image version:0 0-0 batch a=1", "reply imported 0", "reply imported 56"],

@@ -7,10 +7,11 @@ import os
 import sys
 import time
 
-from cases import kept_cases, start_cases, started
+from cases import cleaning_cases, cleaning_kept, cleaning_kills, kept_cases, start_cases, started
 from runner import documents, kinds, rows, runs, source_bytes
 
 CASES = "kbroker start: "  # what the name of each case begins with
+LONG = [*kept_cases.CASES, *cleaning_cases.CASES, *cleaning_kept.CASES, *cleaning_kills.CASES]  # cases that take minutes together
 
 
 class Trial:
@@ -51,13 +52,13 @@ def trial_of_row(row):
 
 
 def trial_of_case(name, case):
-    """Cases of what is kept take minutes: they are run with the first program alone."""
+    """Cases of what is kept, and of a broker that cleans itself, take minutes: they are run with the first program alone."""
 
     def faults_of(program):
         case(program)
         return []
 
-    return Trial(CASES + name, faults_of, getattr(case, "slow", None), (name, case) in kept_cases.CASES)
+    return Trial(CASES + name, faults_of, getattr(case, "slow", None), (name, case) in LONG)
 
 
 def all_trials():
