@@ -3,7 +3,11 @@
 A trial is a name and what says the faults of a program. It may have a reason for which tests/quick leaves it out, and it may
 be one that is run with the first program alone.
 """
+import concurrent.futures
+import contextlib
+import multiprocessing
 import os
+import signal
 import sys
 import time
 
@@ -11,6 +15,9 @@ from cases import cleaning_cases, cleaning_kept, cleaning_kills, kept_cases, sta
 from runner import documents, kinds, rows, runs, source_bytes
 
 CASES = "kbroker start: "  # what the name of each case begins with
+MOST_SECONDS = 900  # that a trial may take: the longest take some two minutes
+EACH_SECONDS = 300  # how often it is said how far the trials are
+TRIED = []  # the trials that are run side by side, each with its program; the processes that run them are forked with it
 LONG = [*kept_cases.CASES, *cleaning_cases.CASES, *cleaning_kept.CASES, *cleaning_kills.CASES]  # cases that take minutes together
 
 
@@ -30,7 +37,8 @@ class Outcome:
         began = time.monotonic()
         self.name, self.program, self.untried = trial.name, os.path.basename(program), None
         try:
-            self.faults = trial.faults_of(program)
+            with contextlib.nullcontext() if trial.crate else ended_in_time():
+                self.faults = trial.faults_of(program)
         except started.CannotBeTried as why:
             self.faults, self.untried = [], str(why)
         except Exception as why:  # (also of a response that can't be read)
@@ -45,8 +53,25 @@ class Outcome:
         return f"{said} {self.name} ({self.program}) {self.seconds:.1f} s"
 
 
+@contextlib.contextmanager
+def ended_in_time():
+    """Has what takes longer than a trial may end with a fault."""
+
+    def end(*_):
+        raise started.Fault(f"it was not over after {MOST_SECONDS} s")
+
+    signal.signal(signal.SIGALRM, end)
+    signal.alarm(MOST_SECONDS)
+    try:
+        yield
+    finally:
+        signal.alarm(0)
+
+
 def trial_of_row(row):
-    made = Trial(row.name, lambda program: runs.faults_of(program, row), row.slow or (started.LIMITED if row.memory is not None else None))
+    """Rows of the greatest counts take minutes: they are run with the first program alone."""
+    slow = row.slow or (started.LIMITED if row.memory is not None else None)
+    made = Trial(row.name, lambda program: runs.faults_of(program, row), slow, once=row.slow is not None)
     made.row = row
     return made
 
@@ -90,15 +115,45 @@ def named(trials, names):
     return [it for it in trials if not names or any(name in it.name for name in names)]
 
 
-def in_turn(tried):
-    """The outcomes of trials, each with a program."""
-    return (Outcome(trial, program) for trial, program in tried)
+def processors():
+    return len(os.sched_getaffinity(0))
+
+
+def pool(processes):
+    return concurrent.futures.ProcessPoolExecutor(processes, multiprocessing.get_context("fork"))
+
+
+def outcome_at(at):
+    return Outcome(*TRIED[at])
+
+
+def stands_company(trial):
+    """Whether it may be run beside others: a row, or a case that tests/quick runs so."""
+    return trial.row is not None or (trial.name.startswith(CASES) and not trial.slow)
+
+
+def outcomes_of(tried):
+    """The outcomes of trials, each with a program. As many as there are processors are run side by side, of those that stand it; then the
+    others, one after the other. Cases go by the clock, so one that fails beside others is run again by itself, and that counts."""
+    TRIED[:] = [it for it in tried if stands_company(it[0])]
+    rows.prepare([trial.row for trial, _ in TRIED if trial.row])
+    alone = [it for it in tried if not stands_company(it[0])]
+    with pool(processors()) as programs:
+        for (trial, program), outcome in zip(TRIED, programs.map(outcome_at, range(len(TRIED)))):
+            if outcome.faults and not trial.row:
+                print("to be run again, " + outcome.told(), flush=True)
+                alone.append((trial, program))
+            else:
+                yield outcome
+    for trial, program in alone:
+        yield Outcome(trial, program)
 
 
 def run_all(outcomes, tells_all):
-    """Prints what failed, or with `tells_all` what came of each; and returns how many passed, how many failed, and for each reason
-    how many were left out."""
+    """Prints what failed, or with `tells_all` what came of each, and every few minutes how far it is; and returns how many passed, how
+    many failed, and for each reason how many were left out."""
     passed, failed, untried = 0, 0, {}
+    began = said = time.monotonic()
     for it in outcomes:
         if it.faults or tells_all:
             print(it.told(), flush=True)
@@ -106,4 +161,7 @@ def run_all(outcomes, tells_all):
             untried[it.untried] = untried.get(it.untried, 0) + 1
         else:
             passed, failed = passed + (not it.faults), failed + bool(it.faults)
+        if time.monotonic() > said + EACH_SECONDS:
+            said = time.monotonic()
+            print(f"after {said - began:.0f} s: {passed} passed, {failed} failed; the last was {it.name}", flush=True)
     return passed, failed, untried
