@@ -15,7 +15,7 @@ use Rattle.content.specs.Records.{LogRecord, log_records, IsKeepable}
 use Rattle.content_laws.proofs.Tables.{has_key, key_is}
 use Rattle.segment.specs.BatchLists.{first_from}
 use Rattle.cleaner.specs.Latest.{Borrowed, borrowed_eq, Offsets, latest_offset, Means}
-use Rattle.cleaner.specs.Choice.{records_of, latest_in, has_key_of, HasOffsets}
+use Rattle.cleaner.specs.Choice.{records_of, Test, latest_in, has_key_of, HasOffsets}
 use Rattle.cleaner.specs.Older.{begins_below, may_expire, expiring_of, known_of, KnowsOlder}
 use Rattle.cleaner.specs.Plans.{InOrder, NoneBegins}
 use Rattle.cleaner.proofs.Kept.{placed}
@@ -112,7 +112,7 @@ module _ {S : Type 0} where
   has_where m t bs k means =
       ap is_some (means.each (record { ref_ptr = (0, 0); now = k })) ∙ some_latest k (flat_map (λ b. filter t (records_of b)) bs) ∙ ap (list_any (has_key k)) (picked t bs) ∙ any_filter t (has_key k) (log_records bs)
 
-  pub knows_older : (m expiring older : Offsets S) (bound : ℤ) (part before : List BatchValue) → Means expiring (flat_map (expiring_of m bound) part) → Means older (flat_map (known_of expiring) before)
+  pub knows_older : (m : Test) (expiring older : Offsets S) (bound : ℤ) (part before : List BatchValue) → Means expiring (flat_map (expiring_of m bound) part) → Means older (flat_map (known_of expiring) before)
       → KnowsOlder m older bound (log_records part) (log_records before)
   knows_older m expiring older bound part before means_expiring means_older = record {
     tells = λ k some.
@@ -136,7 +136,7 @@ module _ {S : Type 0} where
       by (x ∷ es) e = absurd (omega (arith, e))
 
   -- where no tombstone could go
-  pub none_expire : (m expiring older : Offsets S) (bound : ℤ) (part : List BatchValue) (before : List LogRecord) → Means expiring (flat_map (expiring_of m bound) part) → index.index_map_len expiring ≡ 0 → KnowsOlder m older bound (log_records part) before
+  pub none_expire : (m : Test) (expiring older : Offsets S) (bound : ℤ) (part : List BatchValue) (before : List LogRecord) → Means expiring (flat_map (expiring_of m bound) part) → index.index_map_len expiring ≡ 0 → KnowsOlder m older bound (log_records part) before
   none_expire m expiring older bound part before means nothing = record {
     tells = λ k some.
         let there : is_some (latest_in expiring (Some k)) ≡ true = has_where expiring (may_expire m bound) part k means ∙ some in
@@ -145,7 +145,7 @@ module _ {S : Type 0} where
   }
 
   -- where no batch begins before the part
-  pub none_before : (m older : Offsets S) (bound from : ℤ) (part : List LogRecord) (bs : List BatchValue) → index.IsEmpty older → AllByRecursion (λ b. from ≤ℤ first_offset b) bs → KnowsOlder m older bound part (log_records (filter (begins_below from) bs))
+  pub none_before : (m : Test) (older : Offsets S) (bound from : ℤ) (part : List LogRecord) (bs : List BatchValue) → index.IsEmpty older → AllByRecursion (λ b. from ≤ℤ first_offset b) bs → KnowsOlder m older bound part (log_records (filter (begins_below from) bs))
   none_before m older bound from part bs empty behind = record {
     tells = λ k some.
         let none : is_some (latest_in older (Some k)) ≡ false = ap (λ (es : List (Borrowed × ℤ)). is_some (lookup (borrowed_eq (record { ref_ptr = (0, 0); now = k })) es)) empty in

@@ -25,3 +25,6 @@ pub returns-clause-headline_on_the_way : goal.returns-clause-headline_on_the_way
 returns-clause-headline_on_the_way g c =
     on_the_way c.args.self.now c.args.events.now c.loop-event.results.items c.loop-event.self c.know_consistent.ensures
     (all_run c.args.self.now c.loop-event.self c.args.events.now c.loop-event.event-index c.loop-event.results.items c.loop-event-test.false c.loop-event.invariant.0)
+
+pub returns-in_err-results-clause-headline : goal.returns-in_err-results-clause-headline
+returns-in_err-results-clause-headline g c = headline_of c.args.self.now c.know_consistent.ensures
