@@ -160,6 +160,7 @@ offset_commit_request correlation offset = record {
   body = offset_commit (record {
     group = group_g;
     generation = negsuc 0;
+    member = [];
     topics = one_topic topic_t (record { partition = pos 0; offset = offset; metadata = Some (codes "m") });
   });
 }

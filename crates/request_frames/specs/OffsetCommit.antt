@@ -26,6 +26,7 @@ pub record OffsetCommitPartitionValue : Type 0 where
 pub record OffsetCommitValue : Type 0 where
   pub group : List ℕ
   pub generation : ℤ
+  pub member : List ℕ
   pub topics : List (TopicOf OffsetCommitPartitionValue)
 
 -- ---- from the fields' values, which are nested pairs
@@ -37,6 +38,7 @@ abbrev pub offset_commit_request : Value offset_commit_fields → OffsetCommitVa
 offset_commit_request v = record {
   group = v.0;
   generation = v.1.0;
+  member = v.1.1.0;
   topics = map (topic_request offset_commit_partition offset_commit_partition_value) v.1.1.1.1.0;
 }
 
@@ -46,5 +48,6 @@ abbrev pub offset_commit_view : OffsetCommitRequest → OffsetCommitValue
 offset_commit_view r = record {
   group = r.group.now;
   generation = r.generation;
+  member = r.member.now;
   topics = map (topic_request offset_commit_partition offset_commit_partition_value) (values (topic offset_commit_partition) r.topics);
 }

@@ -18,6 +18,8 @@ pub struct OffsetCommitRequest<'a> {
     /// The group's generation: -1 for one that its consumers don't manage by the broker. Any number
     /// may have been sent.
     pub generation: i32,
+    /// The member that commits, empty for a consumer that is none. No response looks at it.
+    pub member: &'a [u8],
     /// The offsets, by topic and partition.
     pub topics: Array<'a, Topic<'a, OffsetCommitPartition<'a>>>,
 }
@@ -29,12 +31,13 @@ pub(crate) fn offset_commit_at(bytes: &[u8]) -> Result<(RequestBody<'_>, &[u8]),
 {
     let (group, rest) = string(bytes)?;
     let (generation, rest) = int32(rest)?;
-    let (_member_id, rest) = string(rest)?;
+    let (member, rest) = string(rest)?;
     let (_retention_time, rest) = int64(rest)?;
     let (topics, rest) = array_at(rest)?;
     let request = OffsetCommitRequest {
         group,
         generation,
+        member,
         topics,
     };
     Ok((RequestBody::OffsetCommit(request), rest))
