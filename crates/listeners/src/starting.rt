@@ -5,18 +5,20 @@ ghost use Rattle.std.specs.Prelude.{◌+◌, ◌<◌, ◌≤◌};
 use crate::accepting::{Acceptor, Entrance};
 use crate::connections::Connections;
 use crate::keeping::{fail_keeping, fold, keeping_of, started_in};
-use crate::marks::put_back_all;
+use crate::marks::{KnownMarks, put_back_all};
 use crate::options::{KeptOptions, StartOptions};
 use crate::reports::{Reason, Reports, say};
 use crate::rounds::{Bounds, Rounds, Stop, wall_millis};
 use crate::serving_sessions::{Kept, ServedSessions};
 use crate::upkeep::Upkeep;
 use cleaning_policy::Settings;
+use data_directory::KeepsCleanings;
+use kept_starts::Directory;
 use kept_starts::sessions::Sessions;
 use libc::RLIMIT_NOFILE;
 use libc::types::rlimit;
 use mio::{Events, Poll};
-use segment::ProgramStore;
+use segment::{BatchStore, ProgramStore};
 use std::alloc::{Alloc, AllocError, Global};
 use std::fs::{File, Files};
 use std::io::{Error, ErrorKind, Result as IoResult, Write};
@@ -189,6 +191,42 @@ fn say_cleaning<E: Write>(alloc: Global, cleaning: Option<Settings>, err: &mut E
     say(line, err);
 }
 
+/// Listens and serves the sessions of a broker, until it can no longer. `marks` is what is known of passes over its directory, where it
+/// keeps its changes in one.
+///
+/// # Errors
+///
+/// It can't listen, or no longer; out of memory at the start; or what was done can't be kept.
+fn serve_sessions<R: Net + Clock, B: ServedSessions + Drop, W: Write, E: Write>(
+    rt: &R,
+    alloc: Global,
+    sessions: B,
+    cleaning: Option<Settings>,
+    marks: Option<&KnownMarks>,
+    entrance: Entrance,
+    bounds: Bounds,
+    out: &mut W,
+    err: &mut E,
+) -> Result<(), Stop> {
+    let wall = wall_millis(rt);
+    let mut upkeep = match Upkeep::new(alloc, cleaning, wall, marks.is_some(), sessions.state()) {
+        Ok(upkeep) => upkeep,
+        Err(why) => return Err(Stop::Listening(Error::from(why))),
+    };
+    if let Some(marks) = marks {
+        put_back_all(&mut upkeep, sessions.state(), marks);
+    }
+    let acceptor = entrance.open(rt)?;
+    if marks.is_none() {
+        say(
+            String::from_str(alloc, "nothing is kept on disk: --data DIR keeps it\n"),
+            err,
+        );
+    }
+    say_cleaning(alloc, cleaning, err);
+    listen(rt, alloc, sessions, upkeep, acceptor, bounds, out, err)
+}
+
 /// Serves as a broker that keeps nothing on disk, and answers the status.
 fn start_unkept<R: Net + Clock, W: Write, E: Write>(
     rt: &R,
@@ -211,23 +249,40 @@ fn start_unkept<R: Net + Clock, W: Write, E: Write>(
         Ok(sessions) => sessions,
         Err(why) => return fail_at(alloc, address, &Error::from(why), err),
     };
-    let upkeep = match Upkeep::new(alloc, cleaning, wall_millis(rt), false, sessions.state()) {
-        Ok(upkeep) => upkeep,
-        Err(why) => return fail_at(alloc, address, &Error::from(why), err),
-    };
-    let acceptor = match entrance.open(rt) {
-        Ok(acceptor) => acceptor,
-        Err(why) => return fail_at(alloc, address, &why, err),
-    };
-    say(
-        String::from_str(alloc, "nothing is kept on disk: --data DIR keeps it\n"),
-        err,
-    );
-    say_cleaning(alloc, cleaning, err);
-    match listen(rt, alloc, sessions, upkeep, acceptor, bounds, out, err) {
+    match serve_sessions(
+        rt, alloc, sessions, cleaning, None, entrance, bounds, out, err,
+    ) {
         Ok(()) | Err(Stop::Keeping(_)) => FAILED,
         Err(Stop::Listening(why)) => fail_at(alloc, address, &why, err),
     }
+}
+
+/// Listens and serves the sessions of a broker that keeps its changes in a directory, until it can no longer.
+///
+/// # Errors
+///
+/// It can't listen, or no longer; out of memory at the start; or what was done can't be kept.
+fn serve_kept<
+    R: Net + Clock,
+    S: BatchStore + Drop,
+    D: Directory + KeepsCleanings + Drop,
+    W: Write,
+    E: Write,
+>(
+    rt: &R,
+    alloc: Global,
+    sessions: Kept<S, D>,
+    cleaning: Option<Settings>,
+    marks: &KnownMarks,
+    entrance: Entrance,
+    bounds: Bounds,
+    out: &mut W,
+    err: &mut E,
+) -> Result<(), Stop> {
+    let known = Some(marks);
+    serve_sessions(
+        rt, alloc, sessions, cleaning, known, entrance, bounds, out, err,
+    )
 }
 
 /// Serves as a broker that keeps its changes in a directory, and answers the status.
@@ -264,18 +319,9 @@ fn start_kept<
         Err(status) => return status,
     };
     let sessions = Kept::new(alloc, folder, started, marks.journal(), kept.sync);
-    let wall = wall_millis(rt);
-    let mut upkeep = match Upkeep::new(alloc, cleaning, wall, true, sessions.state()) {
-        Ok(upkeep) => upkeep,
-        Err(why) => return fail_at(alloc, address, &Error::from(why), err),
-    };
-    put_back_all(&mut upkeep, sessions.state(), &marks);
-    let acceptor = match entrance.open(rt) {
-        Ok(acceptor) => acceptor,
-        Err(why) => return fail_at(alloc, address, &why, err),
-    };
-    say_cleaning(alloc, cleaning, err);
-    match listen(rt, alloc, sessions, upkeep, acceptor, bounds, out, err) {
+    match serve_kept(
+        rt, alloc, sessions, cleaning, &marks, entrance, bounds, out, err,
+    ) {
         Ok(()) => FAILED,
         Err(Stop::Listening(why)) => fail_at(alloc, address, &why, err),
         Err(Stop::Keeping(why)) => fail_keeping(alloc, &kept.directory, &why, err),
