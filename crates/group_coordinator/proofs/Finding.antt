@@ -1,9 +1,9 @@
 -- Names, and the chains that lead to them.
 use Rattle.std.proofs.Common.{◌≡◌, ℕ, zero, suc, ◌+◌, ◌<◌, ◌≤◌, ◌==◌, Bool, true, false, cond, not, nat_lt, List, [], ◌∷◌, ◌++◌, map, take, drop, length, get_or, set, replicate, refl, sym, ap, subst, ◌∙◌, arith, append-nil, length-append, length-set}
-use Rattle.std.specs.Prelude.{Some, None, OnOk, OnErr}
+use Rattle.std.specs.Prelude.{◌||◌, Some, None, OnOk, OnErr}
 use Rattle.std.specs.declared.result.Result.{Result}
 use Rattle.std.specs.declared.result.Result.TheVariants.{Ok, Err}
-use Rattle.group_coordinator.specs.Members.{Member}
+use Rattle.group_coordinator.specs.Members.{Member, Protocol, knows}
 use Rattle.group_coordinator.specs.Joining.{with_last}
 use Rattle.std.specs.List.{AllByRecursion, filter, position, position_or_len}
 use Rattle.std.specs.Str.{bytes_eq}
@@ -11,7 +11,7 @@ use Rattle.std.proofs.lemmas.List.{get_or_append_left, get_or_default, get_or_pu
 use Rattle.std.proofs.lemmas.Slice.Eq.{bytes_eq-Decides}
 use Rattle.group_coordinator.specs.Groups.{Group}
 use Rattle.group_coordinator.specs.Coordinators.{is_named, sent_group}
-use Rattle.group_coordinator.specs.Finding.{Chains, Finds, HasPlace, Leads, bucket_of, is_in_bucket, last_below, names_of}
+use Rattle.group_coordinator.specs.Finding.{Chains, Finds, HasPlace, Leads, bucket_of, is_in_bucket, last_below, names_of, protocol_names}
 use Rattle.group_coordinator.specs.Keeping.{AreApart}
 use Rattle.group_coordinator.specs.Doing.{put_back}
 use Rattle.group_coordinator.proofs.Places.{same_at}
@@ -174,46 +174,70 @@ reach m names name k place low is last = record {
 }
 
 -- from the last name in its bucket on
-pub reach_first : (c : Chains) (gs : List Group) (name : List ℕ) (b place : ℕ) → Finds c (names_of gs) → b ≡ bucket_of (length c.last) name → b < length c.last → place ≡ get_or c.last b place
-    → Reaches (length c.last) (names_of gs) name place
-reach_first c gs name b place f is low at =
-    reach (length c.last) (names_of gs) name (length (names_of gs)) place (omega arith)
-    (at ∙ get_or_default c.last b place 0 low ∙ f.leads.ends b low ∙ (λ j. last_below (is_in_bucket (length c.last) (is j)) (names_of gs) (length (names_of gs)))) refl
+pub reach_first : (c : Chains) (names : List (List ℕ)) (name : List ℕ) (b place : ℕ) → Finds c names → b ≡ bucket_of (length c.last) name → b < length c.last → place ≡ get_or c.last b place → Reaches (length c.last) names name place
+reach_first c names name b place f is low at =
+    reach (length c.last) names name (length names) place (omega arith)
+    (at ∙ get_or_default c.last b place 0 low ∙ f.leads.ends b low ∙ (λ j. last_below (is_in_bucket (length c.last) (is j)) names (length names))) refl
 
-name_at : (gs : List Group) (i : ℕ) (g : Group) → i < length gs → g ≡ get_or gs i g → get_or (names_of gs) i [] ≡ g.name
-name_at gs i g low at = get_or-map (λ (x : Group). x.name) gs i g [] low ∙ ap (λ (x : Group). x.name) (sym at)
-
--- to the one before
-pub reach_next : (c : Chains) (gs : List Group) (name : List ℕ) (i place next : ℕ) (g : Group) → place ≡ suc i → Finds c (names_of gs) → g ≡ get_or gs i g → is_named name g ≡ false
-    → next ≡ get_or c.before i next → Reaches (length c.last) (names_of gs) name place → Reaches (length c.last) (names_of gs) name next
-reach_next c gs name i place next g is f at other to r =
+-- to the one before, where the name isn't this one
+pub reach_next : (c : Chains) (names : List (List ℕ)) (name x : List ℕ) (i place next : ℕ) → place ≡ suc i → Finds c names → get_or names i [] ≡ x → bytes_eq x name ≡ false → next ≡ get_or c.before i next
+    → Reaches (length c.last) names name place → Reaches (length c.last) names name next
+reach_next c names name x i place next is f at other to r =
     reach m names name i next (omega (arith, low)) (to ∙ get_or_default c.before i next 0 (omega (arith, low, f.count)) ∙ f.leads.links i low ∙ (λ j. last_below (is_in_bucket m (bucket j)) names i))
-    (r.last ∙ (λ j. last_below (λ x. bytes_eq x name) names (is j)) ∙ below_one (λ x. bytes_eq x name) names i unnamed) where
+    (r.last ∙ (λ j. last_below (λ x. bytes_eq x name) names (is j)) ∙ below_one (λ x. bytes_eq x name) names i ((λ j. bytes_eq (at j) name) ∙ other)) where
       m : ℕ
       m = length c.last
-
-      names : List (List ℕ)
-      names = names_of gs
 
       low : i < length names
       low = omega (arith, r.within, is)
 
-      low_groups : i < length gs
-      low_groups = omega (arith, low, length-map gs (λ (x : Group). x.name))
-
       bucket : bucket_of m (get_or names i []) ≡ bucket_of m name
       bucket = grind (arith, r.bucket i is)
 
-      unnamed : bytes_eq (get_or names i []) name ≡ false
-      unnamed = (λ j. bytes_eq (name_at gs i g low_groups at j) name) ∙ other
-
-pub reach_smaller : (c : Chains) (gs : List Group) (name : List ℕ) (i place next : ℕ) → place ≡ suc i → Finds c (names_of gs) → next ≡ get_or c.before i next → Reaches (length c.last) (names_of gs) name place → next < place
-reach_smaller c gs name i place next is f to r =
+pub reach_smaller : (c : Chains) (names : List (List ℕ)) (name : List ℕ) (i place next : ℕ) → place ≡ suc i → Finds c names → next ≡ get_or c.before i next → Reaches (length c.last) names name place → next < place
+reach_smaller c names name i place next is f to r =
     let m = length c.last in
-    let low : i < length (names_of gs) = omega (arith, r.within, is) in
-    let before : next ≡ last_below (is_in_bucket m (bucket_of m (get_or (names_of gs) i []))) (names_of gs) i =
-    to ∙ get_or_default c.before i next 0 (omega (arith, low, f.count)) ∙ f.leads.links i low in
-    omega (arith, is, before, below_most (is_in_bucket m (bucket_of m (get_or (names_of gs) i []))) (names_of gs) i)
+    let low : i < length names = omega (arith, r.within, is) in
+    let before : next ≡ last_below (is_in_bucket m (bucket_of m (get_or names i []))) names i = to ∙ get_or_default c.before i next 0 (omega (arith, low, f.count)) ∙ f.leads.links i low in
+    omega (arith, is, before, below_most (is_in_bucket m (bucket_of m (get_or names i []))) names i)
+
+pub name_at : (gs : List Group) (i : ℕ) (g : Group) → i < length gs → g ≡ get_or gs i g → get_or (names_of gs) i [] ≡ g.name
+name_at gs i g low at = get_or-map (λ (x : Group). x.name) gs i g [] low ∙ ap (λ (x : Group). x.name) (sym at)
+
+-- ---- protocols of a name
+
+pub protocol_name_at : (ps : List Protocol) (i : ℕ) (p : Protocol) → i < length ps → p ≡ get_or ps i p → get_or (protocol_names ps) i [] ≡ p.name
+protocol_name_at ps i p low at = get_or-map (λ (x : Protocol). x.name) ps i p [] low ∙ ap (λ (x : Protocol). x.name) (sym at)
+
+or_true : (b : Bool) → (b || true) ≡ true
+or_true true = refl
+or_true false = refl
+
+known_at : (name : List ℕ) (ps : List Protocol) (i : ℕ) (p : Protocol) → i < length ps → p ≡ get_or ps i p → bytes_eq p.name name ≡ true → knows name ps ≡ true
+known_at name [] i p low at e = absurd (omega (arith, low))
+known_at name (q ∷ qs) zero p low at e = λ j. ((λ k. bytes_eq (sym at k).name name) ∙ e) j || knows name qs
+known_at name (q ∷ qs) (suc i) p low at e = (λ j. bytes_eq q.name name || known_at name qs i p (omega (arith, low)) at e j) ∙ or_true (bytes_eq q.name name)
+
+pub found_known : (name : List ℕ) (ps : List Protocol) (i : ℕ) (p : Protocol) → i < length ps → p ≡ get_or ps i p → bytes_eq p.name name ≡ true → true ≡ knows name ps
+found_known name ps i p low at e = sym (known_at name ps i p low at e)
+
+none_known : (name : List ℕ) (ps : List Protocol) → ((i : ℕ) → i < length ps → bytes_eq (get_or (protocol_names ps) i []) name ≡ false) → knows name ps ≡ false
+none_known name [] no_one = refl
+none_known name (p ∷ ps) no_one = (λ j. no_one 0 (omega arith) j || knows name ps) ∙ none_known name ps (λ i low. no_one (suc i) (omega (arith, low)))
+
+pub not_known : (m place : ℕ) (ps : List Protocol) (name : List ℕ) → place ≡ 0 → Reaches m (protocol_names ps) name place → false ≡ knows name ps
+not_known m place ps name none r =
+    let nowhere : last_below (λ x. bytes_eq x name) (protocol_names ps) (length (protocol_names ps)) ≡ 0 = r.last ∙ (λ j. last_below (λ x. bytes_eq x name) (protocol_names ps) (none j)) in
+    let long : length (protocol_names ps) ≡ length ps = length-map ps (λ (x : Protocol). x.name) in
+    sym (none_known name ps (λ i low. below_none (λ x. bytes_eq x name) (protocol_names ps) (length (protocol_names ps)) i nowhere (omega (arith, low, long))))
+
+-- one protocol more
+pub known_pushed : (c d : Chains) (ps qs : List Protocol) (p : Protocol) (name : List ℕ) → name ≡ p.name → qs ≡ ps ++ p ∷ [] → Finds c (protocol_names ps)
+    → ((names : List (List ℕ)) → Finds c names → Finds d (names ++ name ∷ [])) → Finds d (protocol_names qs)
+known_pushed c d ps qs p name is made f more =
+    subst (λ (xs : List Protocol). Finds d (protocol_names xs)) (sym made)
+    (subst (Finds d) (sym (map-append (λ (x : Protocol). x.name) ps (p ∷ [])))
+    (subst (λ (n : List ℕ). Finds d (protocol_names ps ++ n ∷ [])) is (more (protocol_names ps) f)))
 
 -- ---- what is found is the first of that name
 
@@ -334,7 +358,7 @@ sent_names k [] = refl
 sent_names k (g ∷ gs) = λ i. g.name ∷ sent_names k gs i
 
 -- a slice that was written over a whole list
-pub written_all : (n : ℕ) (gs hs : List Group) → length gs ≡ n → length hs ≡ n → take n (hs ++ drop (length hs) gs) ≡ hs
+pub written_all : {X : Type 0} (n : ℕ) (gs hs : List X) → length gs ≡ n → length hs ≡ n → take n (hs ++ drop (length hs) gs) ≡ hs
 written_all n gs hs whole same =
     (λ j. take n (hs ++ drop_all (length hs) gs (omega (arith, whole, same)) j)) ∙ (λ j. take n (append-nil hs j)) ∙ take_all n hs (omega (arith, same))
 

@@ -14,6 +14,7 @@ mod Naming
 mod Giving
 mod Bytes
 mod Finding
+mod Changing
 mod Due
 mod Telling
 mod Syncing

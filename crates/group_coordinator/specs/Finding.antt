@@ -1,6 +1,7 @@
--- How a group is found by its name: names lie in buckets, and each leads to the one before it in its bucket.
+-- How a group, or a protocol, is found by its name: names lie in buckets, and each leads to the one before it in its bucket.
 use Rattle.std.specs.Prelude.{◌≡◌, ◌≤◌, ◌<◌, ℕ, zero, suc, ◌/◌, ◌%◌, ◌==◌, Bool, List, [], map, length, get_or, if◌then◌else◌}
 use Rattle.std.specs.Hash.FoldHasher.{initial, write, finish}
+use Rattle.group_coordinator.specs.Members.{Protocol}
 use Rattle.group_coordinator.specs.Groups.{Group}
 
 -- the hash of a name; any function of it would serve
@@ -44,3 +45,6 @@ HasPlace c = (length c.before < length c.last) × (length c.before < c.capacity)
 
 abbrev pub names_of : List Group → List (List ℕ)
 names_of gs = map (λ g. g.name) gs
+
+abbrev pub protocol_names : List Protocol → List (List ℕ)
+protocol_names ps = map (λ p. p.name) ps

@@ -58,7 +58,7 @@ pub fn a_small_group()
     ensures least_rebalance { LEAST_REBALANCE ≡ pos 1000 }
     ensures most_bytes { MOST_BYTES ≡ 67108864 }
     ensures member_bytes { MEMBER_BYTES ≡ 256 }
-    ensures protocol_bytes { PROTOCOL_BYTES ≡ 64 }
+    ensures protocol_bytes { PROTOCOL_BYTES ≡ 192 }
     ensures last_generation { MOST_GENERATION ≡ 2147483647 }
     ensures last_id { MOST_IDS ≡ 18446744073709551615 }
     ensures last_time { MOST_TIME ≡ 9223372036854775808 }

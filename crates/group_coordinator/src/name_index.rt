@@ -1,10 +1,12 @@
-//! Which group has a name.
+//! Which group, and which protocol, has a name.
 
 ghost use Rattle.std.specs.Prelude.{◌≡◌, ◌≤◌, ◌<◌, ◌++◌, ◌∷◌, [], ℕ, List, length, replicate, get_or, slice_set, OnOk};
 ghost use Rattle.std.specs.List.{position};
 ghost use Rattle.group_coordinator.specs.Coordinators.{is_named};
 ghost use Rattle.group_coordinator.specs.Finding.{Finds, HasPlace, bucket_of, hash_of, names_of};
 ghost use Rattle.group_coordinator.specs.Keeping.{AreApart};
+
+mod known;
 
 use crate::group::MemberGroup;
 use std::alloc::{AllocError, Allocator};

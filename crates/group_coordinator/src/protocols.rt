@@ -1,12 +1,13 @@
 //! The ways of dividing partitions that a member knows.
 
 ghost use Rattle.std.specs.Prelude.{◌≡◌, ◌==◌, ◌∷◌, [], ◌++◌, bytes_eq, length, slice_get, OnOk, OnErr, IfOk};
-ghost use Rattle.std.specs.List.{find, list_any, position, sum_by};
+ghost use Rattle.std.specs.List.{find, position, sum_by};
 ghost use Rattle.std.specs.Option.{option_map_or};
 ghost use Rattle.group_coordinator.specs.Entering.{capped};
 ghost use Rattle.group_coordinator.specs.Joining.{same_protocol, same_protocols};
 ghost use Rattle.group_coordinator.specs.Members.{knows, protocol_bytes};
 
+use crate::name_index::NameIndex;
 use crate::values::PROTOCOL_BYTES;
 use std::alloc::{AllocError, Allocator};
 use std::marker::Model;
@@ -26,10 +27,12 @@ impl<A: Allocator + Copy> Model for KnownProtocol<A> {
     ghost view = { λ p. record { name = p.name.items; metadata = p.metadata.items } };
 }
 
-/// The ways of dividing partitions that a member knows, the one that it likes best first.
+/// The ways of dividing partitions that a member knows, the one that it likes best first; their names; and the bytes that
+/// are counted for them.
 #[derive(Drop)]
 pub struct Protocols<A: Allocator + Copy> {
     protocols: Vec<KnownProtocol<A>, A>,
+    names: NameIndex<A>,
     bytes: u64,
 }
 
@@ -37,22 +40,16 @@ impl<A: Allocator + Copy> Model for Protocols<A> {
     ghost use Rattle.std.specs.Prelude.{◌≡◌, List};
     ghost use Rattle.std.specs.List.{sum_by};
     ghost use Rattle.group_coordinator.specs.Entering.{capped};
+    ghost use Rattle.group_coordinator.specs.Finding.{Finds, protocol_names};
     ghost use Rattle.group_coordinator.specs.Members.{Protocol, protocol_bytes};
 
     ghost Value = { List Protocol };
 
     ghost view = { λ p. p.protocols.items };
 
-    ghost invariant = { λ p. p.bytes ≡ capped (sum_by protocol_bytes p.protocols.items) };
-}
-
-/// Whether one of these protocols has this name.
-fn knows<A: Allocator + Copy>(protocols: &[KnownProtocol<A>], name: &[u8]) -> bool
-    ensures { result ≡ knows name.now protocols.now }
-{
-    protocols
-        .iter()
-        .any(|protocol| protocol.name.as_slice() == name)
+    ghost invariant = { λ p.
+        (p.bytes ≡ capped (sum_by protocol_bytes p.protocols.items))
+        × Finds p.names (protocol_names p.protocols.items) };
 }
 
 /// The index of the first of these protocols that has this name.
@@ -123,6 +120,13 @@ impl<A: Allocator + Copy> KnownProtocol<A> {
         &self.name
     }
 
+    /// Whether it has this name.
+    pub(crate) fn is_named(&self, name: &[u8]) -> bool
+        ensures { result ≡ bytes_eq self.now.name name.now }
+    {
+        self.name.as_slice() == name
+    }
+
     /// Its metadata.
     fn metadata(&self) -> &[u8]
         ensures { result.now ≡ self.now.metadata }
@@ -155,6 +159,7 @@ impl<A: Allocator + Copy> Protocols<A> {
     {
         Protocols {
             protocols: Vec::new(alloc),
+            names: NameIndex::new(alloc),
             bytes: 0,
         }
     }
@@ -170,6 +175,8 @@ impl<A: Allocator + Copy> Protocols<A> {
     {
         let protocol = KnownProtocol::new(*self.protocols.allocator(), name, metadata)?;
         self.protocols.reserve(1)?;
+        self.names.reserve_known(&self.protocols)?;
+        self.names.push(name);
         self.bytes = self.bytes.saturating_add(protocol.bytes());
         self.protocols.push_reserved(protocol);
         Ok(())
@@ -193,7 +200,7 @@ impl<A: Allocator + Copy> Protocols<A> {
     pub(crate) fn knows(&self, name: &[u8]) -> bool
         ensures { result ≡ knows name.now self.now }
     {
-        knows(&self.protocols, name)
+        self.names.knows(&self.protocols, name)
     }
 
     /// Whether these are the same, in the same order.

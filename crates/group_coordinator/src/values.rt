@@ -8,7 +8,7 @@ pub const MOST_BYTES: u64 = 67_108_864;
 pub const MEMBER_BYTES: u64 = 256;
 
 /// So many bytes are counted for a protocol beside those of its name and its metadata.
-pub const PROTOCOL_BYTES: u64 = 64;
+pub const PROTOCOL_BYTES: u64 = 192;
 
 /// The shortest session timeout that a member may ask for, in milliseconds.
 pub const LEAST_SESSION: i32 = 1_000;

@@ -1,7 +1,8 @@
 //! Frames and responses worked by hand.
 
-ghost use Rattle.std.specs.Prelude.{◌≡◌, pos, [], ◌∷◌};
+ghost use Rattle.std.specs.Prelude.{◌≡◌, pos, false, map, true, [], ◌∷◌};
 ghost use Rattle.member_frames.specs.declared.api.MemberApi.{MemberApi};
+ghost use Rattle.member_frames.specs.MemberApis.{is_throttled};
 ghost use Rattle.frame_fields.specs.declared.error.FrameError.{FrameError};
 ghost use Rattle.member_frames.specs.MemberRequests.MemberBodyValue.{join_group, heartbeat};
 ghost use Rattle.member_frames.specs.MemberRequests.{IsMemberRequest, IsMemberRefused};
@@ -55,4 +56,10 @@ pub fn a_rebalance_is_told()
     ensures version_1 { member_response MemberApi.Heartbeat1 (pos 7) code_response
         (code_value (pos 27))
         ≡ 0 ∷ 0 ∷ 0 ∷ 10 ∷ 0 ∷ 0 ∷ 0 ∷ 7 ∷ 0 ∷ 0 ∷ 0 ∷ 0 ∷ 0 ∷ 27 ∷ [] }
+{}
+
+/// Which responses begin with the throttle time: those of JoinGroup 2, and of version 1 of the others.
+pub fn what_is_throttled()
+    ensures { map is_throttled (MemberApi.JoinGroup0 ∷ MemberApi.JoinGroup1 ∷ MemberApi.JoinGroup2 ∷ MemberApi.SyncGroup0 ∷ MemberApi.SyncGroup1 ∷ MemberApi.Heartbeat0 ∷ MemberApi.Heartbeat1 ∷ MemberApi.LeaveGroup0 ∷ MemberApi.LeaveGroup1 ∷ [])
+        ≡ false ∷ false ∷ true ∷ false ∷ true ∷ false ∷ true ∷ false ∷ true ∷ [] }
 {}

@@ -15,6 +15,11 @@ fn join_2() -> &'static [u8] {
     b"\0\x0b\0\x02\0\0\0\x05\0\x01c\0\x01g\0\0\x27\x10\0\x04\x93\xe0\0\0\0\x08consumer\0\0\0\x02\0\x05range\0\0\0\x03\x01\x02\x03\0\x06sticky\0\0\0\0"
 }
 
+/// The same in version 1.
+fn join_1() -> &'static [u8] {
+    b"\0\x0b\0\x01\0\0\0\x05\0\x01c\0\x01g\0\0\x27\x10\0\x04\x93\xe0\0\0\0\x08consumer\0\0\0\x02\0\x05range\0\0\0\x03\x01\x02\x03\0\x06sticky\0\0\0\0"
+}
+
 /// The same in version 0, with the id `m` and no protocol.
 fn join_0() -> &'static [u8] {
     b"\0\x0b\0\0\0\0\0\x05\0\x01c\0\x01g\0\0\x27\x10\0\x01m\0\x08consumer\0\0\0\0"
@@ -120,6 +125,7 @@ fn sync_of(frame: &[u8]) -> Option<(i32, u32, usize)> {
 #[test]
 fn numbers_and_lists_are_read(rt: HostRuntime) {
     assert_eq!(rt; join_of(join_2()), Some((10_000, 300_000, 2, 3)));
+    assert_eq!(rt; join_of(join_1()), Some((10_000, 300_000, 2, 3)));
     assert_eq!(rt; join_of(join_0()), Some((10_000, 10_000, 0, 0)));
     assert_eq!(rt; sync_of(sync_1()), Some((3, 2, 1)));
 }
@@ -167,7 +173,7 @@ fn put_join<A: Allocator + Copy>(out: &mut Vec<u8, A>) -> Result<(), AllocError>
         generation: 3,
         protocol: b"range",
         leader: b"a",
-        member: b"a",
+        member: b"c",
     };
     let members = [
         JoinedMember {
@@ -215,7 +221,7 @@ fn joins_are_replied(rt: HostRuntime) -> Result<(), Fail> {
     put_join(&mut out)?;
     assert_eq!(rt;
         out.as_slice(),
-        b"\0\0\0\x2a\0\0\0\x05\0\0\0\0\0\x03\0\x05range\0\x01a\0\x01a\0\0\0\x02\0\x01a\0\0\0\x01\x01\0\x01b\0\0\0\0".as_slice()
+        b"\0\0\0\x2a\0\0\0\x05\0\0\0\0\0\x03\0\x05range\0\x01a\0\x01c\0\0\0\x02\0\x01a\0\0\0\x01\x01\0\x01b\0\0\0\0".as_slice()
     );
     Ok(())
 }

@@ -153,7 +153,7 @@ pub(super) fn bytes_of_protocols(protocols: &[Protocol]) -> u64 {
     let mut bytes = 0u64;
     for protocol in protocols.iter() {
         bytes = bytes
-            .saturating_add(64)
+            .saturating_add(192)
             .saturating_add(protocol_name(protocol.name).len() as u64)
             .saturating_add(protocol.metadata.len as u64);
     }
