@@ -459,7 +459,7 @@ def stays(program, folder, names, said, *arguments):
     removes what is of no use."""
     try:
         with Failing(program, folder, "unlink", "EIO", "1+", [JOURNAL, "journal.2"], arguments) as broker:
-            is_soon(lambda: sorted(os.listdir(folder)) == names)
+            is_soon(lambda: sorted(os.listdir(folder)) == names and len(plainly(broker.lines)) >= len(said))
             same("what it says", plainly(broker.lines), said)
             has_state(broker, kept_files.node_after(TORN, kept_files.topics_of(TOPICS)), "the start whose removals fail")
     except Ended as ended:
