@@ -11,7 +11,7 @@ RECORDS, PIECE = 250, 20  # records of a batch, and batches that are sent in one
 CLEANED = reply("cleaned 0 0 0 0")  # where each record is the only one of its key
 IDLE = 5  # seconds
 NAMES = 2_700_000  # of a Metadata
-A_WHILE = 0.03  # seconds of processor time: more than a short frame takes, and less than so many names
+A_WHILE = 0.005  # seconds of processor time: more than a short frame takes, and less than so many names
 
 
 def fill(client, first, count=PIECE):
@@ -66,18 +66,18 @@ def long_one():
     return struct.pack(">i", len(body)) + body
 
 
-def stands_still_behind(broker, dear, other, frame):
-    """The last byte of a long frame comes, and then another client's request, before the broker looks at either. The other one waits
-    for the long one, unless the broker looks at it first: it isn't answered while the broker runs for a while. Then the broker stands
-    still for longer than a client may be idle. Gives until when the other one wasn't answered, or none if it was before."""
+def stands_still_behind(broker, dear, other, frame, is_last):
+    """The last byte of a long frame and another client's request come, that one last or first, before the broker looks at either. The
+    other one waits for the long one, unless the broker looks at it first: it isn't answered while the broker runs for a while. Then the
+    broker stands still for longer than a client may be idle. Gives until when the other one wasn't answered, or none if it was before."""
     for at in range(0, len(frame) - 1, ONE_READ):
         dear.send(frame[at : min(at + ONE_READ, len(frame) - 1)])
         other.ask("versions", "versions 0")  # by a round, in which as much is read
     with broker.stands_still():
-        dear.send(frame[-1:])
-        other.send(request("versions"))
+        for client, sent in [(dear, frame[-1:]), (other, request("versions"))][:: 1 if is_last else -1]:
+            client.send(sent)
         before = broker.schedule()[0]
-    is_soon(lambda: not other.gets_nothing(0) or broker.schedule()[0] > before + A_WHILE)
+    is_soon(lambda: not other.gets_nothing(0) or broker.schedule()[0] > before + A_WHILE, every=0.001)
     with broker.stands_still():
         if not other.gets_nothing(0.05):
             return None
@@ -106,8 +106,8 @@ def is_served(client):
 def answered_behind(broker, dear, other, frame):
     """Another client is answered behind a long frame, in the same round. Gives the last time at which its reply hadn't come, or none
     if its request was only seen in a later round: it may have ended as idle by then, unanswered."""
-    for _ in range(20):
-        if since := stands_still_behind(broker, dear, other, frame):
+    for turn in range(20):  # (which one the broker looks at first may go by what it did before)
+        if since := stands_still_behind(broker, dear, other, frame, is_last=turn % 2 == 0):
             break
         other.gets(reply("versions 0"))
         dear.receive(int.from_bytes(dear.receive(4), "big"))

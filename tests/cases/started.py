@@ -69,13 +69,13 @@ def holds(what, is_so):
         raise Fault(what)
 
 
-def is_soon(look, seconds=SECONDS):
-    """Whether a look comes to say yes."""
+def is_soon(look, seconds=SECONDS, every=0.01):
+    """Whether a look, each so many seconds, comes to say yes."""
     late = time.monotonic() + seconds
     while not look():
         if time.monotonic() > late:
             return False
-        time.sleep(0.01)
+        time.sleep(every)
     return True
 
 
