@@ -6,6 +6,7 @@ use Rattle.std.specs.declared.alloc.AllocError.{AllocError}
 use Rattle.std.proofs.lemmas.Int.{ints, to_z-of_z}
 use Rattle.std.proofs.lemmas.List.{length-append, append-nil}
 use Rattle.responses.specs.declared.parts.TheConstants.{MAX_STRING_BYTES}
+use Rattle.request_frames.specs.declared.api.Api.{Api}
 use Rattle.request_frames.specs.declared.api.Api.TheVariants.{Clean}
 use Rattle.frame_fields.specs.Fields.{size32, be, Fits, encoded, end}
 use Rattle.frame_fields.specs.Frames.{framed, IsWithinLimit}
@@ -18,10 +19,10 @@ use Rattle.request_frames.specs.Requests.BodyValue.{clean}
 use Rattle.cleaning_frames.specs.Cleaning.{clean_body, clean_frame, cleaning}
 
 -- what stands before the topic's name, and behind it
-abbrev pub head_of : (correlation : ℤ) (name : ℕ) → List ℕ
-head_of correlation name =
-    be size32 (pos (32 + name))
-    ++ encoded (int16 ⨾ int16 ⨾ int32 ⨾ int16 ⨾ int16 ⨾ end) (api_key Clean, (api_version Clean, (correlation, (negsuc 0, (pos name, tt)))))
+abbrev pub head_of : Api → (fixed : ℕ) (correlation : ℤ) (name : ℕ) → List ℕ
+head_of api fixed correlation name =
+    be size32 (pos (fixed + name))
+    ++ encoded (int16 ⨾ int16 ⨾ int32 ⨾ int16 ⨾ int16 ⨾ end) (api_key api, (api_version api, (correlation, (negsuc 0, (pos name, tt)))))
 
 abbrev pub tail_of : CleanValue → List ℕ
 tail_of q = encoded (int32 ⨾ int64 ⨾ int64 ⨾ end) (q.partition, (q.upto, (q.tomb_before, tt)))
@@ -30,24 +31,24 @@ pub frame_length : (correlation : ℤ) (q : CleanValue) → length (clean_frame 
 unfolding encoded
 frame_length correlation q = omega (arith, length-append q.topic (tail_of q))
 
-laid_out : (correlation : ℤ) (q : CleanValue) → head_of correlation (length q.topic) ++ (q.topic ++ tail_of q) ≡ framed (clean_frame correlation q)
+laid_out : (correlation : ℤ) (q : CleanValue) → head_of Clean 32 correlation (length q.topic) ++ (q.topic ++ tail_of q) ≡ framed (clean_frame correlation q)
 unfolding encoded
 laid_out correlation q = ap (λ (n : ℕ). be size32 (pos n) ++ clean_frame correlation q) (sym (frame_length correlation q))
 
-placed : (correlation : ℤ) (q : CleanValue) (head tail old new : List ℕ) → head ≡ head_of correlation (length q.topic) → tail ≡ tail_of q
+placed : (correlation : ℤ) (q : CleanValue) (head tail old new : List ℕ) → head ≡ head_of Clean 32 correlation (length q.topic) → tail ≡ tail_of q
     → new ≡ old ++ (head ++ (q.topic ++ tail)) → new ≡ old ++ framed (clean_frame correlation q)
 placed correlation q head tail old new is_head is_tail is =
     is ∙ ap₂ (λ (h t : List ℕ). old ++ (h ++ (q.topic ++ t))) is_head is_tail ∙ ap (λ (x : List ℕ). old ++ x) (laid_out correlation q)
 
-pub placed_if : (r : Result (Unit {0}) AllocError) (correlation : ℤ) (q : CleanValue) (head tail old new : List ℕ) → head ≡ head_of correlation (length q.topic)
+pub placed_if : (r : Result (Unit {0}) AllocError) (correlation : ℤ) (q : CleanValue) (head tail old new : List ℕ) → head ≡ head_of Clean 32 correlation (length q.topic)
     → tail ≡ tail_of q → OnOk r (new ≡ old ++ (head ++ (q.topic ++ tail))) → OnOk r (new ≡ old ++ framed (clean_frame correlation q))
 placed_if (Ok x) correlation q head tail old new is_head is_tail is = placed correlation q head tail old new is_head is_tail is
 placed_if (Err e) correlation q head tail old new is_head is_tail is = tt
 
 -- numbers that were passed on by value
-pub head_sent : (correlation : ℤ) (name : ℕ) (head : List ℕ) → FitsSigned w32 correlation → head ≡ head_of (to_z w32 (of_z w32 correlation)) name
-    → head ≡ head_of correlation name
-head_sent correlation name head fits is = is ∙ ap (λ (z : ℤ). head_of z name) (to_z-of_z w32 correlation fits)
+pub head_sent : (api : Api) (fixed : ℕ) (correlation : ℤ) (name : ℕ) (head : List ℕ) → FitsSigned w32 correlation → head ≡ head_of api fixed (to_z w32 (of_z w32 correlation)) name
+    → head ≡ head_of api fixed correlation name
+head_sent api fixed correlation name head fits is = is ∙ ap (λ (z : ℤ). head_of api fixed z name) (to_z-of_z w32 correlation fits)
 
 pub tail_sent : (topic : List ℕ) (partition upto tomb_before : ℤ) (tail : List ℕ) → FitsSigned w32 partition → FitsSigned w64 upto → FitsSigned w64 tomb_before
     → tail ≡ tail_of (cleaning topic (to_z w32 (of_z w32 partition)) (to_z w64 (of_z w64 upto)) (to_z w64 (of_z w64 tomb_before)))

@@ -1,2 +1,3 @@
 mod AskedFrames
+mod AskedParts
 mod ReadReplies

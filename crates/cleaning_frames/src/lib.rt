@@ -12,6 +12,6 @@ mod replies;
 #[cfg(test)]
 mod tests;
 
-pub use asking::put_clean_frame;
+pub use asking::{put_clean_frame, put_clean_part_frame};
 pub use replies::{CLEAN_REPLY_BYTES, read_clean_reply};
 pub use responses::clean::CleanAnswer;

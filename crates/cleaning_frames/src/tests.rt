@@ -1,12 +1,18 @@
 //! A Clean as `tests/rows/fields.rows` has it in bytes, and its response.
 
-use crate::{put_clean_frame, read_clean_reply};
+use crate::{put_clean_frame, put_clean_part_frame, read_clean_reply};
 use std::test::Fail;
 
 /// Partition 0 of `t` up to offset 6, deletions below 6 too, by the correlation id 3; behind a byte of something else.
 static ASKED: [u8; 38] = [
     0x7f, 0, 0, 0, 0x21, 0x4e, 0x21, 0, 0, 0, 0, 0, 3, 0xff, 0xff, 0, 1, b't', 0, 0, 0, 0, 0, 0, 0,
     0, 0, 0, 0, 6, 0, 0, 0, 0, 0, 0, 0, 6,
+];
+
+/// The same from offset 0 to offset 4.
+static PART_ASKED: [u8; 54] = [
+    0x7f, 0, 0, 0, 0x31, 0x4e, 0x21, 0, 1, 0, 0, 0, 3, 0xff, 0xff, 0, 1, b't', 0, 0, 0, 0, 0, 0, 0,
+    0, 0, 0, 0, 0, 0, 0, 0, 0, 0, 0, 0, 4, 0, 0, 0, 0, 0, 0, 0, 6, 0, 0, 0, 0, 0, 0, 0, 6,
 ];
 
 /// No error; 4 records, a tombstone and 2 batches.
@@ -20,6 +26,14 @@ fn a_cleaning_is_asked_for(rt: HostRuntime) -> Result<(), Fail> {
     let mut out = b"\x7f".to_vec(rt.alloc())?;
     put_clean_frame(&mut out, 3, b"t", 0, 6, 6)?;
     assert_eq!(rt; out.as_slice(), ASKED.as_slice());
+    Ok(())
+}
+
+#[test]
+fn a_part_is_asked_for(rt: HostRuntime) -> Result<(), Fail> {
+    let mut out = b"\x7f".to_vec(rt.alloc())?;
+    put_clean_part_frame(&mut out, 3, b"t", 0, 0, 4, 6, 6)?;
+    assert_eq!(rt; out.as_slice(), PART_ASKED.as_slice());
     Ok(())
 }
 

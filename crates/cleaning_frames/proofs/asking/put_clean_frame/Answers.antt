@@ -1,4 +1,5 @@
 use Rattle.std.proofs.Common.{length}
+use Rattle.request_frames.specs.declared.api.Api.TheVariants.{Clean}
 use Rattle.cleaning_frames.specs.Cleaning.{cleaning}
 use Rattle.cleaning_frames.proofs.AskedFrames.{placed_if, head_sent, tail_sent, is_within, is_request}
 use Rattle.cleaning_frames.proofs.asking.put_clean_frame.Goals as goal
@@ -7,7 +8,7 @@ pub returns-clause-appends : goal.returns-clause-appends
 returns-clause-appends g c =
     placed_if c.append_around.result c.args.correlation (cleaning c.args.topic.now c.args.partition c.args.upto c.args.tomb_before)
     c.head_bytes-head.result c.tail_bytes-tail.result c.args.out.now.items c.append_around.new.out.items
-    (head_sent c.args.correlation (length c.args.topic.now) c.head_bytes-head.result c.ranges.correlation c.head_bytes-head.ensures)
+    (head_sent Clean 32 c.args.correlation (length c.args.topic.now) c.head_bytes-head.result c.ranges.correlation c.head_bytes-head.ensures)
     (tail_sent c.args.topic.now c.args.partition c.args.upto c.args.tomb_before c.tail_bytes-tail.result c.ranges.partition c.ranges.upto c.ranges.tomb_before c.tail_bytes-tail.ensures)
     c.append_around.ensures.appends
 
