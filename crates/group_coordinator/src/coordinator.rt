@@ -7,7 +7,7 @@ ghost use Rattle.group_coordinator.specs.Readiness.{given_at, reply_at, told_at}
 ghost use Rattle.group_coordinator.specs.Requests.Reply.{Given, Joined, Refused};
 ghost use Rattle.group_coordinator.specs.declared.values.TheConstants.{MOST_BYTES, MOST_GENERATION, LEAST_SESSION, MOST_IDS, MOST_SESSION};
 ghost use Rattle.group_coordinator.specs.Coordinators.{all_bytes, asked, at_once, commit_fault, commit_fault_at, committed, gone, group_fault, group_named, member_fault, move_one, no_groups, preparing_fault, ready_for, reply_to, unknown_fault, without_ready, ask_join, ask_sync, fault_if, id_fault, if_room, is_named, join_fault, protocol_fits, release, sync_fault, with_group};
-ghost use Rattle.group_coordinator.specs.Due.{IsNoLater, is_due};
+ghost use Rattle.group_coordinator.specs.Due.{IsNoLater, first_turn, is_due};
 ghost use Rattle.group_coordinator.specs.Joining.{leave, call, new_member, plainly, rejoin, rejoined, sync, waits, with_last, with_member};
 ghost use Rattle.group_coordinator.specs.Requests.Request.{Heartbeat, Leave, Join, Sync};
 ghost use Rattle.group_coordinator.specs.declared.values.GroupError.TheVariants.{InconsistentProtocol, InvalidSession};
@@ -205,11 +205,15 @@ impl<A: Allocator + Copy> Coordinator<A> {
         self.due = self.groups.due();
     }
 
-    /// A time before which nothing expires; none where nothing ever does. It may be too early, but not once `expire`
-    /// was called at that time or later.
+    /// A time before which nothing expires; none where nothing ever does. It may be too early, but not where it has come:
+    /// then it is the first time from which on something may change. So who waits for it doesn't spin.
     pub fn next_time(&self) -> Option<u64>
-        ensures { IfSome (next_time self.now) (λ time. IsNoLater result time) }
+        ensures no_later { IfSome (next_time self.now) (λ time. IsNoLater result time) }
+        ensures comes { IfSome result (λ time. time ≤ self.now.now → result ≡ first_turn self.now.groups) }
     {
+        if is_due(self.due, self.time) {
+            return self.groups.due();
+        }
         self.due
     }
 

@@ -60,7 +60,7 @@ pub(super) const FILLING: usize = 16_111;
 /// The metadata of each of them.
 pub(super) const FILLER: Piece = Piece {
     start: 0,
-    len: 4_096,
+    len: 3_968,
 };
 
 /// The bytes of which metadata and parts are pieces.
