@@ -1,4 +1,4 @@
-//! The frames that ask for a cleaning, and for that of a part.
+//! The frame that asks for a cleaning, and what the one for a part shares with it.
 
 ghost use Rattle.std.specs.Prelude.{◌≡◌, ◌≤◌, ◌+◌, ◌++◌, pos, negsuc, length, OnOk, OnErr};
 ghost use Rattle.frame_fields.specs.Fields.{size32, be, encoded, end};
@@ -6,10 +6,10 @@ ghost use Rattle.frame_fields.specs.Frames.{framed, IsWithinLimit};
 ghost use Rattle.frame_fields.specs.Types.{int16, int32, int64, ◌⨾◌};
 ghost use Rattle.request_frames.specs.Apis.{api_key, api_version};
 ghost use Rattle.request_frames.specs.Requests.{IsRequest};
-ghost use Rattle.request_frames.specs.Requests.BodyValue.{clean, clean_part};
+ghost use Rattle.request_frames.specs.Requests.BodyValue.{clean};
 ghost use Rattle.responses.specs.declared.parts.TheConstants.{MAX_STRING_BYTES};
 ghost use Rattle.cleaning_frames.specs.declared.asking.TheConstants.{PART_TAIL_BYTES};
-ghost use Rattle.cleaning_frames.specs.Cleaning.{clean_frame, clean_part_frame, cleaning, part_cleaning};
+ghost use Rattle.cleaning_frames.specs.Cleaning.{clean_frame, cleaning};
 
 use byteorder::{BigEndian, ByteOrder};
 use request_frames::Api;
@@ -17,24 +17,20 @@ use std::alloc::{AllocError, Allocator};
 
 /// The number of bytes before the topic's name: size, api key, version, correlation id, no client id, and the length of
 /// the name.
-const HEAD_BYTES: usize = 16;
+pub(crate) const HEAD_BYTES: usize = 16;
 
-/// The number of bytes behind the topic's name, and where a part is asked for.
-const TAIL_BYTES: usize = 20;
+/// The number of bytes behind the topic's name.
+pub(crate) const TAIL_BYTES: usize = 20;
 
-const PART_TAIL_BYTES: usize = 36;
+/// The number of bytes behind the topic's name where a part is asked for.
+pub(crate) const PART_TAIL_BYTES: usize = 36;
 
-/// The number of bytes of two offsets.
-const OFFSET_BYTES: usize = 16;
-
-/// The number of bytes of a frame, but for the topic's name and its size, and of one that asks for a part.
+/// The number of bytes of a frame, but for the topic's name and its size.
 const FIXED_BYTES: u32 = 32;
-
-const PART_FIXED_BYTES: u32 = 48;
 
 /// What stands before the name of a topic that has so many bytes, in a frame that has so many others.
 #[tactic(auto, unfolding(frame_fields::specs::Fields::encoded))]
-fn head_bytes(api: Api, fixed: u32, correlation: i32, name: u16) -> [u8; HEAD_BYTES]
+pub(crate) fn head_bytes(api: Api, fixed: u32, correlation: i32, name: u16) -> [u8; HEAD_BYTES]
     requires few { fixed ≤ 48 }
     ensures { result ≡ be size32 (pos (fixed + name))
         ++ encoded (int16 ⨾ int16 ⨾ int32 ⨾ int16 ⨾ int16 ⨾ end)
@@ -52,7 +48,7 @@ fn head_bytes(api: Api, fixed: u32, correlation: i32, name: u16) -> [u8; HEAD_BY
 
 /// What stands behind the topic's name: its partition and two offsets.
 #[tactic(auto, unfolding(frame_fields::specs::Fields::encoded))]
-fn tail_bytes(partition: i32, first: i64, second: i64) -> [u8; TAIL_BYTES]
+pub(crate) fn tail_bytes(partition: i32, first: i64, second: i64) -> [u8; TAIL_BYTES]
     ensures { result ≡ encoded (int32 ⨾ int64 ⨾ int64 ⨾ end) (partition, (first, (second, tt))) }
 {
     let mut bytes = [0; TAIL_BYTES];
@@ -62,37 +58,8 @@ fn tail_bytes(partition: i32, first: i64, second: i64) -> [u8; TAIL_BYTES]
     bytes
 }
 
-/// Two offsets.
-#[tactic(auto, unfolding(frame_fields::specs::Fields::encoded))]
-fn offset_bytes(first: i64, second: i64) -> [u8; OFFSET_BYTES]
-    ensures { result ≡ encoded (int64 ⨾ int64 ⨾ end) (first, (second, tt)) }
-{
-    let mut bytes = [0; OFFSET_BYTES];
-    BigEndian::write_i64(&mut bytes[0..8], first);
-    BigEndian::write_i64(&mut bytes[8..16], second);
-    bytes
-}
-
-/// What stands behind the topic's name, where a part is asked for.
-#[tactic(auto, unfolding(frame_fields::specs::Fields::encoded))]
-fn part_tail_bytes(
-    partition: i32,
-    from: i64,
-    to: i64,
-    upto: i64,
-    tomb_before: i64,
-) -> [u8; PART_TAIL_BYTES]
-    ensures { result ≡ encoded (int32 ⨾ int64 ⨾ int64 ⨾ int64 ⨾ int64 ⨾ end)
-        (partition, (from, (to, (upto, (tomb_before, tt))))) }
-{
-    let mut bytes = [0; PART_TAIL_BYTES];
-    bytes[..TAIL_BYTES].copy_from_slice(&tail_bytes(partition, from, to));
-    bytes[TAIL_BYTES..].copy_from_slice(&offset_bytes(upto, tomb_before));
-    bytes
-}
-
 /// Appends what stands before a name, the name, and what stands behind it, all or nothing.
-fn append_around<A: Allocator + Copy>(
+pub(crate) fn append_around<A: Allocator + Copy>(
     out: &mut Vec<u8, A>,
     before: &[u8; HEAD_BYTES],
     name: &[u8],
@@ -139,41 +106,5 @@ pub fn put_clean_frame<A: Allocator + Copy>(
 {
     let head = head_bytes(Api::Clean, FIXED_BYTES, correlation, topic.len() as u16);
     let tail = tail_bytes(partition, upto, tomb_before);
-    append_around(out, &head, topic, &tail)
-}
-
-/// Appends the frame that asks for the cleaning of a part of a partition, behind its size: of the batches that lie wholly
-/// between two offsets. It has no client id.
-///
-/// # Errors
-///
-/// `AllocError` where the allocation fails; then the output is as before.
-pub fn put_clean_part_frame<A: Allocator + Copy>(
-    out: &mut Vec<u8, A>,
-    correlation: i32,
-    topic: &[u8],
-    partition: i32,
-    from: i64,
-    to: i64,
-    upto: i64,
-    tomb_before: i64,
-) -> Result<(), AllocError>
-    requires name { length topic.now ≤ MAX_STRING_BYTES }
-    ensures appends { OnOk result (out.new.items ≡ out.old.items
-        ++ framed (clean_part_frame correlation (part_cleaning topic.now partition from to upto tomb_before))) }
-    // The frame is a request, and no other than that.
-    ensures is_request { IsRequest
-        (clean_part_frame correlation (part_cleaning topic.now partition from to upto tomb_before))
-        (record {
-          correlation = correlation;
-          body = clean_part (part_cleaning topic.now partition from to upto tomb_before);
-        }) }
-    ensures within { IsWithinLimit (pos (length
-        (clean_part_frame correlation (part_cleaning topic.now partition from to upto tomb_before)))) }
-    ensures unchanged_on_error { OnErr result (out.new.items ≡ out.old.items) }
-{
-    let name = topic.len() as u16;
-    let head = head_bytes(Api::CleanPart, PART_FIXED_BYTES, correlation, name);
-    let tail = part_tail_bytes(partition, from, to, upto, tomb_before);
     append_around(out, &head, topic, &tail)
 }

@@ -8,10 +8,12 @@
 #![tactic(auto)]
 
 mod asking;
+mod asking_parts;
 mod replies;
 #[cfg(test)]
 mod tests;
 
-pub use asking::{put_clean_frame, put_clean_part_frame};
+pub use asking::put_clean_frame;
+pub use asking_parts::put_clean_part_frame;
 pub use replies::{CLEAN_REPLY_BYTES, read_clean_reply};
 pub use responses::clean::CleanAnswer;

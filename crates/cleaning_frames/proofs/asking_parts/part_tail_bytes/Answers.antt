@@ -2,7 +2,7 @@ use Rattle.std.proofs.Common.{◌∷◌, [], ℕ, List, ◌++◌, ap₂, ◌∙�
 use borrow.Rule.Slice.PartMut.{put_mid}
 use Rattle.frame_fields.specs.Fields.{encoded}
 use Rattle.cleaning_frames.proofs.AskedParts.{front_sent, offsets_sent}
-use Rattle.cleaning_frames.proofs.asking.part_tail_bytes.Goals as goal
+use Rattle.cleaning_frames.proofs.asking_parts.part_tail_bytes.Goals as goal
 
 pub returns : goal.returns
 unfolding encoded

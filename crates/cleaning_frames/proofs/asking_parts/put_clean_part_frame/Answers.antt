@@ -3,7 +3,7 @@ use Rattle.request_frames.specs.declared.api.Api.TheVariants.{CleanPart}
 use Rattle.cleaning_frames.specs.Cleaning.{part_cleaning}
 use Rattle.cleaning_frames.proofs.AskedFrames.{head_sent}
 use Rattle.cleaning_frames.proofs.AskedParts.{placed_if, tail_sent, is_within, is_request}
-use Rattle.cleaning_frames.proofs.asking.put_clean_part_frame.Goals as goal
+use Rattle.cleaning_frames.proofs.asking_parts.put_clean_part_frame.Goals as goal
 
 pub returns-clause-appends : goal.returns-clause-appends
 returns-clause-appends g c =
