@@ -15,7 +15,7 @@ from cases import cleaning_cases, cleaning_kept, cleaning_kills, kept_cases, sta
 from runner import documents, kinds, rows, runs, source_bytes
 
 CASES = "kbroker start: "  # what the name of each case begins with
-MOST_SECONDS = 900  # that a trial may take: the longest take some two minutes
+MOST_SECONDS = 360  # that a trial may take: the longest take some two minutes
 EACH_SECONDS = 300  # how often it is said how far the trials are
 TRIED = []  # the trials that are run side by side, each with its program; the processes that run them are forked with it
 LONG = [*kept_cases.CASES, *cleaning_cases.CASES, *cleaning_kept.CASES, *cleaning_kills.CASES]  # cases that take minutes together
@@ -30,17 +30,23 @@ class Trial:
         self.row = self.crate = None  # the row or the crate of tests that it is of
 
 
+class Late(BaseException):
+    """A trial took longer than one may. It is no Exception, so that no case takes it for an answer."""
+
+
 class Outcome:
     """What came of a trial: its faults, or why it can't be tried on this machine; and how long it took."""
 
     def __init__(self, trial, program):
         began = time.monotonic()
-        self.name, self.program, self.untried = trial.name, os.path.basename(program), None
+        self.name, self.program, self.untried, self.is_late = trial.name, os.path.basename(program), None, False
         try:
             with contextlib.nullcontext() if trial.crate else ended_in_time():
                 self.faults = trial.faults_of(program)
         except started.CannotBeTried as why:
             self.faults, self.untried = [], str(why)
+        except Late:
+            self.faults, self.is_late = [f"it was not over after {MOST_SECONDS} s"], True
         except Exception as why:  # (also of a response that can't be read)
             self.faults = [str(why) if isinstance(why, started.Fault) else f"{type(why).__name__}: {why}"]
         self.seconds = time.monotonic() - began
@@ -55,10 +61,10 @@ class Outcome:
 
 @contextlib.contextmanager
 def ended_in_time():
-    """Has what takes longer than a trial may end with a fault."""
+    """Has what takes longer than a trial may end."""
 
     def end(*_):
-        raise started.Fault(f"it was not over after {MOST_SECONDS} s")
+        raise Late
 
     signal.signal(signal.SIGALRM, end)
     signal.alarm(MOST_SECONDS)
@@ -134,19 +140,23 @@ def stands_company(trial):
 
 def outcomes_of(tried):
     """The outcomes of trials, each with a program. As many as there are processors are run side by side, of those that stand it; then the
-    others, one after the other. Cases go by the clock, so one that fails beside others is run again by itself, and that counts."""
+    others, one after the other. Cases go by the clock, so one that fails beside others, or takes too long, is run again, and that counts."""
     TRIED[:] = [it for it in tried if stands_company(it[0])]
     rows.prepare([trial.row for trial, _ in TRIED if trial.row])
     alone = [it for it in tried if not stands_company(it[0])]
     with pool(processors()) as programs:
         for (trial, program), outcome in zip(TRIED, programs.map(outcome_at, range(len(TRIED)))):
-            if outcome.faults and not trial.row:
+            if outcome.is_late or (outcome.faults and not trial.row):
                 print("to be run again, " + outcome.told(), flush=True)
                 alone.append((trial, program))
             else:
                 yield outcome
     for trial, program in alone:
-        yield Outcome(trial, program)
+        outcome = Outcome(trial, program)
+        if outcome.is_late:
+            print("to be run again, " + outcome.told(), flush=True)
+            outcome = Outcome(trial, program)
+        yield outcome
 
 
 def run_all(outcomes, tells_all):
